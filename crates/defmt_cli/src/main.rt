@@ -1,0 +1,58 @@
+//! The program `defmtl`: it reads a script from the standard input and prints its lines to the standard output.
+#![tactic(auto)]
+
+use defmt_run::{Fault, OpenGate, session};
+use dl_io::{DirShelf, StdSink, StdSource, write_all};
+use std::process::ExitCode;
+use std::rt::Env;
+use std::{env, io};
+
+fn main(rt: HostRuntime) -> ExitCode {
+    let status = match words_of(&rt) {
+        Ok(words) => run(&rt, words.as_slice()),
+        Err(error) if error.kind() == io::ErrorKind::OutOfMemory => {
+            tell(&rt, b"memory");
+            Fault::Memory.status()
+        }
+        // Words that aren't text ask for nothing.
+        Err(_) => run(&rt, &[]),
+    };
+    ExitCode::from(status)
+}
+
+fn words_of(rt: &(impl Env + AllocGlobal)) -> io::Result<Vec<String>> {
+    let mut words = Vec::new(rt.alloc());
+    for word in env::args(rt)? {
+        words.push(word)?;
+    }
+    Ok(words)
+}
+
+// Does what the words ask for, and answers the status.
+fn run(rt: &HostRuntime, words: &[String]) -> u8 {
+    let mut source = StdSource::new(rt.reader());
+    let mut sink = StdSink::new(io::writer(rt));
+    let mut shelf = DirShelf::new(rt);
+    let outcome = session(
+        rt.alloc(),
+        words,
+        &mut source,
+        &mut shelf,
+        &mut sink,
+        &OpenGate,
+    );
+    if outcome.status != 0
+        && let Ok(text) = outcome.say(rt.alloc())
+    {
+        tell(rt, text.as_slice());
+    }
+    outcome.status
+}
+
+// Writes a text and a newline to the standard error. What can't be written there is lost.
+fn tell(rt: &HostRuntime, text: &[u8]) {
+    let mut errors = StdSink::new(rt.stderr());
+    if write_all(&mut errors, text).is_ok() {
+        let _ = write_all(&mut errors, b"\n");
+    }
+}

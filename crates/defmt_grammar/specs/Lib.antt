@@ -1,0 +1,13 @@
+pub mod Fault
+pub mod Kind
+pub mod Cut
+pub mod Hint
+pub mod Param
+pub mod Step
+pub mod Grammar
+pub mod Reading
+pub mod Pieces
+pub mod Slots
+pub mod Positions
+pub mod Whole
+pub mod Print

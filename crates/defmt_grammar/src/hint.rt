@@ -1,0 +1,115 @@
+//! Hints of how to print a parameter.
+
+ghost use Rattle.std.specs.Prelude.{◌≡◌};
+ghost use Rattle.std.specs.Option.{option_map};
+ghost use Rattle.defmt_grammar.specs.Hint.{named_hint, width_of, base_of, radix_of, hint_of, before_base};
+
+use crate::parts::{before, behind, number_of};
+
+/// The base of printed digits. The defmt book, "Display hints".
+#[derive(Clone, Copy, Debug, PartialEq, Eq)]
+pub enum Base {
+    /// `x`: hexadecimal, in lower case.
+    Hex,
+    /// `X`: hexadecimal, in upper case.
+    HexUpper,
+    /// `b`: binary.
+    Binary,
+    /// `o`: octal.
+    Octal,
+}
+
+/// How a parameter is to be printed. The defmt book, "Display hints".
+#[derive(Clone, Copy, Debug, PartialEq, Eq)]
+pub enum Hint {
+    /// None, or an empty text after the colon.
+    Plain,
+    /// `?`: texts and characters in quotes.
+    Debug,
+    /// Digits of this base, with `alt` (`#`) behind `0x`, `0b` or `0o`, and filled with zeros up to
+    /// `width`, from 0 to 255, which counts what stands in front.
+    Radix { base: Base, alt: bool, width: u8 },
+    /// `a`: bytes as a text.
+    Ascii,
+    /// `us`: a number of microseconds.
+    Micros,
+    /// `ms`: a number of milliseconds.
+    Millis,
+}
+
+/// The hint of a text that is a word of its own.
+fn named_hint(text: &str) -> Option<Hint>
+    ensures { result ≡ named_hint text.now }
+{
+    match text {
+        "" => Some(Hint::Plain),
+        "?" => Some(Hint::Debug),
+        "a" => Some(Hint::Ascii),
+        "us" => Some(Hint::Micros),
+        "ms" => Some(Hint::Millis),
+        _ => None,
+    }
+}
+
+/// The width that stands before a radix letter.
+#[tactic(auto, unfolding(crate::specs::Hint::width_of))]
+fn width_of(text: &str) -> Option<u8>
+    ensures { result ≡ width_of text.now }
+{
+    if text.is_empty() {
+        return Some(0);
+    }
+    let digits = behind(text, '0')?;
+    if behind(digits, '0').is_some() || digits.len() > 3 {
+        return None;
+    }
+    let width = number_of(digits)?;
+    if width <= 255 {
+        Some(width as u8)
+    } else {
+        None
+    }
+}
+
+/// What stands before the radix letter, and its base.
+#[tactic(auto, unfolding(crate::specs::Hint::base_of))]
+fn base_of(text: &str) -> Option<(&str, Base)>
+    ensures { before_base result ≡ base_of text.now }
+{
+    if let Some(width) = before(text, 'x') {
+        Some((width, Base::Hex))
+    } else if let Some(width) = before(text, 'X') {
+        Some((width, Base::HexUpper))
+    } else if let Some(width) = before(text, 'b') {
+        Some((width, Base::Binary))
+    } else if let Some(width) = before(text, 'o') {
+        Some((width, Base::Octal))
+    } else {
+        None
+    }
+}
+
+/// The hint of an optional `#`, an optional width and a radix letter.
+#[tactic(auto, unfolding(crate::specs::Hint::radix_of))]
+fn radix_of(text: &str) -> Option<Hint>
+    ensures { result ≡ radix_of text.now }
+{
+    let (alt, rest) = match behind(text, '#') {
+        Some(rest) => (true, rest),
+        None => (false, text),
+    };
+    let (width, base) = base_of(rest)?;
+    let width = width_of(width)?;
+    Some(Hint::Radix { base, alt, width })
+}
+
+/// The hint that a text spells.
+#[tactic(auto, unfolding(crate::specs::Hint::hint_of))]
+pub fn hint_of(text: &str) -> Option<Hint>
+    ensures { result ≡ hint_of text.now }
+{
+    match named_hint(text) {
+        Some(hint) => Some(hint),
+        None => radix_of(text),
+    }
+}

@@ -1,0 +1,29 @@
+//! The grammar of format strings, after defmt.
+#![tactic(auto)]
+
+mod fault;
+mod hint;
+mod kind;
+mod param;
+mod parts;
+mod piece;
+mod pieces;
+mod positions;
+mod printing;
+mod reading;
+mod slot;
+mod step;
+mod text;
+
+pub use fault::{Cause, GrammarFault, Memory, Mode};
+pub use hint::{Base, Hint};
+pub use kind::{IntSize, Kind};
+pub use param::Param;
+pub use piece::Piece;
+pub use pieces::{Pieces, one_answer, parse, slots_are_sound};
+pub use printing::{print, reads_back};
+pub use slot::Slot;
+pub use text::Text;
+
+#[cfg(test)]
+mod tests;

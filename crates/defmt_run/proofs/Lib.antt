@@ -1,0 +1,4 @@
+pub mod LineCuts
+pub mod Places
+pub mod Reading
+pub mod FrameLaws

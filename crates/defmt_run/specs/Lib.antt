@@ -1,0 +1,10 @@
+pub mod Cut
+pub mod Line
+pub mod LineView
+pub mod Script
+pub mod Views
+pub mod Kept
+pub mod Frames
+pub mod EventView
+pub mod Status
+pub mod Session

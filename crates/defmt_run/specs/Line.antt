@@ -1,0 +1,72 @@
+-- What one line of a script says.
+use Rattle.std.specs.Prelude.{◌==◌, ℕ, Bool, ◌&&◌, ◌||◌, nat_le, true, false, List, [], ◌∷◌, length, codes, Option, Some, None, if◌then◌else◌, option_and_then}
+use Rattle.std.specs.List.{list_all, list_any}
+use Rattle.std.specs.Str.{is_utf8}
+use Rattle.defmt_run.specs.Cut.{up_to, from_mark}
+
+-- It is empty or a comment, gives the table an entry with this name and this text, is a statement of the entry with
+-- this name, or has none of these forms.
+pub data Line : Type 0 where
+  blank : Line
+  entry : List ℕ → List ℕ → Line
+  statement : List ℕ → Line
+  other : Line
+
+-- what comes behind a front, where the bytes begin with it
+abbrev pub after_front : List ℕ → List ℕ → Option (List ℕ)
+after_front [] bytes = Some bytes
+after_front (c ∷ front) [] = None
+after_front (c ∷ front) (b ∷ bytes) = if b == c then after_front front bytes else None
+
+-- nothing, or the character `#` and anything
+abbrev pub is_blank : List ℕ → Bool
+is_blank [] = true
+is_blank (b ∷ bytes) = b == 35
+
+-- a text with the space in front of it, which may be missing where the text is empty
+abbrev pub text_after : List ℕ → Option (List ℕ)
+text_after [] = Some []
+text_after (b ∷ bytes) = if b == 32 then Some bytes else None
+
+-- the name and the text of `s NAME defmt_info TEXT`, whose fields are parted by single spaces
+abbrev pub entry_of : List ℕ → Option (List ℕ × List ℕ)
+entry_of line =
+    option_and_then (λ body. option_and_then (λ tail. option_and_then (λ text. Some (up_to 32 body, text)) (text_after tail))
+    (after_front (codes " defmt_info") (from_mark 32 body))) (after_front (codes "s ") line)
+
+abbrev pub is_space : ℕ → Bool
+is_space b = b == 32
+
+-- the name of `w 0 NAME`, behind which spaces may stand
+abbrev pub statement_of : List ℕ → Option (List ℕ)
+statement_of line =
+    option_and_then (λ body. if list_all is_space (from_mark 32 body) then Some (up_to 32 body) else None) (after_front (codes "w 0 ") line)
+
+abbrev pub other_than_entry : Option (List ℕ) → Line
+other_than_entry (Some name) = statement name
+other_than_entry None = other
+
+abbrev pub entry_or : Option (List ℕ × List ℕ) → Option (List ℕ) → Line
+entry_or (Some e) name = entry e.0 e.1
+entry_or None name = other_than_entry name
+
+-- what a line says; one that isn't UTF-8 has no form
+unfoldable pub line_of : List ℕ → Line
+line_of bytes = if is_utf8 bytes then (if is_blank bytes then blank else entry_or (entry_of bytes) (statement_of bytes)) else other
+
+abbrev pub is_letter : ℕ → Bool
+is_letter b = (nat_le 65 b && nat_le b 90) || (nat_le 97 b && nat_le b 122)
+
+abbrev pub is_name_byte : ℕ → Bool
+is_name_byte b = is_letter b || (nat_le 48 b && nat_le b 57) || (b == 95)
+
+-- a letter, and up to 31 letters, digits and `_` behind it, all ASCII
+abbrev pub is_name : List ℕ → Bool
+is_name [] = false
+is_name (b ∷ bytes) = is_letter b && list_all is_name_byte bytes && nat_le (length bytes) 31
+
+abbrev pub is_brace : ℕ → Bool
+is_brace b = (b == 123) || (b == 125)
+
+abbrev pub has_brace : List ℕ → Bool
+has_brace text = list_any is_brace text

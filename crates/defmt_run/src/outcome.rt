@@ -1,0 +1,103 @@
+ghost use Rattle.std.specs.Prelude.{◌≡◌, [], IfOk};
+ghost use Rattle.defmt_run.specs.Status.{status_of, said};
+
+use crate::event::Events;
+use dl_io::{Bytes, Memory};
+use std::alloc::Global;
+
+/// What a session came to.
+#[derive(Clone, Copy, Debug, PartialEq, Eq)]
+pub enum Fault {
+    /// All was done. Status 0.
+    Fine,
+    /// Want of memory. Status 1.
+    Memory,
+    /// The words ask for nothing. Status 2.
+    Words,
+    /// The source failed. Status 3.
+    Source,
+    /// The sink failed. Status 4.
+    Sink,
+    /// A line of the script is refused: its number from 1, the cause, and the inner number of the cause or 0. Status 5.
+    Script { line: u32, cause: u8, inner: u8 },
+    /// The script has more than 4,194,304 bytes. Status 8.
+    Long,
+}
+
+impl Fault {
+    /// The status of a session with this fault.
+    pub fn status(&self) -> u8
+        ensures { result ≡ status_of self.now }
+    {
+        match self {
+            Fault::Fine => 0,
+            Fault::Memory => 1,
+            Fault::Words => 2,
+            Fault::Source => 3,
+            Fault::Sink => 4,
+            Fault::Script { .. } => 5,
+            Fault::Long => 8,
+        }
+    }
+}
+
+impl From<Memory> for Fault {
+    ghost use Rattle.std.specs.Prelude.{◌≡◌};
+    ghost use Rattle.defmt_run.specs.declared.outcome.Fault.TheVariants.{Memory as OutOfMemory};
+
+    ghost from_gives = { λ _ fault. fault ≡ OutOfMemory };
+
+    fn from(_: Memory) -> Self {
+        Fault::Memory
+    }
+}
+
+/// What a session answers.
+#[derive(Drop)]
+pub struct Outcome {
+    /// The status, which the program ends with.
+    pub status: u8,
+    /// What it came to; the status is this fault's.
+    pub fault: Fault,
+    /// The frames of the script's statements, joined. It is empty where nothing was run.
+    pub stream: Bytes,
+    /// What the pieces of the stream tell. It is empty where nothing was run.
+    pub events: Events,
+}
+
+impl Outcome {
+    // The outcome where nothing was run.
+    pub(crate) fn silent(alloc: Global, fault: Fault) -> Self
+        ensures fault { result.fault ≡ fault }
+        ensures status { result.status ≡ status_of fault }
+        ensures stream { result.stream.items ≡ [] }
+        ensures events { result.events ≡ [] }
+    {
+        Outcome {
+            status: fault.status(),
+            fault,
+            stream: Bytes::new(alloc),
+            events: Events::new(alloc),
+        }
+    }
+
+    /// The words that tell the fault, without a newline.
+    pub fn say(&self, alloc: Global) -> Result<Bytes, Memory>
+        ensures { IfOk result (λ text. text.items ≡ said self.now.fault) }
+    {
+        let mut text = Bytes::new(alloc);
+        match self.fault {
+            Fault::Fine => text.extend_from_slice(b"fine")?,
+            Fault::Memory => text.extend_from_slice(b"memory")?,
+            Fault::Words => text.extend_from_slice(b"words")?,
+            Fault::Source => text.extend_from_slice(b"source")?,
+            Fault::Sink => text.extend_from_slice(b"sink")?,
+            Fault::Script { line, cause, inner } => {
+                let words = format!(in alloc; "script line {line} cause {cause} inner {inner}")?;
+                text.extend_from_slice(words.as_bytes())?
+            }
+            Fault::Long => text.extend_from_slice(b"too long")?,
+        }
+        Ok(text)
+    }
+}

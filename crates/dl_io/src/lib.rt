@@ -1,0 +1,26 @@
+//! The outside as traits: a source of bytes, a sink and a shelf of files, each with a count of its
+//! faults, with forms in memory for tests and with adapters over std.
+#![tactic(auto)]
+
+mod adapters;
+mod bytes;
+mod calls;
+mod fault;
+mod mem_shelf;
+mod memory;
+mod shelf;
+mod sink;
+mod source;
+
+pub use adapters::{DirShelf, StdSink, StdSource};
+pub use bytes::Bytes;
+pub use calls::{ReadFault, fetch_all, read_all, write_all};
+pub use fault::{Failed, Memory};
+pub use mem_shelf::MemShelf;
+pub use memory::{MemSink, MemSource, RepeatSource};
+pub use shelf::Shelf;
+pub use sink::Sink;
+pub use source::Source;
+
+#[cfg(test)]
+mod tests;

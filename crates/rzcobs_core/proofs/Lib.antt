@@ -1,0 +1,9 @@
+pub mod Bits
+pub mod Padding
+pub mod OneReading
+pub mod Greedy
+pub mod Backwards
+pub mod Steps
+pub mod Gathering
+pub mod Behind
+pub mod Sizes

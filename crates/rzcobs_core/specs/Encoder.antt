@@ -1,0 +1,20 @@
+-- What callers see of an encoder.
+use Rattle.std.specs.Prelude.{ℕ, List}
+use Rattle.rzcobs_core.specs.Encodes.{Encodes, WritesOn}
+use Rattle.rzcobs_core.specs.declared.encoder.Encoder.{Encoder}
+
+-- the buffer that it writes
+abbrev pub buffer_of : Encoder → List ℕ
+buffer_of encoder = encoder.out.now
+
+-- these bytes were put to it
+abbrev pub Holds : Encoder → List ℕ → Type 0
+Holds encoder message = Encodes encoder.out.now encoder.stored encoder.count encoder.zeros message
+
+-- It writes on, and leaves what lies behind as it was.
+abbrev pub GoesOn : Encoder → Encoder → Type 0
+GoesOn old new = WritesOn old.stored old.out.now new.stored new.out.now
+
+-- It ended with so many bytes of code in its buffer, and leaves what lies behind them as it was.
+abbrev pub EndsWith : Encoder → ℕ → List ℕ → Type 0
+EndsWith encoder count out = WritesOn encoder.stored encoder.out.now count out

@@ -1,0 +1,189 @@
+ghost use Rattle.std.specs.Prelude.{◌≡◌, ◌≢◌, ◌+◌, ◌*◌, ◌-◌, ◌<◌, ◌≤◌, ℕ, List, length, take, drop, All, IfOk, IsErr, MatchOption, MatchBool, slice_index, ◌++◌, ◌∷◌, []};
+ghost use Rattle.rzcobs_core.specs.Blocks.{Blocks, IsNoCode, zero_bits, nonzero};
+ghost use Rattle.rzcobs_core.specs.Reading.{clear_bits, ReadsRun, ReadsLast, EndsInNoBlock};
+
+/// No sequence of blocks is the piece.
+#[derive(Clone, Copy, Debug, PartialEq, Eq)]
+pub struct Malformed;
+
+/// Reads a piece as a code, from its end backwards (rzCOBS, decoding), writes what it stands for
+/// to the front of the buffer, and answers how many bytes that is.
+///
+/// The buffer has at least seven times as many bytes as the piece: 458,752 are enough for each
+/// piece of at most 65,536 bytes. `Malformed` comes exactly where no sequence of blocks is the
+/// piece. The buffer may hold anything then, and anything behind the bytes that were written.
+/// Takes no memory.
+pub fn decode(piece: &[u8], out: &mut [u8]) -> Result<usize, Malformed>
+    requires { 7 * length piece.now ≤ length out.old }
+    ensures found { IfOk result
+        (λ count. (count ≤ length out.new) × Blocks piece.now (take count out.new)) }
+    ensures malformed { IsErr result → IsNoCode piece.now }
+{
+    if has_zero(piece) {
+        return Err(Malformed);
+    }
+    let mut rest = piece;
+    let mut at = out.len();
+    'blocks: while !rest.is_empty() {
+        match read_last(rest, out, at) {
+            None => return Err(Malformed),
+            Some((front, begin)) => {
+                rest = front;
+                at = begin;
+            }
+        }
+    }
+    move_down(out, at);
+    Ok(out.len() - at)
+}
+
+// Whether some byte is zero.
+fn has_zero(bytes: &[u8]) -> bool
+    ensures { MatchBool result
+        ((k : ℕ) × (k < length bytes.now) × (slice_index bytes.now k ≡ 0))
+        (All (λ b. b ≢ 0) bytes.now) }
+{
+    for b in bytes {
+        if *b == 0 {
+            return true;
+        }
+    }
+    false
+}
+
+// Reads the last block, and puts what it stands for in front of the place. None where no block
+// stands at the end.
+fn read_last<'a>(piece: &'a [u8], out: &mut [u8], at: usize) -> Option<(&'a [u8], usize)>
+    requires nonzero { All (λ b. b ≢ 0) piece.now }
+    requires within { at ≤ length out.old }
+    requires room { 7 * length piece.now ≤ at }
+    ensures { MatchOption result (EndsInNoBlock piece.now)
+        (λ r. ReadsLast piece.now out.old at r.0.now out.new r.1) }
+{
+    let (code, before) = piece.split_last()?;
+    let code = *code;
+    if code < 128 {
+        return read_few(before, code, out, at);
+    }
+    if code < 255 {
+        return read_zero_after(before, code, out, at);
+    }
+    read_none_zero(before, out, at)
+}
+
+// Reads a last block of the first form.
+fn read_few<'a>(before: &'a [u8], code: u8, out: &mut [u8], at: usize) -> Option<(&'a [u8], usize)>
+    requires nonzero { All (λ b. b ≢ 0) before.now }
+    requires some { 0 < code }
+    requires small { code < 128 }
+    requires within { at ≤ length out.old }
+    requires room { 7 ≤ at }
+    ensures { MatchOption result (EndsInNoBlock (before.now ++ code ∷ []))
+        (λ r. ReadsLast (before.now ++ code ∷ []) out.old at r.0.now out.new r.1) }
+{
+    let stored = stored_of(code);
+    if before.len() < stored {
+        return None;
+    }
+    let (front, kept) = before.split_at(before.len() - stored);
+    put_seven(code, kept, &mut out[at - 7..at]);
+    Some((front, at - 7))
+}
+
+// Reads a last block of the second form.
+fn read_zero_after<'a>(
+    before: &'a [u8],
+    code: u8,
+    out: &mut [u8],
+    at: usize,
+) -> Option<(&'a [u8], usize)>
+    requires nonzero { All (λ b. b ≢ 0) before.now }
+    requires large { 128 ≤ code }
+    requires small { code < 255 }
+    requires within { at ≤ length out.old }
+    requires room { 7 * length before.now + 7 ≤ at }
+    ensures { MatchOption result (EndsInNoBlock (before.now ++ code ∷ []))
+        (λ r. ReadsLast (before.now ++ code ∷ []) out.old at r.0.now out.new r.1) }
+{
+    let stored = usize::from(code) - 121;
+    if before.len() < stored {
+        return None;
+    }
+    out[at - 1] = 0;
+    Some(read_run(before, stored, out, at - 1))
+}
+
+// Reads a last block of the third form.
+fn read_none_zero<'a>(before: &'a [u8], out: &mut [u8], at: usize) -> Option<(&'a [u8], usize)>
+    requires nonzero { All (λ b. b ≢ 0) before.now }
+    requires within { at ≤ length out.old }
+    requires room { 7 * length before.now + 7 ≤ at }
+    ensures { MatchOption result (EndsInNoBlock (before.now ++ 255 ∷ []))
+        (λ r. ReadsLast (before.now ++ 255 ∷ []) out.old at r.0.now out.new r.1) }
+{
+    if before.len() < 134 {
+        return None;
+    }
+    Some(read_run(before, 134, out, at))
+}
+
+// Puts the last bytes in front of the place.
+fn read_run<'a>(before: &'a [u8], stored: usize, out: &mut [u8], at: usize) -> (&'a [u8], usize)
+    requires stored { stored ≤ length before.now }
+    requires within { at ≤ length out.old }
+    requires room { stored ≤ at }
+    ensures { ReadsRun before.now stored out.old at result.0.now out.new result.1 }
+{
+    let (front, kept) = before.split_at(before.len() - stored);
+    out[at - stored..at].copy_from_slice(kept);
+    (front, at - stored)
+}
+
+// How many bytes a block of the first form stores: one for each clear bit.
+#[tactic(auto, unfolding(crate::specs::Reading::clear_bits))]
+fn stored_of(code: u8) -> usize
+    ensures count { result ≡ clear_bits 7 code }
+    ensures small { result ≤ 7 }
+{
+    let mut bits = code;
+    let mut clear = 0usize;
+    for i in 0..7usize {
+        if bits % 2 == 0 {
+            clear += 1;
+        }
+        bits /= 2;
+    }
+    clear
+}
+
+// Puts seven bytes: a zero for each set bit, and the stored bytes in their order.
+fn put_seven(code: u8, stored: &[u8], seven: &mut [u8])
+    requires small { code < 128 }
+    requires count { length stored.now ≡ clear_bits 7 code }
+    requires seven { length seven.old ≡ 7 }
+    requires nonzero { All (λ b. b ≢ 0) stored.now }
+    ensures bits { zero_bits seven.new ≡ code }
+    ensures stored { nonzero seven.new ≡ stored.now }
+{
+    let mut bits = code;
+    let mut taken = 0usize;
+    for i in 0..7usize {
+        if bits % 2 == 1 {
+            seven[i] = 0;
+        } else {
+            seven[i] = stored[taken];
+            taken += 1;
+        }
+        bits /= 2;
+    }
+}
+
+// Moves what stands from the place `at` on to the front.
+fn move_down(out: &mut [u8], at: usize)
+    requires { at ≤ length out.old }
+    ensures { take (length out.old - at) out.new ≡ drop at out.old }
+{
+    for i in 0..out.len() - at {
+        out[i] = out[at + i];
+    }
+}

@@ -1,0 +1,167 @@
+ghost use Rattle.std.specs.Prelude.{◌≡◌, ◌≢◌, ◌+◌, ◌<◌, ◌≤◌, [], ◌∷◌, ◌++◌, ℕ, List, length, take};
+ghost use Rattle.rzcobs_core.specs.Canon.{canon, bound_of};
+ghost use Rattle.rzcobs_core.specs.Encodes.{Gathers};
+
+/// The most bytes that the code of `n` bytes has: `n` and a seventh of it, rounded up.
+///
+/// `n` is at most 1,000,000.
+pub fn bound(n: usize) -> usize
+    requires { n ≤ 1000000 }
+    ensures { result ≡ bound_of n }
+{
+    n + n.div_ceil(7)
+}
+
+/// Writes the code of the bytes that are put to it, one after another (rzCOBS, its greedy encoder).
+///
+/// It gathers bytes. Seven of which one is zero are closed as a block of the first form. Seven
+/// without a zero go on until a zero comes, which closes the second form, or until they are 134,
+/// the third form. No call takes memory.
+pub struct Encoder<'a> {
+    out: &'a mut [u8],
+    stored: usize,
+    count: u8,
+    zeros: u8,
+}
+
+impl<'a> Encoder<'a> {
+    ghost use Rattle.rzcobs_core.specs.Encoder.{Holds, GoesOn, EndsWith, buffer_of};
+
+    /// An encoder to which nothing was put. It will write to the front of the buffer.
+    pub fn new(out: &'a mut [u8]) -> Self
+        ensures same_buffer { result.out.ghost_name ≡ out.entry.ghost_name }
+        ensures nothing { Holds result [] }
+        ensures same { buffer_of result ≡ out.old }
+    {
+        Encoder {
+            out,
+            stored: 0,
+            count: 0,
+            zeros: 0,
+        }
+    }
+
+    /// Puts one byte more.
+    ///
+    /// The buffer has at least as many bytes as `bound` gives for the bytes that were put with
+    /// this one.
+    #[inline]
+    pub fn put(&mut self, byte: u8)
+        requires { (message : List ℕ) × Holds self.old message
+            × (bound_of (length message + 1) ≤ length (buffer_of self.old)) }
+        ensures same_buffer { self.new.out.ghost_name ≡ self.old.out.ghost_name }
+        ensures one_more { (message : List ℕ) → Holds self.old message
+            → Holds self.new (message ++ byte ∷ []) }
+        ensures length { length (buffer_of self.new) ≡ length (buffer_of self.old) }
+        ensures behind { GoesOn self.old self.new }
+    {
+        if byte == 0 && self.count >= 7 {
+            self.close_zero(byte);
+        } else {
+            self.gather(byte);
+            self.close();
+        }
+    }
+
+    // Closes a block of the second form.
+    #[inline]
+    fn close_zero(&mut self, byte: u8)
+        requires zero { byte ≡ 0 }
+        requires long { 7 ≤ self.old.count }
+        requires encodes { (message : List ℕ) × Holds self.old message }
+        requires room { self.old.stored < length self.old.out.now }
+        ensures same_buffer { self.new.out.ghost_name ≡ self.old.out.ghost_name }
+        ensures one_more { (message : List ℕ) → Holds self.old message
+            → Holds self.new (message ++ byte ∷ []) }
+        ensures length { length self.new.out.now ≡ length self.old.out.now }
+        ensures behind { GoesOn self.old self.new }
+    {
+        self.out[self.stored] = self.count + 121;
+        self.stored += 1;
+        self.count = 0;
+        self.zeros = 0;
+    }
+
+    // Adds a byte to those that are gathered.
+    #[inline]
+    fn gather(&mut self, byte: u8)
+        requires short { byte ≡ 0 → self.old.count ≤ 6 }
+        requires encodes { (message : List ℕ) × Holds self.old message }
+        requires room { self.old.stored < length self.old.out.now }
+        ensures same_buffer { self.new.out.ghost_name ≡ self.old.out.ghost_name }
+        ensures one_more { (message : List ℕ) → Holds self.old message
+            → Gathers self.new.out.now self.new.stored self.new.count self.new.zeros
+            (message ++ byte ∷ []) }
+        ensures length { length self.new.out.now ≡ length self.old.out.now }
+        ensures stored { self.new.stored ≤ self.old.stored + 1 }
+        ensures behind { GoesOn self.old self.new }
+    {
+        if byte == 0 {
+            self.zeros += 1 << self.count;
+        } else {
+            self.out[self.stored] = byte;
+            self.stored += 1;
+        }
+        self.count += 1;
+    }
+
+    // Closes a block of the first or the third form, where the gathered bytes are one.
+    #[inline]
+    fn close(&mut self)
+        requires gathers { (message : List ℕ)
+            × Gathers self.old.out.now self.old.stored self.old.count self.old.zeros message }
+        requires room { self.old.stored < length self.old.out.now }
+        ensures same_buffer { self.new.out.ghost_name ≡ self.old.out.ghost_name }
+        ensures same { (message : List ℕ)
+            → Gathers self.old.out.now self.old.stored self.old.count self.old.zeros message
+            → Holds self.new message }
+        ensures length { length self.new.out.now ≡ length self.old.out.now }
+        ensures behind { GoesOn self.old self.new }
+    {
+        if self.count == 7 && self.zeros != 0 {
+            self.out[self.stored] = self.zeros;
+            self.stored += 1;
+            self.count = 0;
+            self.zeros = 0;
+            return;
+        }
+        if self.count == 134 {
+            self.out[self.stored] = 255;
+            self.stored += 1;
+            self.count = 0;
+            self.zeros = 0;
+        }
+    }
+
+    /// Closes what is still gathered, and answers how many bytes the code has, which stands at
+    /// the buffer's front.
+    ///
+    /// With 1 to 6 bytes gathered the missing ones count as zeros, and with 7 to 133 one zero is
+    /// added. What lies behind the code is left as it was.
+    pub fn end(self) -> usize
+        requires { (message : List ℕ) × Holds self message
+            × (bound_of (length message) ≤ length (buffer_of self)) }
+        ensures code { (message : List ℕ) → Holds self.entry message
+            → take result self.exit.0.now ≡ canon message }
+        ensures within { result ≤ length self.exit.0.now }
+        ensures bound { (message : List ℕ) → Holds self.entry message
+            → result ≤ bound_of (length message) }
+        ensures behind { EndsWith self.entry result self.exit.0.now }
+    {
+        let Encoder {
+            out,
+            stored,
+            count,
+            zeros,
+        } = self;
+        if count == 0 {
+            return stored;
+        }
+        if count < 7 {
+            out[stored] = zeros + (128 - (1 << count));
+            return stored + 1;
+        }
+        out[stored] = count + 121;
+        stored + 1
+    }
+}

@@ -1,0 +1,24 @@
+//! The codes of rzCOBS. The code of a message has no zero, so that zeros can stand between codes,
+//! and it can be read in one way.
+//!
+//! A code is a sequence of blocks, each of which ends with its code byte (rzCOBS, the table of
+//! code bytes):
+//!
+//! | Code byte | Stored bytes before it | Stands for |
+//! |---|---|---|
+//! | `01` to `7f` | one for each clear bit of its lowest seven | seven bytes, the byte `i` zero where the bit `i` is set |
+//! | `80` to `fe` | 7 to 133, as many as its lowest seven bits and 7 | these, then one zero |
+//! | `ff` | 134 | these |
+#![tactic(auto)]
+
+mod decoder;
+mod encoder;
+mod laws;
+#[cfg(test)]
+mod tests;
+mod whole;
+
+pub use decoder::{Malformed, decode};
+pub use encoder::{Encoder, bound};
+pub use laws::{canonical_reading, canonical_size, no_zero_in_code, one_reading, reading_size};
+pub use whole::encode;
