@@ -44,7 +44,7 @@ fn run(rt: &HostRuntime, words: &[String]) -> u8 {
     if outcome.status != 0
         && let Ok(text) = outcome.say(rt.alloc())
     {
-        tell(rt, text.as_slice());
+        tell(rt, text.as_str().as_bytes());
     }
     outcome.status
 }

@@ -1,4 +1,4 @@
-//! Worked rows: texts with what they stand for, refusals with their places, spellings and slots.
+//! Worked examples: texts with what they stand for, refusals with their places, spellings and slots.
 
 use super::*;
 use std::alloc::Global;

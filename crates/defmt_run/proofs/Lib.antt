@@ -1,4 +1,5 @@
 pub mod LineCuts
 pub mod Places
 pub mod Reading
+pub mod Deciding
 pub mod FrameLaws

@@ -12,10 +12,9 @@ use Rattle.std.proofs.lemmas.List.Elements.{All-append}
 use Rattle.std.proofs.lemmas.Map.Text.{btree_map_updates_str}
 use Rattle.std.proofs.lemmas.Bool.{and_parts, cases_Bool, cond-true, cond-false, ltb-true}
 use denote.Ref.{Bor}
-use Rattle.defmt_run.specs.Line.{entry}
-use Rattle.defmt_run.specs.Script.{Script, fits, place_from, place_of}
+use Rattle.defmt_run.specs.Script.{Script, is_next, place_from, place_of}
 use Rattle.defmt_run.specs.Views.{entry_view}
-use Rattle.defmt_run.specs.declared.line.Entry.{Entry}
+use Rattle.defmt_run.specs.declared.script.Entry.{Entry}
 use Rattle.defmt_run.specs.Kept.{IsKept}
 
 abbrev Entries : Type 0
@@ -112,9 +111,9 @@ is_none-true : (o : Option ℕ) → is_none o ≡ true → o ≡ None
 is_none-true None is = refl
 is_none-true (Some place) is = absurd (cc is)
 
--- an entry that fits has a new name, and there is room for it
-pub new_entry : (before : Script) (name text : List ℕ) → fits before (entry name text) ≡ true → (place_of before.entries name ≡ None) × (length before.entries < 65534)
-new_entry before name text is =
+-- an entry that may come next has a new name, and there is room for it
+pub new_entry : (before : Script) (name : List ℕ) → is_next before name ≡ true → (place_of before.entries name ≡ None) × (length before.entries < 65534)
+new_entry before name is =
     let last = and_parts _ _ is in
     (is_none-true (place_of before.entries name) last.1, ltb-true (length before.entries) 65534 (and_parts _ _ last.0).1)
 

@@ -1,106 +1,111 @@
 -- A script that is read line by line.
-use Rattle.std.proofs.Common.{◌≡◌, ℕ, ◌+◌, ◌++◌, List, [], ◌∷◌, Some, Ok, Err, true, false, refl, sym, ◌∙◌, ap, arith, append_assoc, length, map, length-append}
-use Rattle.std.specs.Prelude.{Option, Result, ◌==◌}
-use Rattle.std.specs.Option.{option_map_or}
+use Rattle.std.proofs.Common.{◌≡◌, ◌≤◌, ◌+◌, inl, inr, ℕ, List, [], ◌∷◌, Ok, Err, true, false, refl, sym, ◌∙◌, ap, subst, arith, length}
+use Rattle.std.specs.Prelude.{Result, ◌==◌}
+use Rattle.std.specs.List.{list_any}
 use Rattle.std.specs.Str.Lines.{lines}
-use Rattle.std.proofs.lemmas.List.{append-nil, map-append}
-use Rattle.std.proofs.lemmas.Bool.{cond-true, cond-false, and_parts}
 use Rattle.std.proofs.lemmas.Bool.Decides.{nat_tests}
+use Rattle.defmt_grammar.specs.Grammar.{Spells, HasFault, SameFault}
+use Rattle.defmt_grammar.specs.Fault.{cause_number}
+use Rattle.defmt_grammar.specs.declared.fault.Cause.{Cause}
+use Rattle.defmt_grammar.specs.declared.fault.Mode.{Mode}
+use Rattle.defmt_grammar.specs.declared.fault.Mode.TheVariants.{Strict}
+use Rattle.defmt_grammar.specs.declared.piece.Piece.{Piece}
 use Rattle.defmt_run.specs.Line.{Line, blank, entry, statement, other, line_of}
-use Rattle.defmt_run.specs.Script.{Script, entries_of, names_of, known_place, given_by, fits, first_unfit, lines_of, script_of, extended}
+use Rattle.defmt_run.specs.Literal.{Prints, TextIsRefused, is_param, literal_text, text_limit}
+use Rattle.defmt_run.specs.Script.{Script, ReadsLines, Reads, Refuses, Takes, no_lines, with_entry}
+use Rattle.defmt_run.specs.declared.refusal.Refusal.{Refusal}
+use Rattle.defmt_run.specs.declared.refusal.Refusal.TheVariants.{Unread, Long, Text}
 
-entries_of-append : (xs ys : List Line) → entries_of (xs ++ ys) ≡ entries_of xs ++ entries_of ys
-entries_of-append [] ys = refl
-entries_of-append (blank ∷ xs) ys = entries_of-append xs ys
-entries_of-append (entry name text ∷ xs) ys = ap (λ (es : List (List ℕ × List ℕ)). (name, text) ∷ es) (entries_of-append xs ys)
-entries_of-append (statement name ∷ xs) ys = entries_of-append xs ys
-entries_of-append (other ∷ xs) ys = entries_of-append xs ys
+abbrev Answer : Type 0
+Answer = Result Script (ℕ × Refusal)
 
-names_of-append : (xs ys : List Line) → names_of (xs ++ ys) ≡ names_of xs ++ names_of ys
-names_of-append [] ys = refl
-names_of-append (blank ∷ xs) ys = names_of-append xs ys
-names_of-append (entry name text ∷ xs) ys = names_of-append xs ys
-names_of-append (statement name ∷ xs) ys = ap (λ (ns : List (List ℕ)). name ∷ ns) (names_of-append xs ys)
-names_of-append (other ∷ xs) ys = names_of-append xs ys
-
-abbrev made_of : List (List ℕ × List ℕ) → List (List ℕ) → Script
-made_of es ns = record { entries = es; statements = map (known_place es) ns }
-
-made_same : (es fs : List (List ℕ × List ℕ)) (ns ms : List (List ℕ)) → es ≡ fs → ns ≡ ms → made_of es ns ≡ made_of fs ms
-made_same es fs ns ms e n = ap (λ (x : List (List ℕ × List ℕ)). made_of x ns) e ∙ ap (λ (x : List (List ℕ)). made_of fs x) n
-
-given_more : (before : List Line) (line : Line) → given_by (before ++ line ∷ []) ≡ made_of (entries_of before ++ entries_of (line ∷ [])) (names_of before ++ names_of (line ∷ []))
-given_more before line = made_same _ _ _ _ (entries_of-append before (line ∷ [])) (names_of-append before (line ∷ []))
-
-none_mapped : (es : List (List ℕ × List ℕ)) (ns : List (List ℕ)) → (length (map (known_place es) ns) == 0) ≡ true → ns ≡ []
-none_mapped es [] is = refl
-none_mapped es (n ∷ ns) is = absurd (grind (arith, nat_tests))
-
-no_statement : (script : Script) (name text : List ℕ) → fits script (entry name text) ≡ true → (length script.statements == 0) ≡ true
-no_statement script name text is = (and_parts _ _ (and_parts _ _ (and_parts _ _ is).0).0).1
-
--- one line more
-pub given_extended : (before : List Line) (line : Line) → fits (given_by before) line ≡ true → given_by (before ++ line ∷ []) ≡ extended (given_by before) line
-given_extended before blank is = given_more before blank ∙ made_same _ _ _ _ (append-nil (entries_of before)) (append-nil (names_of before))
-given_extended before other is = absurd (cc is)
-given_extended before (entry name text) is =
-    let none : names_of before ≡ [] = none_mapped (entries_of before) (names_of before) (no_statement (given_by before) name text is) in
-    let es : List (List ℕ × List ℕ) = entries_of before ++ (name, text) ∷ [] in
-    given_more before (entry name text) ∙ made_same es es _ _ refl (append-nil (names_of before) ∙ none)
-    ∙ ap (λ (ns : List (List ℕ)). let script : Script = record { entries = es; statements = map (known_place (entries_of before)) ns } in script) (sym none)
-given_extended before (statement name) is =
-    given_more before (statement name) ∙ made_same _ _ _ _ (append-nil (entries_of before)) refl
-    ∙ ap (λ (places : List ℕ). let script : Script = record { entries = entries_of before; statements = places } in script) (map-append (known_place (entries_of before)) (names_of before) (name ∷ []))
-
-fit_more : (before : List Line) (line : Line) (more : List Line) → fits (given_by before) line ≡ true → first_unfit before (line ∷ more) ≡ first_unfit (before ++ line ∷ []) more
-fit_more before line more is = cond-true (fits (given_by before) line) _ _ is
-
-unfit : (before : List Line) (line : Line) (more : List Line) → fits (given_by before) line ≡ false → first_unfit before (line ∷ more) ≡ Some (length before + 1)
-unfit before line more is = cond-false (fits (given_by before) line) _ _ is
-
--- This much of a text was read, and this is the number of the next line.
+-- what the rest of a text is read as is what the text is read as
 pub record IsReading (script : Script) (number : ℕ) (rest text : List ℕ) : Type 0 where
-  pub before : List Line
-  pub whole : before ++ lines_of rest ≡ lines_of text
-  pub script_is : script ≡ given_by before
-  pub number_is : number ≡ length before + 1
-  pub fit : first_unfit before (lines_of rest) ≡ first_unfit [] (lines_of text)
+  pub then : (read : Answer) → ReadsLines script number (lines rest) read → Reads text read
 
-pub begins : (text : List ℕ) → IsReading (record { entries = []; statements = [] }) 1 text text
-begins text = record { before = []; whole = refl; script_is = refl; number_is = refl; fit = refl }
+pub begins : (script : Script) (text : List ℕ) → script ≡ no_lines → IsReading script 1 text text
+begins script text is = record { then = λ read reads. subst (λ (s : Script). ReadsLines s 1 (lines text) read) is reads }
 
-module _ (script : Script) (number : ℕ) (rest text bytes after : List ℕ) (reading : IsReading script number rest text) (next : lines rest ≡ bytes ∷ lines after) where
-  line : Line
-  line = line_of bytes
+pub goes_on : (script : Script) (number : ℕ) (rest text bytes after : List ℕ) → IsReading script number rest text → lines rest ≡ bytes ∷ lines after
+    → (more : Script) → Takes script (line_of bytes) more → IsReading more (number + 1) after text
+goes_on script number rest text bytes after reading next more takes = record {
+  then = λ read reads. reading.then read (subst (λ (ls : List (List ℕ)). ReadsLines script number ls read) (sym next) (inl (more, takes, reads)));
+}
 
-  next_is : lines_of rest ≡ line_of bytes ∷ lines_of after
-  next_is = ap (map line_of) next
-
-  pub goes_on : (extends : Script) → fits script (line_of bytes) ≡ true → extends ≡ extended script (line_of bytes) → IsReading extends (number + 1) after text
-  goes_on extends fit is =
-      let fit_before : fits (given_by reading.before) (line_of bytes) ≡ true = sym (ap (λ (s : Script). fits s (line_of bytes)) reading.script_is) ∙ fit in
-      record {
-        before = reading.before ++ line_of bytes ∷ [];
-        whole = append_assoc reading.before (line_of bytes ∷ []) (lines_of after) ∙ ap (λ (l : List Line). reading.before ++ l) (sym next_is) ∙ reading.whole;
-        script_is = is ∙ ap (λ (s : Script). extended s (line_of bytes)) reading.script_is ∙ sym (given_extended reading.before (line_of bytes) fit_before);
-        number_is = omega (arith, length-append {A = Line}, reading.number_is);
-        fit = sym (fit_more reading.before (line_of bytes) (lines_of after) fit_before) ∙ ap (first_unfit reading.before) (sym next_is) ∙ reading.fit;
-      }
-
-  pub refuses : fits script (line_of bytes) ≡ false → script_of text ≡ Err number
-  unfolding script_of
-  refuses not =
-      let unfit_before : fits (given_by reading.before) (line_of bytes) ≡ false = sym (ap (λ (s : Script). fits s (line_of bytes)) reading.script_is) ∙ not in
-      let first : first_unfit [] (lines_of text) ≡ Some (length reading.before + 1) =
-      sym reading.fit ∙ ap (first_unfit reading.before) next_is ∙ unfit reading.before (line_of bytes) (lines_of after) unfit_before in
-      ap (λ (o : Option ℕ). option_map_or (λ (line : ℕ). let refused : Result Script ℕ = Err line in refused) o (Ok (given_by (lines_of text)))) first
-      ∙ ap (λ (n : ℕ). let refused : Result Script ℕ = Err n in refused) (sym reading.number_is)
+pub refuses : (script : Script) (number : ℕ) (rest text bytes after : List ℕ) → IsReading script number rest text → lines rest ≡ bytes ∷ lines after
+    → (why : Refusal) → Refuses script (line_of bytes) why → Reads text (Err (number, why))
+refuses script number rest text bytes after reading next why wrong =
+    let read : Answer = Err (number, why) in
+    reading.then read (subst (λ (ls : List (List ℕ)). ReadsLines script number ls read) (sym next) (inr (why, wrong, refl)))
 
 -- no bytes are no lines
-pub ends : (script : Script) (number : ℕ) (rest text : List ℕ) → IsReading script number rest text → (length rest == 0) ≡ true → script_of text ≡ Ok script
-unfolding script_of
-ends script number [] text reading is =
-    let all : reading.before ≡ lines_of text = sym (append-nil reading.before) ∙ reading.whole in
-    ap (λ (o : Option ℕ). option_map_or (λ (line : ℕ). let refused : Result Script ℕ = Err line in refused) o (Ok (given_by (lines_of text)))) (sym reading.fit)
-    ∙ ap (λ (s : Script). let read : Result Script ℕ = Ok s in read) (ap given_by (sym all) ∙ sym reading.script_is)
+pub ends : (script : Script) (number : ℕ) (rest text : List ℕ) → IsReading script number rest text → (length rest == 0) ≡ true → Reads text (Ok script)
+ends script number [] text reading is = reading.then (Ok script) refl
 ends script number (b ∷ rest) text reading is = absurd (grind (arith, nat_tests))
+
+-- ---- one answer
+
+-- a text spells at most one list of pieces, or has one fault and spells nothing
+pub record OneAnswer : Type 0 where
+  pub one : (text : List ℕ) (mode : Mode) (ps qs : List Piece) → Spells text mode ps → Spells text mode qs → ps ≡ qs
+  pub never_both : (text : List ℕ) (mode : Mode) (ps : List Piece) (cause : Cause) (at : ℕ) → Spells text mode ps → HasFault text mode cause at → ⊥
+  pub first : (text : List ℕ) (mode : Mode) (c d : Cause) (a b : ℕ) → HasFault text mode c a → HasFault text mode d b → SameFault c d a b
+
+module _ (law : OneAnswer) where
+  same_print : (text out again : List ℕ) → Prints text out → Prints text again → out ≡ again
+  same_print text out again p q = p.3 ∙ ap literal_text (law.one text Strict p.0 q.0 p.1 q.1) ∙ sym q.3
+
+  prints_or_fails : (text out : List ℕ) (why : Refusal) → length text ≤ text_limit → Prints text out → TextIsRefused text why → ⊥
+  prints_or_fails text out Unread short p r =
+      let same : list_any is_param p.0 ≡ list_any is_param r.1 = ap (list_any is_param) (law.one text Strict p.0 r.1 p.1 r.2) in
+      let clash : true ≡ false = sym r.3 ∙ sym same ∙ p.2 in absurd (cc clash)
+  prints_or_fails text out Long short p r = absurd (omega (arith, short, r))
+  prints_or_fails text out (Text number) short p r = law.never_both text Strict p.0 r.2.0 r.1 p.1 r.2.1
+
+  same_refusal : (text : List ℕ) (why again : Refusal) → TextIsRefused text why → TextIsRefused text again → why ≡ again
+  same_refusal text Unread Unread p q = refl
+  same_refusal text Long Long p q = refl
+  same_refusal text (Text m) (Text n) p q =
+      ap Text (p.2.2 ∙ ap cause_number (law.first text Strict p.2.0 q.2.0 p.1 q.1 p.2.1 q.2.1).cause ∙ sym q.2.2)
+  same_refusal text Long Unread p q = absurd (omega (arith, p, q.0))
+  same_refusal text Long (Text n) p q = absurd (omega (arith, p, q.0))
+  same_refusal text Unread Long p q = absurd (omega (arith, q, p.0))
+  same_refusal text (Text n) Long p q = absurd (omega (arith, q, p.0))
+  same_refusal text Unread (Text n) p q = absurd (law.never_both text Strict p.1 q.2.0 q.1 p.2 q.2.1)
+  same_refusal text (Text n) Unread p q = absurd (law.never_both text Strict q.1 p.2.0 p.1 q.2 p.2.1)
+
+  same_script : (before : Script) (line : Line) (after again : Script) → Takes before line after → Takes before line again → after ≡ again
+  same_script before blank after again p q = p ∙ sym q
+  same_script before (entry name text) after again p q =
+      p.4 ∙ ap (λ (out : List ℕ). with_entry before name out) (same_print text p.2 q.2 p.3 q.3) ∙ sym q.4
+  same_script before (statement name) after again p q = p.1 ∙ sym q.1
+  same_script before other after again p q = absurd p
+
+  never_both : (before : Script) (line : Line) (after : Script) (why : Refusal) → Takes before line after → Refuses before line why → ⊥
+  never_both before blank after why p r = r
+  never_both before (entry name text) after why p (inl r) = let clash : true ≡ false = sym p.0 ∙ r.0 in absurd (cc clash)
+  never_both before (entry name text) after why p (inr r) = prints_or_fails text p.2 why p.1 p.3 r.1
+  never_both before (statement name) after why p r = let clash : true ≡ false = sym p.0 ∙ r.0 in absurd (cc clash)
+  never_both before other after why p r = p
+
+  same_why : (before : Script) (line : Line) (why more : Refusal) → Refuses before line why → Refuses before line more → why ≡ more
+  same_why before blank why more p q = absurd p
+  same_why before (entry name text) why more (inl p) (inl q) = p.1 ∙ sym q.1
+  same_why before (entry name text) why more (inl p) (inr q) = let clash : true ≡ false = sym q.0 ∙ p.0 in absurd (cc clash)
+  same_why before (entry name text) why more (inr p) (inl q) = let clash : true ≡ false = sym p.0 ∙ q.0 in absurd (cc clash)
+  same_why before (entry name text) why more (inr p) (inr q) = same_refusal text why more p.1 q.1
+  same_why before (statement name) why more p q = p.1 ∙ sym q.1
+  same_why before other why more p q = p ∙ sym q
+
+  one_of_lines : (ls : List (List ℕ)) (before : Script) (number : ℕ) (read more : Answer) → ReadsLines before number ls read → ReadsLines before number ls more → read ≡ more
+  one_of_lines [] before number read more p q = p ∙ sym q
+  one_of_lines (bytes ∷ ls) before number read more (inl p) (inl q) =
+      let same : q.0 ≡ p.0 = same_script before (line_of bytes) q.0 p.0 q.1 p.1 in
+      one_of_lines ls p.0 (number + 1) read more p.2 (subst (λ (s : Script). ReadsLines s (number + 1) ls more) same q.2)
+  one_of_lines (bytes ∷ ls) before number read more (inl p) (inr q) = absurd (never_both before (line_of bytes) p.0 q.0 p.1 q.1)
+  one_of_lines (bytes ∷ ls) before number read more (inr p) (inl q) = absurd (never_both before (line_of bytes) q.0 p.0 q.1 p.1)
+  one_of_lines (bytes ∷ ls) before number read more (inr p) (inr q) =
+      p.2 ∙ ap (λ (why : Refusal). let r : Answer = Err (number, why) in r) (same_why before (line_of bytes) p.0 q.0 p.1 q.1) ∙ sym q.2
+
+  pub one_reading : (text : List ℕ) (read more : Answer) → Reads text read → Reads text more → read ≡ more
+  one_reading text read more p q = one_of_lines (lines text) _ 1 read more p q

@@ -1,6 +1,8 @@
 pub mod Cut
 pub mod Line
 pub mod LineView
+pub mod Refusal
+pub mod Literal
 pub mod Script
 pub mod Views
 pub mod Kept

@@ -1,9 +1,11 @@
 -- What a session does, by the fault that it answers.
-use Rattle.std.specs.Prelude.{◌≡◌, ◌⊎◌, ◌+◌, ◌≤◌, ℕ, List, [], ◌∷◌, length, take, codes, nat_lt, Option, Some, None, Result, Ok, Err, if◌then◌else◌}
+use Rattle.std.specs.Prelude.{◌≡◌, ◌⊎◌, ◌+◌, ◌<◌, ◌≤◌, ℕ, List, [], ◌∷◌, length, take, codes, nat_lt, Option, Some, None, Result, Ok, Err, if◌then◌else◌}
 use Rattle.std.specs.Str.{bytes_eq}
 use Rattle.std.specs.Io.KnownBytes.{Appends, Consumes, Keeps, IsAtEnd}
 use Rattle.dl_io.specs.Outside.{Rose, Took}
-use Rattle.defmt_run.specs.Script.{script_of, Script as Read}
+use Rattle.defmt_run.specs.Script.{Reads, Script as Read}
+use Rattle.defmt_run.specs.Refusal.{cause_of, inner_of}
+use Rattle.defmt_run.specs.declared.refusal.Refusal.{Refusal}
 use Rattle.defmt_run.specs.Frames.{Event, stream_of, events_of, printed}
 use Rattle.defmt_run.specs.declared.job.Job.{Job}
 use Rattle.defmt_run.specs.declared.job.Job.TheVariants.{Run}
@@ -44,7 +46,7 @@ pub record Ran (input : Input) (stream : List ℕ) (events : List Event) : Type 
   pub text : List ℕ
   pub script : Read
   pub whole : GaveWhole input text
-  pub reads : script_of text ≡ Ok script
+  pub reads : Reads text (Ok script)
   pub stream_is : stream ≡ stream_of script
   pub events_are : events ≡ events_of script
 
@@ -52,9 +54,10 @@ pub record Ran (input : Input) (stream : List ℕ) (events : List Event) : Type 
 pub record Refused (input : Input) (line cause inner : ℕ) : Type 0 where
   pub text : List ℕ
   pub whole : GaveWhole input text
-  pub refused : script_of text ≡ Err line
-  pub cause_is : cause ≡ 14
-  pub inner_is : inner ≡ 0
+  pub why : Refusal
+  pub refused : Reads text (Err (line, why))
+  pub cause_is : cause ≡ cause_of why
+  pub inner_is : inner ≡ inner_of why
 
 -- the source wasn't touched
 pub record IsUnread (input : Input) : Type 0 where
@@ -118,7 +121,7 @@ Answers input output Long stream events = Withholds input Long × IsSilent outpu
 -- what is made of a text
 pub record Makes (text stream lines : List ℕ) (events : List Event) : Type 0 where
   pub script : Read
-  pub reads : script_of text ≡ Ok script
+  pub reads : Reads text (Ok script)
   pub stream_is : stream ≡ stream_of script
   pub events_are : events ≡ events_of script
   pub lines_are : lines ≡ printed events
@@ -126,27 +129,47 @@ pub record Makes (text stream lines : List ℕ) (events : List Event) : Type 0 w
 -- why nothing is made of a text that was read
 abbrev pub Stops : List ℕ → Fault → Type 0
 Stops text Memory = Unit {0}
-Stops text (Script line cause inner) = (script_of text ≡ Err line) × (cause ≡ 14) × (inner ≡ 0)
+Stops text (Script line cause inner) = (why : Refusal) × Reads text (Err (line, why)) × (cause ≡ cause_of why) × (inner ≡ inner_of why)
 Stops text Fine = ⊥
 Stops text Words = ⊥
 Stops text Source = ⊥
 Stops text Sink = ⊥
 Stops text Long = ⊥
 
--- what a text comes to where nothing fails and memory is there
-abbrev pub fault_of_script : Result Read ℕ → Fault
-fault_of_script (Ok script) = Fine
-fault_of_script (Err line) = Script line 14 0
+-- what a text that is read so comes to where nothing fails and memory is there
+abbrev pub fault_of_read : Result Read (ℕ × Refusal) → Fault
+fault_of_read (Ok script) = Fine
+fault_of_read (Err refused) = Script refused.0 (cause_of refused.1) (inner_of refused.1)
 
-abbrev pub fault_of : List ℕ → Fault
-fault_of text = if nat_lt script_limit (length text) then Long else fault_of_script (script_of text)
+abbrev pub fault_of : List ℕ → Result Read (ℕ × Refusal) → Fault
+fault_of text read = if nat_lt script_limit (length text) then Long else fault_of_read read
 
 -- That fault, or want of memory, or a fault of the source or of the sink where its count rose. The sink comes last.
-abbrev pub IsFaultOf : List ℕ → Type 0 → Type 0 → Fault → Type 0
-IsFaultOf text source sink Memory = Unit {0}
-IsFaultOf text source sink Source = source
-IsFaultOf text source sink Sink = sink × (fault_of text ≡ Fine)
-IsFaultOf text source sink Words = ⊥
-IsFaultOf text source sink Fine = fault_of text ≡ Fine
-IsFaultOf text source sink (Script line cause inner) = fault_of text ≡ Script line cause inner
-IsFaultOf text source sink Long = fault_of text ≡ Long
+abbrev pub IsFaultOf : List ℕ → Result Read (ℕ × Refusal) → Type 0 → Type 0 → Fault → Type 0
+IsFaultOf text read source sink Memory = Unit {0}
+IsFaultOf text read source sink Source = source
+IsFaultOf text read source sink Sink = sink × (fault_of text read ≡ Fine)
+IsFaultOf text read source sink Words = ⊥
+IsFaultOf text read source sink Fine = fault_of text read ≡ Fine
+IsFaultOf text read source sink (Script line cause inner) = fault_of text read ≡ Script line cause inner
+IsFaultOf text read source sink Long = fault_of text read ≡ Long
+
+-- What a text comes to where nothing fails and memory is there: it is past the limit, or is read as a script or as refused.
+abbrev pub ComesTo : List ℕ → Fault → Type 0
+ComesTo text Fine = (length text ≤ script_limit) × (script : Read) × Reads text (Ok script)
+ComesTo text (Script line cause inner) = (length text ≤ script_limit) × (why : Refusal) × Reads text (Err (line, why)) × (cause ≡ cause_of why) × (inner ≡ inner_of why)
+ComesTo text Long = script_limit < length text
+ComesTo text Memory = ⊥
+ComesTo text Words = ⊥
+ComesTo text Source = ⊥
+ComesTo text Sink = ⊥
+
+-- the same, or want of memory, or a fault of the source or of the sink where its count rose
+abbrev pub ComesToOrFails : List ℕ → Type 0 → Type 0 → Fault → Type 0
+ComesToOrFails text source sink Memory = Unit {0}
+ComesToOrFails text source sink Source = source
+ComesToOrFails text source sink Sink = sink × ComesTo text Fine
+ComesToOrFails text source sink Words = ⊥
+ComesToOrFails text source sink Fine = ComesTo text Fine
+ComesToOrFails text source sink (Script line cause inner) = ComesTo text (Script line cause inner)
+ComesToOrFails text source sink Long = ComesTo text Long

@@ -1,7 +1,8 @@
 ghost use Rattle.std.specs.Prelude.{◌≡◌, [], ◌∷◌, ◌++◌, map, OnOk, OnErr};
 ghost use Rattle.defmt_run.specs.EventView.{event_view};
 
-use dl_io::{Bytes, Memory};
+use defmt_grammar::Text;
+use dl_io::Memory;
 use std::alloc::Global;
 use std::marker::Model;
 
@@ -9,7 +10,7 @@ use std::marker::Model;
 #[derive(Drop)]
 pub enum Event {
     /// A statement: the index of its table entry, and its text.
-    Line { index: u16, text: Bytes },
+    Line { index: u16, text: Text },
 }
 
 /// A list of events.

@@ -50,7 +50,7 @@ pub fn events_of(alloc: Global, script: &Script<'_>, stream: &[u8]) -> Result<Ev
     let mut rest = stream;
     while let [_, after @ ..] = rest {
         let (piece, behind) = split_at_mark(after, 0);
-        events.push(event_of(alloc, script, piece)?)?;
+        events.push(event_of(script, piece)?)?;
         rest = match behind {
             [_, more @ ..] => more,
             [] => behind,
@@ -60,15 +60,16 @@ pub fn events_of(alloc: Global, script: &Script<'_>, stream: &[u8]) -> Result<Ev
 }
 
 // What one piece tells: the text of the entry whose index stands in it.
-fn event_of(alloc: Global, script: &Script<'_>, piece: &[u8]) -> Result<Event, Memory>
+fn event_of(script: &Script<'_>, piece: &[u8]) -> Result<Event, Memory>
     requires { (place : ℕ) × (place < length script.now.entries) × (place < 65534) × (piece.now ≡ canon (index_bytes (place + 1))) }
     ensures { (place : ℕ) → place < length script.now.entries → place < 65534 → piece.now ≡ canon (index_bytes (place + 1))
         → IfOk result (λ event. event_view event ≡ line_at script.now place) }
 {
     let index = index_of(piece);
-    let mut text = Bytes::new(alloc);
-    text.extend_from_slice(script.text_at(usize::from(index) - 1))?;
-    Ok(Event::Line { index, text })
+    match script.text_at(usize::from(index) - 1).copy() {
+        Ok(text) => Ok(Event::Line { index, text }),
+        Err(_) => Err(Memory),
+    }
 }
 
 // The index that a piece stands for.
@@ -103,7 +104,7 @@ fn add_line(out: &mut Bytes, event: &Event) -> Result<(), Memory>
     match event {
         Event::Line { text, .. } => {
             out.extend_from_slice(b"INFO  ")?;
-            out.extend_from_slice(text.as_slice())?;
+            out.extend_from_slice(text.as_str().as_bytes())?;
             out.push(b'\n')
         }
     }

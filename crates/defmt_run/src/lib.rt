@@ -9,14 +9,16 @@ mod frames;
 mod gate;
 mod job;
 mod line;
+mod literal;
 mod outcome;
+mod refusal;
 mod script;
 mod top;
 
 pub use event::{Event, Events};
 pub use gate::{Gate, OpenGate};
 pub use outcome::{Fault, Outcome};
-pub use top::session;
+pub use top::{one_script, session};
 
 #[cfg(test)]
 mod tests;

@@ -1,19 +1,19 @@
 // The lines of a script, and what each of them says.
 ghost use Rattle.std.specs.Prelude.{◌≡◌, ◌<◌, ◌∷◌, length, option_copied, option_map};
+ghost use Rattle.defmt_grammar.specs.Cut.{behind, cut, parts_of, strip};
 ghost use Rattle.std.specs.List.{list_all};
-ghost use Rattle.std.specs.Str.{is_utf8};
 ghost use Rattle.std.specs.Str.Lines.{lines, strip_carriage_return};
-ghost use Rattle.defmt_run.specs.Line.{line_of, text_after, is_letter, is_name_byte, is_name, is_space, has_brace, entry_of, statement_of, is_blank};
+ghost use Rattle.defmt_run.specs.Line.{line_of, text_of, text_after, is_letter, is_name_byte, is_name, is_space, entry_of, statement_of, is_blank};
 ghost use Rattle.defmt_run.specs.LineView.{line_view};
-ghost use Rattle.defmt_run.specs.Views.{entry_view};
+ghost use Rattle.defmt_run.specs.Views.{spelled_view};
 
 use crate::cut::{after_front, split_at_mark};
 
-/// A string of the table.
+/// A string of the table, as it is spelled.
 #[derive(Clone, Copy)]
 pub struct Entry<'a> {
     pub name: &'a [u8],
-    pub text: &'a [u8],
+    pub text: &'a str,
 }
 
 /// What a line says.
@@ -56,27 +56,28 @@ fn strip_carriage_return(line: &[u8]) -> &[u8]
 pub fn read_line(line: &[u8]) -> Line<'_>
     ensures { line_view result ≡ line_of line.now }
 {
-    if !is_utf8(line) {
+    let Some(line) = text_of(line) else {
         return Line::Other;
-    }
-    if is_blank(line) {
+    };
+    if is_blank(line.as_bytes()) {
         return Line::Blank;
     }
     if let Some(entry) = entry_of(line) {
         return Line::Entry(entry);
     }
-    match statement_of(line) {
+    match statement_of(line.as_bytes()) {
         Some(name) => Line::Statement(name),
         None => Line::Other,
     }
 }
 
-fn is_utf8(bytes: &[u8]) -> bool
-    ensures { result ≡ is_utf8 bytes.now }
+// The bytes as a text, where these are UTF-8.
+fn text_of(bytes: &[u8]) -> Option<&str>
+    ensures { option_copied result ≡ text_of bytes.now }
 {
     match str::from_utf8(bytes) {
-        Ok(_) => true,
-        Err(_) => false,
+        Ok(text) => Some(text),
+        Err(_) => None,
     }
 }
 
@@ -90,24 +91,50 @@ fn is_blank(line: &[u8]) -> bool
 }
 
 // The entry of a line `s NAME defmt_info TEXT`.
-fn entry_of(line: &[u8]) -> Option<Entry<'_>>
-    ensures { option_map entry_view result ≡ entry_of line.now }
+fn entry_of(line: &str) -> Option<Entry<'_>>
+    ensures { option_map spelled_view result ≡ entry_of line.now }
 {
-    let body = after_front(line, b"s ")?;
-    let (name, rest) = split_at_mark(body, b' ');
-    let tail = after_front(rest, b" defmt_info")?;
+    let body = behind_text(line, "s ")?;
+    let (name, rest) = cut(body, ' ')?;
+    let tail = behind_text(rest, "defmt_info")?;
     let text = text_after(tail)?;
-    Some(Entry { name, text })
+    Some(Entry {
+        name: name.as_bytes(),
+        text,
+    })
 }
 
-fn text_after(tail: &[u8]) -> Option<&[u8]>
+fn text_after(tail: &str) -> Option<&str>
     ensures { option_copied result ≡ text_after tail.now }
 {
-    match tail {
-        [] => Some(tail),
-        [b' ', text @ ..] => Some(text),
-        _ => None,
+    if tail.is_empty() {
+        Some(tail)
+    } else {
+        behind(tail, ' ')
     }
+}
+
+// What stands before and after the first `at`.
+fn cut(text: &str, at: char) -> Option<(&str, &str)>
+    requires { at < 128 }
+    ensures { parts_of result ≡ cut at text.now }
+{
+    text.split_once(at)
+}
+
+// What stands behind the character that the text begins with, if it is this one.
+fn behind(text: &str, first: char) -> Option<&str>
+    requires { first < 128 }
+    ensures { option_copied result ≡ behind first text.now }
+{
+    text.strip_prefix(first)
+}
+
+// What stands behind a text's front, if it is this one.
+fn behind_text<'a>(text: &'a str, front: &str) -> Option<&'a str>
+    ensures { option_copied result ≡ strip front.now text.now }
+{
+    text.strip_prefix(front)
 }
 
 // The name of a line `w 0 NAME`.
@@ -151,11 +178,4 @@ fn are_name_bytes(bytes: &[u8]) -> bool
     ensures { result ≡ list_all is_name_byte bytes.now }
 {
     bytes.iter().all(|byte| is_name_byte(*byte))
-}
-
-/// Whether a brace stands in the text.
-pub fn has_brace(text: &[u8]) -> bool
-    ensures { result ≡ has_brace text.now }
-{
-    text.iter().any(|byte| *byte == b'{' || *byte == b'}')
 }

@@ -1,7 +1,8 @@
-ghost use Rattle.std.specs.Prelude.{◌≡◌, [], IfOk};
+ghost use Rattle.std.specs.Prelude.{◌≡◌, [], ◌++◌, IfOk, OnOk};
 ghost use Rattle.defmt_run.specs.Status.{status_of, said};
 
 use crate::event::Events;
+use defmt_grammar::Text;
 use dl_io::{Bytes, Memory};
 use std::alloc::Global;
 
@@ -82,22 +83,31 @@ impl Outcome {
     }
 
     /// The words that tell the fault, without a newline.
-    pub fn say(&self, alloc: Global) -> Result<Bytes, Memory>
-        ensures { IfOk result (λ text. text.items ≡ said self.now.fault) }
+    pub fn say(&self, alloc: Global) -> Result<Text, Memory>
+        ensures { IfOk result (λ text. text ≡ said self.now.fault) }
     {
-        let mut text = Bytes::new(alloc);
+        let mut text = Text::new(alloc);
         match self.fault {
-            Fault::Fine => text.extend_from_slice(b"fine")?,
-            Fault::Memory => text.extend_from_slice(b"memory")?,
-            Fault::Words => text.extend_from_slice(b"words")?,
-            Fault::Source => text.extend_from_slice(b"source")?,
-            Fault::Sink => text.extend_from_slice(b"sink")?,
+            Fault::Fine => add(&mut text, "fine")?,
+            Fault::Memory => add(&mut text, "memory")?,
+            Fault::Words => add(&mut text, "words")?,
+            Fault::Source => add(&mut text, "source")?,
+            Fault::Sink => add(&mut text, "sink")?,
             Fault::Script { line, cause, inner } => {
                 let words = format!(in alloc; "script line {line} cause {cause} inner {inner}")?;
-                text.extend_from_slice(words.as_bytes())?
+                add(&mut text, words.as_str())?
             }
-            Fault::Long => text.extend_from_slice(b"too long")?,
+            Fault::Long => add(&mut text, "too long")?,
         }
         Ok(text)
+    }
+}
+
+fn add(text: &mut Text, words: &str) -> Result<(), Memory>
+    ensures { OnOk result (text.new ≡ text.old ++ words.now) }
+{
+    match text.push_str(words) {
+        Ok(()) => Ok(()),
+        Err(_) => Err(Memory),
     }
 }

@@ -1,17 +1,18 @@
 // The script that a text gives.
-ghost use Rattle.std.specs.Prelude.{◌≡◌, ◌<◌, ◌^◌, ◌-◌, ◌≤◌, ◌+◌, ℕ, true, false, length, [], IsErrOf, OnOk, IfOk, IfSome, All};
+ghost use Rattle.std.specs.Prelude.{◌≡◌, ◌<◌, ◌^◌, ◌-◌, ℕ, length, [], Ok, Err, OnOk, IfOk};
 ghost use Rattle.defmt_run.specs.Line.{entry, statement};
 ghost use Rattle.defmt_run.specs.LineView.{line_view};
-ghost use Rattle.defmt_run.specs.Script.{fits, extended, place_of, script_of, text_at};
+ghost use Rattle.defmt_run.specs.Script.{Reads, Refuses, Takes, is_next, no_lines, place_of, text_at};
 ghost use Rattle.defmt_run.specs.Frames.{IsSound};
+ghost use Rattle.defmt_run.specs.declared.refusal.Refusal.{Refusal as Why};
 
-use crate::line::{Entry, Line, has_brace, is_name, next_line, read_line};
-use dl_io::Memory;
+use crate::line::{Entry as Spelled, Line, is_name, next_line, read_line};
+use crate::literal::{TextFault, printed_text};
+use crate::refusal::Refusal;
+use defmt_grammar::Text;
 use std::alloc::{AllocError, AllocFailed, Global};
 use std::collections::BTreeMap;
 use std::marker::Model;
-
-const TEXT_LIMIT: usize = 4096;
 
 const ENTRIES_LIMIT: usize = 65_534;
 
@@ -20,14 +21,14 @@ const STATEMENTS_LIMIT: usize = 4096;
 /// Why a script isn't read.
 #[derive(Clone, Copy, Debug, PartialEq, Eq)]
 pub enum ScriptFault {
-    Refused { line: u32 },
+    Refused { line: u32, why: Refusal },
     Memory,
 }
 
 // Why a line isn't taken.
 #[derive(Clone, Copy, Debug, PartialEq, Eq)]
 enum LineFault {
-    Refused,
+    Refused(Refusal),
     Memory,
 }
 
@@ -51,6 +52,13 @@ impl From<AllocError> for LineFault {
     fn from(_: AllocError) -> Self {
         LineFault::Memory
     }
+}
+
+/// A string of the table: its name, and the text that it prints.
+#[derive(Drop)]
+pub struct Entry<'a> {
+    name: &'a [u8],
+    text: Text,
 }
 
 /// The entries of the table and the statements of a script.
@@ -77,7 +85,7 @@ impl<'a> Model for Script<'a> {
 
 impl<'a> Script<'a> {
     fn new(alloc: Global) -> Self
-        ensures { result ≡ record { entries = []; statements = [] } }
+        ensures { result ≡ no_lines }
     {
         Script {
             entries: Vec::new(alloc),
@@ -94,12 +102,12 @@ impl<'a> Script<'a> {
         &self.statements
     }
 
-    /// The text of the entry at a place.
-    pub fn text_at(&self, place: usize) -> &'a [u8]
+    /// The text that the entry at a place prints.
+    pub fn text_at(&self, place: usize) -> &Text
         requires { place < length self.now.entries }
         ensures { result.now ≡ text_at self.now place }
     {
-        self.entries[place].text
+        &self.entries[place].text
     }
 
     fn place_of(&self, name: &'a [u8]) -> Option<u16>
@@ -108,74 +116,78 @@ impl<'a> Script<'a> {
         self.places.get(&name).copied()
     }
 
-    fn take_line(&mut self, line: Line<'a>) -> Result<(), LineFault>
-        ensures ok { OnOk result ((fits self.old (line_view line.entry) ≡ true) × (self.new ≡ extended self.old (line_view line.entry))) }
-        ensures refused { IsErrOf result LineFault.Refused → fits self.old (line_view line.entry) ≡ false }
+    fn take_line(&mut self, alloc: Global, line: Line<'a>) -> Result<(), LineFault>
+        ensures taken { OnOk result (Takes self.old (line_view line.entry) self.new) }
+        ensures refused { (why : Why) → result ≡ Err (LineFault.Refused why) → Refuses self.old (line_view line.entry) why }
     {
         match line {
             Line::Blank => Ok(()),
-            Line::Entry(given) => self.add_entry(given),
+            Line::Entry(given) => self.add_entry(alloc, given),
             Line::Statement(name) => self.add_statement(name),
-            Line::Other => Err(LineFault::Refused),
+            Line::Other => Err(LineFault::Refused(Refusal::Unread)),
         }
     }
 
-    // Whether an entry may come next.
-    fn is_next(&self, given: Entry<'a>) -> bool
-        ensures { result ≡ fits self.now (entry given.entry.name.now given.entry.text.now) }
+    // Whether an entry of this name may come next.
+    fn is_next(&self, name: &'a [u8]) -> bool
+        ensures { result ≡ is_next self.now name.now }
     {
-        is_name(given.name)
-            && given.text.len() <= TEXT_LIMIT
-            && !has_brace(given.text)
+        is_name(name)
             && self.statements.is_empty()
             && self.entries.len() < ENTRIES_LIMIT
-            && self.place_of(given.name).is_none()
+            && self.place_of(name).is_none()
     }
 
-    fn add_entry(&mut self, given: Entry<'a>) -> Result<(), LineFault>
-        ensures ok { OnOk result ((fits self.old (entry given.entry.name.now given.entry.text.now) ≡ true)
-            × (self.new ≡ extended self.old (entry given.entry.name.now given.entry.text.now))) }
-        ensures refused { IsErrOf result LineFault.Refused → fits self.old (entry given.entry.name.now given.entry.text.now) ≡ false }
+    fn add_entry(&mut self, alloc: Global, given: Spelled<'a>) -> Result<(), LineFault>
+        ensures taken { OnOk result (Takes self.old (entry given.entry.name.now given.entry.text.now) self.new) }
+        ensures refused { (why : Why) → result ≡ Err (LineFault.Refused why)
+            → Refuses self.old (entry given.entry.name.now given.entry.text.now) why }
     {
-        if !self.is_next(given) {
-            return Err(LineFault::Refused);
+        if !self.is_next(given.name) {
+            return Err(LineFault::Refused(Refusal::Unread));
         }
+        let text = match printed_text(alloc, given.text) {
+            Ok(text) => text,
+            Err(TextFault::Refused(why)) => return Err(LineFault::Refused(why)),
+            Err(TextFault::Memory) => return Err(LineFault::Memory),
+        };
         let place = self.entries.len() as u16;
         self.entries.reserve(1)?;
         self.places.insert(given.name, place)?;
-        self.entries.push(given).unwrap();
+        let name = given.name;
+        self.entries.push(Entry { name, text }).unwrap();
         Ok(())
     }
 
     fn add_statement(&mut self, name: &'a [u8]) -> Result<(), LineFault>
-        ensures ok { OnOk result ((fits self.old (statement name.now) ≡ true) × (self.new ≡ extended self.old (statement name.now))) }
-        ensures refused { IsErrOf result LineFault.Refused → fits self.old (statement name.now) ≡ false }
+        ensures taken { OnOk result (Takes self.old (statement name.now) self.new) }
+        ensures refused { (why : Why) → result ≡ Err (LineFault.Refused why) → Refuses self.old (statement name.now) why }
     {
         let Some(place) = self.place_of(name) else {
-            return Err(LineFault::Refused);
+            return Err(LineFault::Refused(Refusal::Unread));
         };
         if self.statements.len() >= STATEMENTS_LIMIT {
-            return Err(LineFault::Refused);
+            return Err(LineFault::Refused(Refusal::Unread));
         }
         self.statements.push(place)?;
         Ok(())
     }
 }
 
-/// The script that a text gives, or the number of its first line that is refused.
+/// The script that a text gives, or the number of its first line that is refused, and why.
 pub fn read_script(alloc: Global, text: &[u8]) -> Result<Script<'_>, ScriptFault>
     requires { length text.now < 2 ^ 32 - 1 }
-    ensures read { IfOk result (λ script. script_of text.now ≡ Ok script) }
-    ensures refused { (line : ℕ) → result ≡ Err (ScriptFault.Refused line) → script_of text.now ≡ Err line }
+    ensures read { IfOk result (λ script. Reads text.now (Ok script)) }
+    ensures refused { (line : ℕ) (why : Why) → result ≡ Err (ScriptFault.Refused line why) → Reads text.now (Err (line, why)) }
 {
     let mut script = Script::new(alloc);
     let mut number = 1u32;
     let mut rest = text;
     while !rest.is_empty() {
         let (line, after) = next_line(rest);
-        match script.take_line(read_line(line)) {
+        match script.take_line(alloc, read_line(line)) {
             Ok(()) => {}
-            Err(LineFault::Refused) => return Err(ScriptFault::Refused { line: number }),
+            Err(LineFault::Refused(why)) => return Err(ScriptFault::Refused { line: number, why }),
             Err(LineFault::Memory) => return Err(ScriptFault::Memory),
         }
         number += 1;

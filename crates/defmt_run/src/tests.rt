@@ -60,6 +60,24 @@ fn refused(line: u32) -> Fault {
     }
 }
 
+fn refused_text(line: u32, inner: u8) -> Fault {
+    Fault::Script {
+        line,
+        cause: 10,
+        inner,
+    }
+}
+
+// The script of one string with a text of this many letters.
+fn script_of_letters(alloc: Global, count: usize) -> Result<Bytes, Fail> {
+    let mut script = bytes_of(alloc, b"s a defmt_info ")?;
+    script.reserve(count)?;
+    for _ in 0..count {
+        script.push(b'a')?;
+    }
+    Ok(script)
+}
+
 #[test]
 fn a_statement_is_framed_and_printed(rt: HostRuntime) -> Result<(), Fail> {
     let session = run_of(rt.alloc(), HI)?;
@@ -73,7 +91,7 @@ fn a_statement_is_framed_and_printed(rt: HostRuntime) -> Result<(), Fail> {
         return Err("another number of events".into());
     };
     assert_eq!(rt; *index, 1);
-    assert_eq!(rt; text.as_slice(), b"hello".as_slice());
+    assert_eq!(rt; text.as_str(), "hello");
     assert_eq!(rt; session.written.as_slice(), b"INFO  hello\n".as_slice());
     Ok(())
 }
@@ -115,7 +133,7 @@ fn an_unknown_command_is_status_2(rt: HostRuntime) -> Result<(), Fail> {
     assert_eq!(rt; session.outcome.fault, Fault::Words);
     assert_eq!(rt; session.outcome.status, 2);
     assert_eq!(rt; session.written.len(), 0);
-    assert_eq!(rt; session.outcome.say(alloc)?.as_slice(), b"words".as_slice());
+    assert_eq!(rt; session.outcome.say(alloc)?.as_str(), "words");
     Ok(())
 }
 
@@ -126,10 +144,7 @@ fn a_source_that_fails_is_status_3(rt: HostRuntime) -> Result<(), Fail> {
     assert_eq!(rt; session.outcome.fault, Fault::Source);
     assert_eq!(rt; session.outcome.status, 3);
     assert_eq!(rt; session.written.len(), 0);
-    assert_eq!(rt;
-        session.outcome.say(alloc)?.as_slice(),
-        b"source".as_slice()
-    );
+    assert_eq!(rt; session.outcome.say(alloc)?.as_str(), "source");
     Ok(())
 }
 
@@ -155,17 +170,86 @@ fn a_statement_of_an_unknown_name_is_refused(rt: HostRuntime) -> Result<(), Fail
     assert_eq!(rt; session.outcome.fault, refused(3));
     assert_eq!(rt; session.outcome.status, 5);
     assert_eq!(rt;
-        session.outcome.say(alloc)?.as_slice(),
-        b"script line 3 cause 14 inner 0".as_slice()
+        session.outcome.say(alloc)?.as_str(),
+        "script line 3 cause 14 inner 0"
     );
     Ok(())
 }
 
 #[test]
-fn a_text_with_a_brace_is_refused(rt: HostRuntime) -> Result<(), Fail> {
-    let session = run_of(rt.alloc(), b"s hi defmt_info a {=u8}\nw 0 hi\n")?;
+fn doubled_braces_are_printed_once(rt: HostRuntime) -> Result<(), Fail> {
+    let session = run_of(rt.alloc(), b"s b defmt_info {{x}}\nw 0 b\n")?;
+    assert_eq!(rt; session.outcome.fault, Fault::Fine);
+    assert_eq!(rt; session.outcome.status, 0);
+    let [Event::Line { index, text }] = session.outcome.events.as_slice() else {
+        return Err("another number of events".into());
+    };
+    assert_eq!(rt; *index, 1);
+    assert_eq!(rt; text.as_str(), "{x}");
+    assert_eq!(rt; session.written.as_slice(), b"INFO  {x}\n".as_slice());
+    Ok(())
+}
+
+#[test]
+fn closing_braces_come_first(rt: HostRuntime) -> Result<(), Fail> {
+    let session = run_of(rt.alloc(), b"s b defmt_info }}{{\nw 0 b\n")?;
+    assert_eq!(rt; session.outcome.fault, Fault::Fine);
+    assert_eq!(rt; session.written.as_slice(), b"INFO  }{\n".as_slice());
+    Ok(())
+}
+
+#[test]
+fn a_lone_brace_is_cause_10(rt: HostRuntime) -> Result<(), Fail> {
+    let alloc = rt.alloc();
+    let session = run_of(alloc, b"s b defmt_info {\nw 0 b\n")?;
+    assert_eq!(rt; session.outcome.fault, refused_text(1, 1));
+    assert_eq!(rt; session.outcome.status, 5);
+    assert_eq!(rt; session.written.len(), 0);
+    assert_eq!(rt;
+        session.outcome.say(alloc)?.as_str(),
+        "script line 1 cause 10 inner 1"
+    );
+    Ok(())
+}
+
+#[test]
+fn an_unknown_hint_is_cause_10(rt: HostRuntime) -> Result<(), Fail> {
+    let session = run_of(rt.alloc(), b"# hints\ns b defmt_info {=u8:z}\n")?;
+    assert_eq!(rt; session.outcome.fault, refused_text(2, 3));
+    Ok(())
+}
+
+#[test]
+fn a_text_with_a_parameter_is_cause_14(rt: HostRuntime) -> Result<(), Fail> {
+    let session = run_of(rt.alloc(), b"s b defmt_info {=u8}\nw 0 b\n")?;
     assert_eq!(rt; session.outcome.fault, refused(1));
     assert_eq!(rt; session.written.len(), 0);
+    Ok(())
+}
+
+#[test]
+fn a_name_that_was_there_comes_before_the_text(rt: HostRuntime) -> Result<(), Fail> {
+    let session = run_of(rt.alloc(), b"s b defmt_info b\ns b defmt_info {\n")?;
+    assert_eq!(rt; session.outcome.fault, refused(2));
+    Ok(())
+}
+
+#[test]
+fn a_text_of_the_greatest_length_is_taken(rt: HostRuntime) -> Result<(), Fail> {
+    let alloc = rt.alloc();
+    let script = script_of_letters(alloc, 4096)?;
+    let session = run_of(alloc, script.as_slice())?;
+    assert_eq!(rt; session.outcome.fault, Fault::Fine);
+    assert_eq!(rt; session.outcome.status, 0);
+    Ok(())
+}
+
+#[test]
+fn a_longer_text_is_cause_10(rt: HostRuntime) -> Result<(), Fail> {
+    let alloc = rt.alloc();
+    let script = script_of_letters(alloc, 4097)?;
+    let session = run_of(alloc, script.as_slice())?;
+    assert_eq!(rt; session.outcome.fault, refused_text(1, 0));
     Ok(())
 }
 
@@ -202,9 +286,6 @@ fn a_longer_script_is_status_8(rt: HostRuntime) -> Result<(), Fail> {
     let session = session_of(alloc, "run", &mut RepeatSource::new(b'\n', 4_194_305), b"")?;
     assert_eq!(rt; session.outcome.fault, Fault::Long);
     assert_eq!(rt; session.outcome.status, 8);
-    assert_eq!(rt;
-        session.outcome.say(alloc)?.as_slice(),
-        b"too long".as_slice()
-    );
+    assert_eq!(rt; session.outcome.say(alloc)?.as_str(), "too long");
     Ok(())
 }

@@ -1,9 +1,11 @@
 // The top call.
-ghost use Rattle.std.specs.Prelude.{◌≡◌, ◌≤◌, ◌↔◌, ◌≢◌, ℕ, List, length, map, Some, None, IfOk, IfErr, string_bytes};
+ghost use Rattle.std.specs.Prelude.{◌≡◌, ◌≤◌, ◌↔◌, ◌≢◌, ℕ, List, length, map, Some, None, Result, IfOk, IfErr, string_bytes};
 ghost use Rattle.dl_io.specs.Outside.{Rose};
+ghost use Rattle.defmt_run.specs.Script.{Reads, Script as Read};
+ghost use Rattle.defmt_run.specs.declared.refusal.Refusal.{Refusal as Why};
 ghost use Rattle.defmt_run.specs.declared.job.Job.TheVariants.{Run};
 ghost use Rattle.defmt_run.specs.Status.{status_of};
-ghost use Rattle.defmt_run.specs.Session.{Answers, IsFaultOf, Makes, GaveWhole, Ran, Stops, Withholds, Writes, job, script_limit};
+ghost use Rattle.defmt_run.specs.Session.{Answers, ComesToOrFails, IsFaultOf, Makes, GaveWhole, Ran, Stops, Withholds, Writes, job, script_limit};
 ghost use Rattle.defmt_run.specs.Frames.{printed as printed_of};
 
 use crate::event::Events;
@@ -12,12 +14,11 @@ use crate::gate::Gate;
 use crate::job::{Job, job_of};
 use crate::outcome::{Fault, Outcome};
 use crate::script::{ScriptFault, read_script};
+use defmt_grammar::one_answer;
 use dl_io::{Bytes, Failed, ReadFault, Shelf, Sink, Source, read_all, write_all};
 use std::alloc::Global;
 
 const SCRIPT_LIMIT: usize = 4_194_304;
-
-const UNREAD_LINE: u8 = 14;
 
 /// Does what the words ask for. The first word is the program's name, the second the command.
 ///
@@ -40,9 +41,14 @@ pub fn session<S: Source, F: Shelf, K: Sink, G: Gate + Sync>(
         (record { held = K.held out.old; held_after = K.held out.new; faults = K.faults out.old; faults_after = K.faults out.new })
         result.fault result.stream.items result.events }
 
-    // Where the source tells its text, the text decides, but for want of memory and faults of the outside.
-    ensures exact { (text : List ℕ) → S.left src.old ≡ Some text → job (map string_bytes words.now) ≡ Some Run →
-        IsFaultOf text (Rose (S.faults src.old) (S.faults src.new)) (Rose (K.faults out.old) (K.faults out.new)) result.fault }
+    // Where the source tells its text, the fault is what the text comes to, but for want of memory and faults of the outside.
+    ensures comes { (text : List ℕ) → S.left src.old ≡ Some text → job (map string_bytes words.now) ≡ Some Run →
+        ComesToOrFails text (Rose (S.faults src.old) (S.faults src.new)) (Rose (K.faults out.old) (K.faults out.new)) result.fault }
+
+    // And each reading of that text decides.
+    ensures exact { (text : List ℕ) (read : Result Read (ℕ × Why)) → S.left src.old ≡ Some text → Reads text read →
+        job (map string_bytes words.now) ≡ Some Run →
+        IsFaultOf text read (Rose (S.faults src.old) (S.faults src.new)) (Rose (K.faults out.old) (K.faults out.new)) result.fault }
 
     // The status is 2 exactly where the words ask for nothing.
     ensures words { (result.status ≡ 2) ↔ (job (map string_bytes words.now) ≡ None) }
@@ -54,9 +60,19 @@ pub fn session<S: Source, F: Shelf, K: Sink, G: Gate + Sync>(
     ensures shelf_count { F.faults shelf.new ≡ F.faults shelf.old }
 {
     match job_of(words) {
-        Some(Job::Run) => run(alloc, src, out),
+        Some(Job::Run) => {
+            one_script();
+            run(alloc, src, out)
+        }
         None => Outcome::silent(alloc, Fault::Words),
     }
+}
+
+/// A text is read as one script, or as refused at one line for one reason.
+pub fn one_script()
+    ensures { (text : List ℕ) (read other : Result Read (ℕ × Why)) → Reads text read → Reads text other → read ≡ other }
+{
+    one_answer();
 }
 
 // Runs the script that the source gives.
@@ -128,11 +144,11 @@ fn make(alloc: Global, text: &[u8]) -> Result<Made, Fault>
 {
     let script = match read_script(alloc, text) {
         Ok(script) => script,
-        Err(ScriptFault::Refused { line }) => {
+        Err(ScriptFault::Refused { line, why }) => {
             return Err(Fault::Script {
                 line,
-                cause: UNREAD_LINE,
-                inner: 0,
+                cause: why.cause(),
+                inner: why.inner(),
             });
         }
         Err(ScriptFault::Memory) => return Err(Fault::Memory),

@@ -1,20 +1,20 @@
-use Rattle.std.proofs.Common.{Err, Result, arith, subst, sym, ap, ℕ, ◌∙◌}
-use Rattle.defmt_run.specs.Script.{Script, extended, fits}
+use Rattle.std.proofs.Common.{Err, Result, arith, subst, sym, ℕ, ◌∙◌, ◌≡◌}
 use Rattle.defmt_run.specs.Line.{Line}
-use Rattle.defmt_run.proofs.Reading.{IsReading, begins, ends, goes_on, refuses}
+use Rattle.defmt_run.specs.Script.{Reads, Refuses, Script, Takes}
+use Rattle.defmt_run.specs.declared.refusal.Refusal.{Refusal}
+use Rattle.defmt_run.proofs.Reading.{begins, ends, goes_on, refuses}
 use Rattle.defmt_run.proofs.script.read_script.Goals as goal
 
 pub loop-rest-init : goal.loop-rest-init
 loop-rest-init c = record {
-  reading = subst (λ (s : Script). IsReading s 1 c.args.text.now c.args.text.now) (sym c.new-script.ensures) (begins c.args.text.now);
+  reading = begins _ _ c.new-script.ensures;
   number = omega arith;
 }
 
 pub loop-rest-preserved : goal.loop-rest-preserved
 loop-rest-preserved c = record {
   reading = goes_on _ _ _ _ _ c.next_line.result.1.now c.loop-rest.invariant.reading c.next_line.ensures.lines c.take_line.new.self
-      (sym (ap (λ (l : Line). fits c.loop-rest.script l) c.read_line.ensures) ∙ c.in-Ok.ensures.ok.0)
-      (c.in-Ok.ensures.ok.1 ∙ ap (λ (l : Line). extended c.loop-rest.script l) c.read_line.ensures);
+      (subst (λ (l : Line). Takes c.loop-rest.script l c.take_line.new.self) c.read_line.ensures c.in-Ok.ensures.taken);
   number = omega arith;
 }
 
@@ -22,8 +22,9 @@ pub returns-clause-read : goal.returns-clause-read
 returns-clause-read c = ends _ _ _ _ c.loop-rest.invariant.reading (sym c.is_empty.ensures ∙ c.loop-rest-test.false)
 
 pub returns-in-Err-Refused-clause-refused : goal.returns-in-Err-Refused-clause-refused
-returns-in-Err-Refused-clause-refused c line is =
-    let not = c.take_line.ensures.refused (cc (c.in-Err-Refused.is, c.in-Err-Refused.field-0-is)) in
-    refuses _ _ _ _ _ c.next_line.result.1.now c.loop-rest.invariant.reading c.next_line.ensures.lines
-    (sym (ap (λ (l : Line). fits c.loop-rest.script l) c.read_line.ensures) ∙ not)
-    ∙ ap (λ (n : ℕ). let r : Result Script ℕ = Err n in r) (cc is)
+returns-in-Err-Refused-clause-refused c line why is =
+    let at : c.loop-rest.number ≡ line = cc is in
+    let same : c.in-Err-Refused.why ≡ why = cc is in
+    let wrong = subst (λ (l : Line). Refuses c.loop-rest.script l why) c.read_line.ensures (c.take_line.ensures.refused why (cc (c.in-Err-Refused.is, c.in-Err-Refused.field-0-is, same))) in
+    subst (λ (n : ℕ). let read : Result Script (ℕ × Refusal) = Err (n, why) in Reads c.args.text.now read) at
+    (refuses _ _ _ _ _ c.next_line.result.1.now c.loop-rest.invariant.reading c.next_line.ensures.lines why wrong)

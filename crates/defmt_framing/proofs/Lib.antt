@@ -1,0 +1,6 @@
+pub mod Cutting
+pub mod Telling
+pub mod Truncating
+pub mod Standing
+pub mod FrameCodes
+pub mod Agree

@@ -1,0 +1,8 @@
+pub mod Cut
+pub mod Places
+pub mod Told
+pub mod Frames
+pub mod Framing
+pub mod Calls
+pub mod Decides
+pub mod Decoded

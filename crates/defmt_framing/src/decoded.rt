@@ -1,0 +1,29 @@
+ghost use Rattle.std.specs.Prelude.{◌≡◌, ◌≤◌, ◌*◌, List, ℕ, Some, None, length, take, option_map, IfSome};
+ghost use Rattle.rzcobs_core.specs.Blocks.{Blocks, IsNoCode};
+ghost use Rattle.defmt_framing.specs.Decoded.{decoded};
+
+use rzcobs_core::{Malformed, decode};
+
+/// What a piece stands for as a function of it, and as a sequence of blocks, agree.
+pub fn decoded_is()
+    ensures found { (code bytes : List ℕ) → Blocks code bytes → decoded code ≡ Some bytes }
+    ensures again { (code bytes : List ℕ) → decoded code ≡ Some bytes → Blocks code bytes }
+    ensures none { (code : List ℕ) → IsNoCode code → decoded code ≡ None }
+{}
+
+/// Writes what the piece stands for as a code to the front of the buffer, and answers how many
+/// bytes that is.
+///
+/// The buffer has at least seven times as many bytes as the piece. `None` comes exactly where no
+/// sequence of blocks is the piece. The buffer may hold anything then, and behind what was
+/// written. Takes no memory.
+pub fn decode_piece(piece: &[u8], out: &mut [u8]) -> Option<usize>
+    requires { 7 * length piece.now ≤ length out.old }
+    ensures decoded { decoded piece.now ≡ option_map (λ count. take count out.new) result }
+    ensures within { IfSome result (λ count. count ≤ length out.new) }
+{
+    match decode(piece, out) {
+        Ok(count) => Some(count),
+        Err(Malformed) => None,
+    }
+}

@@ -1,0 +1,25 @@
+//! Frames in a stream of bytes: the stream is cut at its zeros, and each part tells something.
+//!
+//! A frame is a zero, a code and a zero (defmt book, the encoding rzcobs), and a code has no
+//! zero. So what comes before the first zero of a stream is its front, what lies between two
+//! zeros that follow one another is a piece, and what comes after the last zero is its tail. A
+//! stream without a zero is all front, and an empty part is none.
+#![tactic(auto)]
+
+mod decoded;
+mod framer;
+mod laws;
+mod parts;
+mod places;
+mod teller;
+#[cfg(test)]
+mod tests;
+
+pub use decoded::{decode_piece, decoded_is};
+pub use framer::Framer;
+pub use laws::{
+    always_laid_out, any_cutting, cut_by_places, intact_frames, messages_have_codes, without_end,
+    without_front,
+};
+pub use parts::feed_all;
+pub use teller::Teller;

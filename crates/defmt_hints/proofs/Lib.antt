@@ -1,0 +1,7 @@
+pub mod AppendsLaws
+pub mod DigitsLaws
+pub mod FillLaws
+pub mod RunLaws
+pub mod EscapesLaws
+pub mod ListLaws
+pub mod SignLaws

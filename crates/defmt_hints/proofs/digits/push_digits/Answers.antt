@@ -1,0 +1,20 @@
+use Rattle.std.proofs.Common.{arith, refl, sym, subst, ◌∙◌, ap, ℕ, ◌-◌, min}
+use Rattle.std.specs.Str.{IsUtf8}
+use Rattle.defmt_hints.proofs.AppendsLaws.{appends_same}
+use Rattle.defmt_hints.proofs.FillLaws.{filled_none, filled_more, filled_bytes, utf8_digits}
+use Rattle.defmt_hints.proofs.digits.push_digits.Goals as goal
+
+pub digits-init : goal.digits-init
+digits-init c = filled_none c.args.base c.args.value c.args.upper 255 _ c.requires.least (omega arith) refl refl
+
+pub digits-preserved : goal.digits-preserved
+digits-preserved c = filled_more c.args.base c.args.value c.args.upper c.digits.rest c.digits.start c.digits.buffer c.glyph.result c.digits.invariant c.requires.least (omega arith) c.glyph.ensures
+
+pub push_bytes-requires : goal.push_bytes-requires
+push_bytes-requires c =
+    subst IsUtf8 (sym (filled_bytes c.args.base c.args.value c.args.upper c.digits.rest c.digits.start c.digits.buffer c.args.width c.min-first.result c.digits.invariant c.digits-test.false c.requires.least (omega arith) (c.min-first.ensures ∙ ap (λ (n : ℕ). min c.digits.start (255 - n)) (c.from.ensures ∙ c.max.ensures))))
+    (utf8_digits c.args.base c.args.width c.args.value c.args.upper c.requires.least c.requires.most)
+
+pub returns : goal.returns
+returns c =
+    appends_same c.push_bytes.result c.args.out.now c.push_bytes.new.out _ _ (filled_bytes c.args.base c.args.value c.args.upper c.digits.rest c.digits.start c.digits.buffer c.args.width c.min-first.result c.digits.invariant c.digits-test.false c.requires.least (omega arith) (c.min-first.ensures ∙ ap (λ (n : ℕ). min c.digits.start (255 - n)) (c.from.ensures ∙ c.max.ensures))) c.push_bytes.ensures

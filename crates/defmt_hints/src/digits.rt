@@ -1,0 +1,79 @@
+//! Digits of numbers.
+
+ghost use Rattle.std.specs.Prelude.{◌≡◌, ◌<◌, ◌≤◌, ◌^◌, ℕ, List, Bool, length};
+ghost use Rattle.std.specs.Fmt.{digit_glyph};
+ghost use Rattle.std.specs.Str.{IsUtf8};
+ghost use Rattle.defmt_hints.specs.Appends.{Appends};
+ghost use Rattle.defmt_hints.specs.Digits.{AreDigits, digits, number_text, zero_filled};
+
+use defmt_grammar::{Memory, Text};
+use std::str;
+
+/// The greatest width, which is more than the 128 digits of the greatest number in base 2.
+const ROOM: usize = 255;
+
+/// Appends a text.
+pub fn push(out: &mut Text, text: &str) -> Result<(), Memory>
+    ensures { Appends result out.old out.new text.now }
+{
+    out.push_str(text)
+}
+
+/// Appends bytes that are a text.
+pub fn push_bytes(out: &mut Text, bytes: &[u8]) -> Result<(), Memory>
+    requires { IsUtf8 bytes.now }
+    ensures { Appends result out.old out.new bytes.now }
+{
+    match str::from_utf8(bytes) {
+        Ok(text) => push(out, text),
+        Err(_) => unreachable!(),
+    }
+}
+
+/// The character of a digit below 16.
+fn glyph(digit: u8, upper: bool) -> u8
+    requires { digit < 16 }
+    ensures { result ≡ digit_glyph upper digit }
+{
+    if digit < 10 {
+        b'0' + digit
+    } else if upper {
+        b'A' + (digit - 10)
+    } else {
+        b'a' + (digit - 10)
+    }
+}
+
+/// Appends the digits of a value in a base, with zeros in front up to a width.
+pub fn push_digits(
+    out: &mut Text,
+    value: u128,
+    base: u128,
+    upper: bool,
+    width: u8,
+) -> Result<(), Memory>
+    requires least { 2 ≤ base }
+    requires most { base ≤ 16 }
+    ensures { Appends result out.old out.new (zero_filled width (number_text base upper value)) }
+{
+    let mut buffer = [b'0'; ROOM];
+    let mut start = ROOM;
+    let mut rest = value;
+    'digits: while rest != 0 {
+        start -= 1;
+        buffer[start] = glyph((rest % base) as u8, upper);
+        rest /= base;
+    }
+    // The digit of 0 is one of the zeros that fill the buffer.
+    let first = start.min(ROOM - usize::from(width.max(1)));
+    push_bytes(out, &buffer[first..])
+}
+
+/// A number has one list of digits, whose weighted sum it is and which has no leading zero. Its text has these
+/// characters, and where the number is below the power of the base that a width stands for, filling up to that width
+/// gives just as many.
+pub fn digits_are_unique()
+    ensures are { (base n : ℕ) → 2 ≤ base → AreDigits base n (digits base n) }
+    ensures only { (base n : ℕ) (ds : List ℕ) → 2 ≤ base → AreDigits base n ds → ds ≡ digits base n }
+    ensures filled { (base width n : ℕ) (upper : Bool) → 2 ≤ base → 0 < width → n < base ^ width → length (zero_filled width (number_text base upper n)) ≡ width }
+{}

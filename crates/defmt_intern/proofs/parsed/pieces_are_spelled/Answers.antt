@@ -1,0 +1,8 @@
+use Rattle.defmt_intern.proofs.BodyLaws.{pieces_found, pieces_again}
+use Rattle.defmt_intern.proofs.parsed.pieces_are_spelled.Goals as goal
+
+pub returns-clause-found : goal.returns-clause-found
+returns-clause-found c = pieces_found
+
+pub returns-clause-again : goal.returns-clause-again
+returns-clause-again c = pieces_again

@@ -1,0 +1,4 @@
+pub mod Body
+pub mod Decided
+pub mod Name
+pub mod Table

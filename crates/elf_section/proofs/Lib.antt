@@ -1,0 +1,12 @@
+pub mod BytesLaws
+pub mod StringLaws
+pub mod Stages
+pub mod SectionLaws
+pub mod TableLaws
+pub mod ListedLaws
+pub mod ReadLaws
+pub mod WritingLaws
+pub mod WritableLaws
+pub mod FieldLaws
+pub mod ReadBack
+pub mod ReadSymbols

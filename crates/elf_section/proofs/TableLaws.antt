@@ -1,0 +1,125 @@
+-- The symbol table, its names and its markers.
+use Rattle.std.proofs.Common.{inl, inr, ◌≡◌, ◌≢◌, ◌≤◌, ◌<◌, ◌+◌, ◌*◌, ◌/◌, ℕ, Bool, true, false, not, List, length, Option, Some, None, Bor, bytes_eq, refl, sym, ap, subst, ◌∙◌, arith, MatchBool}
+use Rattle.std.specs.Prelude.{IsSome, is_some}
+use Rattle.std.specs.Option.{option_copied}
+use Rattle.std.proofs.lemmas.Bool.{cases_lt}
+use Rattle.std.proofs.lemmas.List.{append_cancel_left}
+use Rattle.std.proofs.lemmas.Slice.Eq.{bytes_eq-Decides}
+use Rattle.elf_section.specs.Bytes.{IsUnquoted, IsBehind}
+use Rattle.elf_section.specs.File.{header, section, symbol_len, class_of, Fits, IsSymbols, HasSymbols, strings, count, symbol, symbol_name}
+use Rattle.elf_section.specs.Checks.{Check, place, Holds, refusal, Refused, Passed, IsTable, Says, SaysIn, HasMarker, SaysSome, Seen}
+use Rattle.elf_section.specs.Checks as check
+use Rattle.elf_section.specs.declared.file.Class.{Class}
+use Rattle.elf_section.specs.declared.file.Class.TheVariants.{Elf32, Elf64}
+use Rattle.elf_section.specs.declared.file.Section.{Section}
+use Rattle.elf_section.specs.Table.{IsOpen}
+use Rattle.elf_section.specs.declared.table.SymbolTable.{SymbolTable}
+use Rattle.elf_section.specs.declared.file.RawSymbol.{RawSymbol}
+use Rattle.elf_section.specs.File.{symbol_in}
+use Rattle.elf_section.specs.Bytes.{text_at}
+use Rattle.elf_section.proofs.SectionLaws.{one_first, for_symbols, none_text}
+use Rattle.elf_section.proofs.BytesLaws.{one_unquoted}
+use Rattle.elf_section.proofs.Stages.{passed_more, refuse_at}
+
+table_fits : (file : List ℕ) (i : ℕ) → Passed file 14 → IsSymbols file i → IsTable file i
+table_fits file i p s = p.all (check.has_table i) (omega arith) s
+
+symbol_place : (cls : Class) (offset k size len : ℕ) → k < size / symbol_len cls → offset + size ≤ len → offset + k * symbol_len cls + symbol_len cls ≤ len
+symbol_place Elf32 offset k size len l h = omega arith
+symbol_place Elf64 offset k size len l h = omega arith
+
+pub open_fits : (file : List ℕ) (t : SymbolTable) (len k : ℕ) → IsOpen file t → k < t.count → len ≡ symbol_len t.class → t.offset + k * len + symbol_len t.class ≤ length file
+open_fits file t len k o l el =
+    let a = o.offset_is in
+    let n = o.count_is in
+    let b : symbol_len t.class ≡ symbol_len (class_of file) = ap symbol_len o.class_is in
+    let m : k * len ≡ k * symbol_len (class_of file) = ap (λ (n : ℕ). k * n) (el ∙ b) in
+    let f = symbol_place (class_of file) (section file t.number).offset k (section file t.number).size (length file) (omega (arith, l, n)) (table_fits file t.number o.passed o.symbols).fits in
+    omega (arith, f, a, b, m)
+
+pub open_symbol : (file : List ℕ) (t : SymbolTable) (len k : ℕ) → IsOpen file t → len ≡ symbol_len t.class → symbol_in t.class (t.offset + k * len) file ≡ symbol file t.number k
+open_symbol file t len k o el =
+    ap (λ (n : ℕ). symbol_in t.class (t.offset + k * n) file) el
+    ∙ ap (λ (n : ℕ). symbol_in t.class (n + k * symbol_len t.class) file) o.offset_is
+    ∙ ap (λ (c : Class). symbol_in c ((section file t.number).offset + k * symbol_len c) file) o.class_is
+
+pub open_name : (file : List ℕ) (t : SymbolTable) (k : ℕ) (r : RawSymbol) (o : Option (Bor (List ℕ))) → IsOpen file t → r ≡ symbol file t.number k → option_copied o ≡ text_at r.name t.strings → option_copied o ≡ symbol_name file t.number k
+open_name file t k r o p er eo = eo ∙ ap (λ (x : RawSymbol). text_at x.name t.strings) er ∙ ap (text_at (symbol file t.number k).name) p.strings_are
+
+few : (cls : Class) (offset size len : ℕ) → offset + size ≤ len → size / symbol_len cls ≤ len
+few Elf32 offset size len h = omega arith
+few Elf64 offset size len h = omega arith
+
+count_bound : (file : List ℕ) (i : ℕ) → Passed file 14 → IsSymbols file i → count file i ≤ length file
+count_bound file i p s = few (class_of file) (section file i).offset (section file i).size (length file) (table_fits file i p s).fits
+
+pub open_count : (file : List ℕ) (t : SymbolTable) → IsOpen file t → t.count ≤ length file
+open_count file t o = let a = o.count_is in let b = count_bound file t.number o.passed o.symbols in omega (arith, a, b)
+
+pub link_below : (file : List ℕ) (i : ℕ) (s : Section) → Passed file 14 → IsSymbols file i → s ≡ section file i → s.link < (header file).shnum
+link_below file i s p is e = subst (λ (x : Section). x.link < (header file).shnum) (sym e) (table_fits file i p is).link
+
+pub strings_fit : (file : List ℕ) (i : ℕ) (s t : Section) → Passed file 14 → IsSymbols file i → s ≡ section file i → t ≡ section file s.link → Fits file t
+strings_fit file i s t p is e f =
+    let fits : Fits file (strings file i) = p.all (check.has_strings i) (omega arith) is in
+    subst (Fits file) (sym (f ∙ ap (λ (x : Section). section file x.link) e)) fits
+
+-- ---- the names of symbols
+
+pub refuse_symbol_name : (file : List ℕ) (i k : ℕ) (o : Option (Bor (List ℕ))) → Passed file 14 → IsSymbols file i → 0 < k → k < count file i → ((j : ℕ) → 0 < j → j < k → IsSome (symbol_name file i j)) → option_copied o ≡ symbol_name file i k → is_some o ≡ false → Refused file (refusal file (check.has_symbol_name k))
+refuse_symbol_name file i k o p s above below before e fails =
+    refuse_at file 14 k p refl refl
+    (λ j l n t a b. subst (λ (m : ℕ). IsSome (symbol_name file m j)) (one_first file (HasSymbols file) i n s t) (before j a l))
+    (λ h. none_text o (symbol_name file i k) e fails (h i s above below))
+
+pub passed_symbol_names : (file : List ℕ) (i : ℕ) → Passed file 14 → IsSymbols file i → ((k : ℕ) → 0 < k → k < count file i → IsSome (symbol_name file i k)) → Passed file 15
+passed_symbol_names file i p s h = passed_more file 14 p (λ k j t above. for_symbols file i (λ n. k < count file n → IsSome (symbol_name file n k)) s (h k above) j t)
+
+-- ---- markers
+
+one_rest : (file : List ℕ) (i : ℕ) (front : List ℕ) (k : ℕ) (a b : List ℕ) → Says file i front k a → Says file i front k b → a ≡ b
+one_rest file i front k a b x y =
+    let name : Some x.name ≡ Some y.name = sym x.name_is ∙ y.name_is in
+    let same : x.name ≡ y.name = cc in
+    let inner : x.inner ≡ y.inner = one_unquoted x.name x.inner y.inner x.unquoted (subst (λ (n : List ℕ). IsUnquoted n y.inner) (sym same) y.unquoted) in
+    append_cancel_left front a b (sym x.says ∙ inner ∙ y.says)
+
+pub says_by : (file : List ℕ) (i k : ℕ) (front name inner : List ℕ) (r : Option (Bor (List ℕ))) → 0 < k → k < count file i → symbol_name file i k ≡ Some name → IsUnquoted name inner → IsBehind inner front r → SaysIn file i front k r
+says_by file i k front name inner None above below e u h = λ rest s.
+    let found : Some name ≡ Some s.name = sym e ∙ s.name_is in
+    let same : s.name ≡ name = cc in
+    h rest (one_unquoted name inner s.inner u (subst (λ (n : List ℕ). IsUnquoted n s.inner) same s.unquoted) ∙ s.says)
+says_by file i k front name inner (Some rest) above below e u h = record { above = above; below = below; name = name; name_is = e; inner = inner; unquoted = u; says = h }
+
+pub seen_same : (file : List ℕ) (i : ℕ) (front value : List ℕ) (k : ℕ) (seen : Bool) (rest : List ℕ) → Seen file i front value k seen → Says file i front k rest → rest ≡ value → Seen file i front value (k + 1) true
+seen_same file i front value k seen rest s says e = record {
+  every = λ j r l t. elim (cases_lt j k) [
+    | inl before ↦ s.every j r before t
+    | inr le ↦ let here : j ≡ k = omega arith in one_rest file i front k r rest (subst (λ (n : ℕ). Says file i front n r) here t) says ∙ e
+  ];
+  some = (k, subst (Says file i front k) e says);
+}
+
+some_more : (file : List ℕ) (i : ℕ) (front value : List ℕ) (k : ℕ) (seen : Bool) → SaysSome file i front value k seen → ((rest : List ℕ) → Says file i front k rest → ⊥) → SaysSome file i front value (k + 1) seen
+some_more file i front value k true s none = s
+some_more file i front value k false s none = λ j r l t. elim (cases_lt j k) [ inl before ↦ s j r before t | inr le ↦ none r (subst (λ (n : ℕ). Says file i front n r) (let here : j ≡ k = omega arith in here) t) ]
+
+pub seen_none : (file : List ℕ) (i : ℕ) (front value : List ℕ) (k : ℕ) (seen : Bool) → Seen file i front value k seen → ((rest : List ℕ) → Says file i front k rest → ⊥) → Seen file i front value (k + 1) seen
+seen_none file i front value k seen s none = record {
+  every = λ j r l t. elim (cases_lt j k) [ inl before ↦ s.every j r before t | inr le ↦ absurd (none r (subst (λ (n : ℕ). Says file i front n r) (let here : j ≡ k = omega arith in here) t)) ];
+  some = some_more file i front value k seen s.some none;
+}
+
+pub marker_by_seen : (file : List ℕ) (i : ℕ) (front value : List ℕ) (k : ℕ) (seen : Bool) → count file i ≤ k → Seen file i front value k seen → MatchBool seen (HasMarker file i front value) (HasMarker file i front value → ⊥)
+marker_by_seen file i front value k true le s = record { number = s.some.0; some = s.some.1; every = λ j r t. let below = t.below in s.every j r (omega arith) t }
+marker_by_seen file i front value k false le s = λ m. let below = m.some.below in s.some m.number value (omega arith) m.some
+
+pub no_marker : (file : List ℕ) (i : ℕ) (front value : List ℕ) (k : ℕ) (rest : List ℕ) → Says file i front k rest → rest ≢ value → HasMarker file i front value → ⊥
+no_marker file i front value k rest s n m = n (m.every k rest s)
+
+same_by : (a b : List ℕ) (t : Bool) → bytes_eq a b ≡ t → false ≡ not t → a ≡ b
+same_by a b true e f = (bytes_eq-Decides a b).0 e
+same_by a b false e f = absurd cc
+
+pub same_bytes : (a b : List ℕ) → false ≡ not (bytes_eq a b) → a ≡ b
+same_bytes a b e = same_by a b (bytes_eq a b) refl e

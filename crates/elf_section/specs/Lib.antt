@@ -1,0 +1,8 @@
+pub mod Bytes
+pub mod First
+pub mod File
+pub mod Checks
+pub mod Symbol
+pub mod Listed
+pub mod Table
+pub mod Written

@@ -1,0 +1,57 @@
+-- The symbols of `.defmt` (ELF gABI, "Symbol Table"; defmt book, "Interning").
+use Rattle.std.specs.Prelude.{◌≡◌, ℕ, zero, suc, ◌+◌, ◌-◌, List, [], ◌∷◌, ◌==◌, ◌&&◌, slice_index, unwrap_or, Bool, Result, Ok, Err, map, Vec}
+use Rattle.std.specs.Global.{Global}
+use Rattle.std.specs.List.{filter}
+use Rattle.elf_section.specs.File.{IsDefmt, IsSymbols, count, symbol, symbol_name}
+use Rattle.elf_section.specs.Checks.{Passes, Refused, Refusal}
+use Rattle.elf_section.specs.Symbol.{PlainSymbol, plain_all}
+use Rattle.elf_section.specs.declared.fault.ElfFault.{ElfFault}
+use Rattle.elf_section.specs.declared.fault.ElfFault.TheVariants as faults
+use Rattle.elf_section.specs.declared.symbols.Symbol.{Symbol}
+
+-- n numbers from this one on
+unfoldable pub numbers : ℕ → ℕ → List ℕ
+numbers from zero = []
+numbers from (suc n) = from ∷ numbers (from + 1) n
+
+-- the name begins with `{`
+abbrev pub is_braced : List ℕ → Bool
+is_braced name = slice_index name 0 == 123
+
+-- the symbol k of the table in section i lies in section d, and its name begins with `{`
+abbrev pub is_listed : List ℕ → ℕ → ℕ → ℕ → Bool
+is_listed file d i k = ((symbol file i k).section == d) && is_braced (unwrap_or (symbol_name file i k) [])
+
+abbrev pub symbol_of : List ℕ → ℕ → ℕ → PlainSymbol
+symbol_of file i k = record { name = unwrap_or (symbol_name file i k) []; value = (symbol file i k).value }
+
+-- those of the symbols below n, but for symbol 0, in their order
+abbrev pub symbols_below : List ℕ → ℕ → ℕ → ℕ → List PlainSymbol
+symbols_below file d i n = map (symbol_of file i) (filter (is_listed file d i) (numbers 1 (n - 1)))
+
+-- the file passes, and these are the symbols of its section `.defmt`
+pub record Lists (file : List ℕ) (symbols : List PlainSymbol) : Type 0 where
+  pub passes : Passes file
+  pub defmt : ℕ
+  pub is_defmt : IsDefmt file defmt
+  pub table : ℕ
+  pub is_table : IsSymbols file table
+  pub are : symbols ≡ symbols_below file defmt table (count file table)
+
+-- the symbols, the first refusal, or want of memory
+abbrev pub ReadsSymbols : List ℕ → Result (Vec Symbol Global) ElfFault → Type 0
+ReadsSymbols file (Ok v) = Lists file (plain_all v.items)
+ReadsSymbols file (Err (faults.Refused cause part place)) = Refused file (record { cause = cause; part = part; place = place })
+ReadsSymbols file (Err faults.Memory) = Unit {0}
+
+-- these symbols, unless memory runs out
+abbrev pub GivesOnly : Result (Vec Symbol Global) ElfFault → List PlainSymbol → Type 0
+GivesOnly (Ok v) symbols = plain_all v.items ≡ symbols
+GivesOnly (Err (faults.Refused cause part place)) symbols = ⊥
+GivesOnly (Err faults.Memory) symbols = Unit {0}
+
+-- this refusal, unless memory runs out
+abbrev pub RefusesOnly : Result (Vec Symbol Global) ElfFault → Refusal → Type 0
+RefusesOnly (Ok v) refusal = ⊥
+RefusesOnly (Err (faults.Refused cause part place)) refusal = refusal ≡ record { cause = cause; part = part; place = place }
+RefusesOnly (Err faults.Memory) refusal = Unit {0}

@@ -1,0 +1,107 @@
+//! The symbols of `.defmt`.
+
+ghost use Rattle.std.specs.Prelude.{◌≡◌, ◌≤◌, ◌<◌, ◌^◌, ℕ, List, length, IfOk};
+ghost use Rattle.elf_section.specs.Checks.{Passed, Refusal, Refused};
+ghost use Rattle.elf_section.specs.Listed.{Lists, ReadsSymbols, GivesOnly, RefusesOnly, is_listed, symbol_of, symbols_below};
+ghost use Rattle.elf_section.specs.Symbol.{PlainSymbol, plain, plain_all};
+ghost use Rattle.elf_section.specs.Table.{IsOpen};
+
+use crate::fault::ElfFault;
+use crate::front::check_front;
+use crate::markers::check_markers;
+use crate::sections::{check_names, check_section_names, find_defmt, find_symbols, names_of};
+use crate::table::{SymbolTable, check_symbol_names, check_table, open_table, symbol, symbol_name};
+use dl_io::{Bytes, Memory};
+use std::alloc::Global;
+
+/// A symbol's name and value: the name that its `st_name` points to, and its `st_value`.
+#[derive(Debug, Drop)]
+pub struct Symbol {
+    pub name: Bytes,
+    pub value: u64,
+}
+
+/// Whether symbol `k` lies in section `defmt` with a name that begins with `{`.
+fn is_listed(file: &[u8], defmt: u64, table: &SymbolTable<'_>, k: u64) -> bool
+    requires open { IsOpen file.now table.now }
+    requires below { k < table.now.count }
+    ensures { result ≡ is_listed file.now defmt table.now.number k }
+{
+    symbol(file, table, k).section == defmt
+        && match symbol_name(file, table, k) {
+            Some([first, ..]) => *first == b'{',
+            _ => false,
+        }
+}
+
+fn symbol_of(alloc: Global, file: &[u8], table: &SymbolTable<'_>, k: u64) -> Result<Symbol, Memory>
+    requires open { IsOpen file.now table.now }
+    requires below { k < table.now.count }
+    ensures { IfOk result (λ s. plain s ≡ symbol_of file.now table.now.number k) }
+{
+    let name = match symbol_name(file, table, k) {
+        Some(text) => Bytes::from_slice(alloc, text)?,
+        None => Bytes::new(alloc),
+    };
+    Ok(Symbol {
+        name,
+        value: symbol(file, table, k).value,
+    })
+}
+
+fn collect(
+    alloc: Global,
+    file: &[u8],
+    defmt: u64,
+    table: &SymbolTable<'_>,
+) -> Result<Vec<Symbol>, Memory>
+    requires open { IsOpen file.now table.now }
+    ensures symbols { IfOk result (λ v. plain_all v.items ≡ symbols_below file.now defmt table.now.number table.now.count) }
+    ensures few { IfOk result (λ v. length v.items ≤ table.now.count) }
+{
+    let mut symbols = Vec::new(alloc);
+    for k in 1..table.count {
+        if is_listed(file, defmt, table, k) {
+            symbols.push(symbol_of(alloc, file, table, k)?)?;
+        }
+    }
+    Ok(symbols)
+}
+
+fn symbols_of(alloc: Global, file: &[u8]) -> Result<Vec<Symbol>, ElfFault>
+    requires { length file.now < 2 ^ 32 }
+    ensures answer { ReadsSymbols file.now result }
+    ensures few { IfOk result (λ v. length v.items ≤ length file.now) }
+{
+    check_front(file)?;
+    check_names(file)?;
+    let names = names_of(alloc, file)?;
+    check_section_names(file, &names)?;
+    let defmt = find_defmt(file, &names)?;
+    let number = find_symbols(file)?;
+    check_table(file, number)?;
+    let table = open_table(alloc, file, number)?;
+    check_symbol_names(file, &table)?;
+    check_markers(file, &table)?;
+    Ok(collect(alloc, file, defmt, &table)?)
+}
+
+/// The symbols of the section `.defmt` whose names begin with `{`, in the order of the symbol table,
+/// of an ELF32 or ELF64 file in little-endian order (ELF gABI). The file is checked first, and the
+/// first check that fails is its refusal. Time grows with the bytes of the file and of the listed
+/// names, memory with the listed names and a sixteenth of the string tables.
+pub fn read_symbols(alloc: Global, file: &[u8]) -> Result<Vec<Symbol>, ElfFault>
+    requires { length file.now < 2 ^ 32 }
+
+    // Symbols only where the file passes and lists them, and a refusal only where it is the first.
+    ensures answer { ReadsSymbols file.now result }
+
+    // Unless memory runs out, what the file lists is answered, and its refusal.
+    ensures listed { (symbols : List PlainSymbol) → Lists file.now symbols → GivesOnly result symbols }
+    ensures refused { (refusal : Refusal) → Refused file.now refusal → RefusesOnly result refusal }
+
+    // There are no more symbols than bytes.
+    ensures few { IfOk result (λ v. length v.items ≤ length file.now) }
+{
+    symbols_of(alloc, file)
+}

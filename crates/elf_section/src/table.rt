@@ -1,0 +1,138 @@
+//! The symbol table.
+
+ghost use Rattle.std.specs.Prelude.{◌≡◌, ◌≤◌, ◌<◌, ◌+◌, ◌*◌, ◌^◌, ◌/◌, length, MatchBool, IfOk};
+ghost use Rattle.std.specs.Option.{option_copied};
+ghost use Rattle.elf_section.specs.File.{header, IsSymbols, symbol, symbol_name, count};
+ghost use Rattle.elf_section.specs.Checks.{Passed, Goes, IsTable};
+ghost use Rattle.elf_section.specs.Table.{IsOpen};
+
+use crate::fault::{Cause, Fault, Part};
+use crate::file::{Class, RawSymbol, SHF_COMPRESSED, SHT_STRTAB, class_of, symbol_in};
+use crate::front::header_of;
+use crate::sections::{contents, fits, section};
+use crate::strings::StringTable;
+use std::alloc::{AllocError, Global};
+
+/// The symbol table of a file.
+#[derive(Drop)]
+pub struct SymbolTable<'a> {
+    /// The number of its section.
+    pub number: u64,
+    pub class: Class,
+    /// Where it begins in the file.
+    pub offset: u64,
+    /// How many symbols it has.
+    pub count: u64,
+    /// The strings in which the names stand.
+    pub strings: StringTable<'a>,
+}
+
+fn is_table(file: &[u8], i: u64) -> bool
+    requires passed { Passed file.now 11 }
+    requires below { i < (header file.now).shnum }
+    ensures { MatchBool result (IsTable file.now i) (IsTable file.now i → ⊥) }
+{
+    let table = section(file, i);
+    let len = class_of(file).symbol_len();
+    table.entry_size == len
+        && table.size % len == 0
+        && fits(file, &table)
+        && table.link < header_of(file).shnum
+        && section(file, table.link).kind == SHT_STRTAB
+}
+
+/// The section of the symbols, and that of their strings.
+pub fn check_table(file: &[u8], i: u64) -> Result<(), Fault>
+    requires passed { Passed file.now 11 }
+    requires symbols { IsSymbols file.now i }
+    requires small { i < 2 ^ 32 }
+    ensures { Goes file.now 14 result }
+{
+    if !is_table(file, i) {
+        return Err(Fault {
+            cause: Cause::Bounds,
+            part: Part::Symbols,
+            place: i as u32,
+        });
+    }
+    let link = section(file, i).link;
+    let strings = section(file, link);
+    if strings.flags & SHF_COMPRESSED != 0 {
+        return Err(Fault {
+            cause: Cause::NoSymbols,
+            part: Part::Nothing,
+            place: 0,
+        });
+    }
+    if !fits(file, &strings) {
+        return Err(Fault {
+            cause: Cause::Bounds,
+            part: Part::Strings,
+            place: link as u32,
+        });
+    }
+    Ok(())
+}
+
+/// How many symbols there are.
+fn count(file: &[u8], i: u64) -> u64
+    requires passed { Passed file.now 14 }
+    requires symbols { IsSymbols file.now i }
+    ensures value { result ≡ count file.now i }
+{
+    section(file, i).size / class_of(file).symbol_len()
+}
+
+/// The symbol table in section number `i`.
+pub fn open_table(alloc: Global, file: &[u8], i: u64) -> Result<SymbolTable<'_>, AllocError>
+    requires short { length file.now < 2 ^ 32 }
+    requires passed { Passed file.now 14 }
+    requires symbols { IsSymbols file.now i }
+    ensures { IfOk result (IsOpen file.now) }
+{
+    let table = section(file, i);
+    let strings = section(file, table.link);
+    Ok(SymbolTable {
+        number: i,
+        class: class_of(file),
+        offset: table.offset,
+        count: count(file, i),
+        strings: StringTable::new(alloc, contents(file, &strings))?,
+    })
+}
+
+/// Symbol number `k`.
+pub fn symbol(file: &[u8], table: &SymbolTable<'_>, k: u64) -> RawSymbol
+    requires open { IsOpen file.now table.now }
+    requires below { k < table.now.count }
+    ensures { result ≡ symbol file.now table.now.number k }
+{
+    let at = table.offset + k * table.class.symbol_len();
+    symbol_in(file, table.class, at as usize)
+}
+
+/// The name of symbol number `k`.
+pub fn symbol_name<'a>(file: &[u8], table: &'a SymbolTable<'_>, k: u64) -> Option<&'a [u8]>
+    requires open { IsOpen file.now table.now }
+    requires below { k < table.now.count }
+    ensures { option_copied result ≡ symbol_name file.now table.now.number k }
+{
+    table.strings.text_at(symbol(file, table, k).name)
+}
+
+/// The names of all symbols but the first.
+pub fn check_symbol_names(file: &[u8], table: &SymbolTable<'_>) -> Result<(), Fault>
+    requires { IsOpen file.now table.now }
+    ensures { Goes file.now 15 result }
+{
+    for k in 1..table.count {
+        if symbol_name(file, table, k).is_none() {
+            return Err(Fault {
+                cause: Cause::Bounds,
+                part: Part::SymbolName,
+                place: k as u32,
+            });
+        }
+    }
+    Ok(())
+}

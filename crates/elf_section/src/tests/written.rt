@@ -1,0 +1,154 @@
+//! What is written, and what it reads as once bytes are changed.
+
+ghost use Rattle.std.specs.Prelude.{◌≤◌, ◌≢◌, length, All, IfOk};
+ghost use Rattle.std.specs.Bool.{OnTrue};
+ghost use Rattle.elf_section.specs.Symbol.{plain_all};
+ghost use Rattle.elf_section.specs.Written.{IsWritable};
+
+use super::{HELLO, because, changed, outside, refusal, symbols};
+use crate::{Part, Symbol, write_symbols};
+use dl_io::Bytes;
+use std::alloc::Global;
+use std::test::Fail;
+
+/// The file of the one symbol `HELLO` with the value 1.
+const FILE: &[u8] = b"\x7fELF\x01\x01\x01\0\0\0\0\0\0\0\0\0\
+\x02\0\x28\0\x01\0\0\0\0\0\0\0\0\0\0\0\x10\x01\0\0\0\0\0\0\x34\0\0\0\0\0\x28\0\x05\0\x04\0\
+\0\0\0\0\0\0\0\0\0\0\0\0\0\0\0\0\
+\x01\0\0\0\x01\0\0\0\0\0\0\0\x10\0\xf1\xff\
+\x15\0\0\0\x01\0\0\0\0\0\0\0\x10\0\xf1\xff\
+\x2f\0\0\0\x01\0\0\0\0\0\0\0\x10\0\x01\0\
+\0_defmt_version_ = 4\0_defmt_encoding_ = rzcobs\0\
+{\"data\":\"hello\",\"disambiguator\":\"1\",\"package\":\"script\",\"tag\":\"defmt_info\"}\0\
+\0.defmt\0.symtab\0.strtab\0.shstrtab\0\
+\0\0\0\0\0\0\0\0\0\0\0\0\0\0\0\0\0\0\0\0\0\0\0\0\0\0\0\0\0\0\0\0\0\0\0\0\0\0\0\0\
+\x01\0\0\0\x01\0\0\0\0\0\0\0\0\0\0\0\x34\0\0\0\0\0\0\0\0\0\0\0\0\0\0\0\x01\0\0\0\0\0\0\0\
+\x08\0\0\0\x02\0\0\0\0\0\0\0\0\0\0\0\x34\0\0\0\x40\0\0\0\x03\0\0\0\x01\0\0\0\x04\0\0\0\x10\0\0\0\
+\x10\0\0\0\x03\0\0\0\0\0\0\0\0\0\0\0\x74\0\0\0\x7a\0\0\0\0\0\0\0\0\0\0\0\x01\0\0\0\0\0\0\0\
+\x18\0\0\0\x03\0\0\0\0\0\0\0\0\0\0\0\xee\0\0\0\x22\0\0\0\0\0\0\0\0\0\0\0\x01\0\0\0\0\0\0\0";
+
+/// Whether no byte is zero.
+fn is_text(name: &[u8]) -> bool
+    ensures { OnTrue result (All (λ b. b ≢ 0) name.now) }
+{
+    name.iter().all(|b| *b != 0)
+}
+
+/// Symbols of short names without a zero and of small values.
+fn list_of(alloc: Global, rows: &[(&'static [u8], u64)]) -> Result<Vec<Symbol>, Fail>
+    requires { length rows.now ≤ 16 }
+    ensures { IfOk result (λ v. IsWritable (plain_all v.items)) }
+{
+    let mut list = Vec::new(alloc);
+    for row in rows {
+        let (name, value) = *row;
+        if name.len() > 1000 || value > 65535 || !is_text(name) {
+            return Err(Fail::new("no symbol of this kind"));
+        }
+        let name = Bytes::from_slice(alloc, name)?;
+        list.push(Symbol { name, value })?;
+    }
+    Ok(list)
+}
+
+#[test]
+fn one_symbol_makes_472_bytes_that_are_read_back(rt: HostRuntime) -> Result<(), Fail> {
+    let alloc = rt.alloc();
+    let list = list_of(alloc, &[(HELLO, 1)])?;
+    let file = write_symbols(alloc, &list)?;
+    assert_eq!(rt; file.len(), 472);
+    assert_eq!(rt; file.as_slice(), FILE);
+    let read = symbols(alloc, file.as_slice())?;
+    assert_eq!(rt; read.len(), 1);
+    assert_eq!(rt; read[0].name.as_slice(), HELLO);
+    assert_eq!(rt; read[0].value, 1);
+    Ok(())
+}
+
+#[test]
+fn of_several_symbols_those_with_a_brace_are_read_back(rt: HostRuntime) -> Result<(), Fail> {
+    let alloc = rt.alloc();
+    let list = list_of(
+        alloc,
+        &[(b"{b}", 7), (b"plain", 3), (b"{", 65535), (b"", 1)],
+    )?;
+    let file = write_symbols(alloc, &list)?;
+    let read = symbols(alloc, file.as_slice())?;
+    assert_eq!(rt; read.len(), 2);
+    assert_eq!(rt;
+        (read[0].name.as_slice(), read[0].value),
+        (b"{b}".as_slice(), 7)
+    );
+    assert_eq!(rt;
+        (read[1].name.as_slice(), read[1].value),
+        (b"{".as_slice(), 65535)
+    );
+    let none = write_symbols(alloc, &list_of(alloc, &[])?)?;
+    assert_eq!(rt; symbols(alloc, none.as_slice())?.len(), 0);
+    Ok(())
+}
+
+#[test]
+fn a_name_of_another_version_is_written_and_then_refused(rt: HostRuntime) -> Result<(), Fail> {
+    let alloc = rt.alloc();
+    let list = list_of(alloc, &[(b"_defmt_version_ = 5", 1)])?;
+    let file = write_symbols(alloc, &list)?;
+    assert_eq!(rt; refusal(alloc, file.as_slice()), because(7));
+    Ok(())
+}
+
+#[test]
+fn a_front_of_the_file_is_refused(rt: HostRuntime) {
+    let alloc = rt.alloc();
+    assert_eq!(rt; refusal(alloc, b""), because(1));
+    for (len, want) in [
+        (15, because(1)),
+        (51, outside(Part::Header, 0)),
+        (471, outside(Part::Sections, 0)),
+        (472, None),
+    ] {
+        assert!(rt; len <= FILE.len());
+        assert_eq!(rt; refusal(alloc, &FILE[..len]), want, "the first {len} bytes");
+    }
+}
+
+#[test]
+fn a_changed_byte_gives_its_refusal(rt: HostRuntime) -> Result<(), Fail> {
+    let alloc = rt.alloc();
+    for (at, byte, want) in [
+        (4, 0x03, because(2)),
+        (5, 0x02, because(3)),
+        (46, 0x40, outside(Part::Header, 1)),
+        (48, 0x00, because(5)),
+        (50, 0x05, outside(Part::Names, 5)),
+        (239, 0x78, because(5)),
+        (312, 0x22, outside(Part::SectionName, 1)),
+        (356, 0x01, because(6)),
+        (361, 0x08, because(6)),
+        (388, 0x18, outside(Part::Symbols, 2)),
+        (376, 0x01, outside(Part::Symbols, 2)),
+        (135, 0x33, because(7)),
+        (156, 0x52, because(8)),
+    ] {
+        let file = changed(alloc, FILE, at, &[byte])?;
+        assert_eq!(rt; refusal(alloc, &file), want, "byte {at}");
+    }
+    Ok(())
+}
+
+#[test]
+fn a_changed_symbol_is_read_as_it_stands(rt: HostRuntime) -> Result<(), Fail> {
+    let alloc = rt.alloc();
+    // Without its brace the name isn't listed.
+    let file = changed(alloc, FILE, 163, b"x")?;
+    assert_eq!(rt; symbols(alloc, &file)?.len(), 0);
+    let file = changed(alloc, FILE, 164, b" ")?;
+    let read = symbols(alloc, &file)?;
+    assert_eq!(rt; read.len(), 1);
+    assert_eq!(rt; read[0].name.as_slice().get(1), Some(&b' '));
+    let file = changed(alloc, FILE, 106, &[1])?;
+    let read = symbols(alloc, &file)?;
+    assert_eq!(rt; read.len(), 1);
+    assert_eq!(rt; read[0].value, 0x10001);
+    Ok(())
+}

@@ -1,0 +1,179 @@
+//! Writing the file.
+
+ghost use Rattle.std.specs.Prelude.{◌≡◌, ◌≤◌, ◌<◌, ◌+◌, ◌*◌, ◌^◌, [], ◌∷◌, ◌++◌, length, replicate, IfOk, OnOk};
+ghost use Rattle.elf_section.specs.Written.{half, word, symbol_bytes, section_bytes, header_bytes, symbol_table, string_table, headers_for, names, written, IsWritable, AreBraced, braced, KeepsMarkers};
+ghost use Rattle.elf_section.specs.Listed.{Lists};
+ghost use Rattle.elf_section.specs.Symbol.{plain_all};
+
+use crate::symbols::Symbol;
+use byteorder::{ByteOrder, LittleEndian};
+use dl_io::{Bytes, Memory};
+use std::alloc::Global;
+
+#[tactic(auto, unfolding(crate::specs::Written::half))]
+fn push_half(out: &mut Bytes, number: u16) -> Result<(), Memory>
+    ensures { OnOk result (out.new.items ≡ out.old.items ++ half number) }
+{
+    let mut bytes = [0; 2];
+    LittleEndian::write_u16(&mut bytes, number);
+    out.extend_from_slice(&bytes)
+}
+
+#[tactic(auto, unfolding(crate::specs::Written::word))]
+fn push_word(out: &mut Bytes, number: u32) -> Result<(), Memory>
+    ensures { OnOk result (out.new.items ≡ out.old.items ++ word number) }
+{
+    let mut bytes = [0; 4];
+    LittleEndian::write_u32(&mut bytes, number);
+    out.extend_from_slice(&bytes)
+}
+
+/// The ELF header, with the place of the section headers.
+fn push_header(out: &mut Bytes, shoff: u32) -> Result<(), Memory>
+    ensures { OnOk result (out.new.items ≡ out.old.items ++ header_bytes shoff) }
+{
+    out.extend_from_slice(b"\x7fELF\x01\x01\x01\0\0\0\0\0\0\0\0\0")?;
+    push_half(out, 2)?;
+    push_half(out, 40)?;
+    push_word(out, 1)?;
+    push_word(out, 0)?;
+    push_word(out, 0)?;
+    push_word(out, shoff)?;
+    push_word(out, 0)?;
+    push_half(out, 52)?;
+    push_half(out, 0)?;
+    push_half(out, 0)?;
+    push_half(out, 40)?;
+    push_half(out, 5)?;
+    push_half(out, 4)?;
+    Ok(())
+}
+
+/// An entry of the symbol table: the place of the name, the value, `st_info` and the section.
+fn push_symbol(out: &mut Bytes, name: u32, value: u32, info: u8, section: u16) -> Result<(), Memory>
+    ensures { OnOk result (out.new.items ≡ out.old.items ++ symbol_bytes name value info section) }
+{
+    push_word(out, name)?;
+    push_word(out, value)?;
+    push_word(out, 0)?;
+    out.push(info)?;
+    out.push(0)?;
+    push_half(out, section)?;
+    Ok(())
+}
+
+/// A section header: the place of the name and the type, the section's place and size, `sh_link` and
+/// `sh_info`, the alignment and the size of an entry.
+fn push_section(
+    out: &mut Bytes,
+    name: (u32, u32),
+    part: (u32, u32),
+    links: (u32, u32),
+    units: (u32, u32),
+) -> Result<(), Memory>
+    ensures { OnOk result (out.new.items ≡ out.old.items ++ section_bytes name.0 name.1 part.0 part.1 links.0 links.1 units.0 units.1) }
+{
+    push_word(out, name.0)?;
+    push_word(out, name.1)?;
+    push_word(out, 0)?;
+    push_word(out, 0)?;
+    push_word(out, part.0)?;
+    push_word(out, part.1)?;
+    push_word(out, links.0)?;
+    push_word(out, links.1)?;
+    push_word(out, units.0)?;
+    push_word(out, units.1)?;
+    Ok(())
+}
+
+/// How many bytes the names have, each with its zero.
+fn names_len(symbols: &[Symbol]) -> u32
+    requires { IsWritable (plain_all symbols.now) }
+    ensures { result ≡ length (names (plain_all symbols.now)) }
+{
+    let mut len = 0;
+    for symbol in symbols {
+        len += symbol.name.as_slice().len() as u32 + 1;
+    }
+    len
+}
+
+/// The symbol table: the null symbol, the two markers and the list.
+fn push_symbols(out: &mut Bytes, symbols: &[Symbol]) -> Result<(), Memory>
+    requires { IsWritable (plain_all symbols.now) }
+    ensures { OnOk result (out.new.items ≡ out.old.items ++ symbol_table (plain_all symbols.now)) }
+{
+    push_symbol(out, 0, 0, 0, 0)?;
+    push_symbol(out, 1, 1, 16, 0xfff1)?;
+    push_symbol(out, 21, 1, 16, 0xfff1)?;
+    let mut at = 47;
+    for symbol in symbols {
+        push_symbol(out, at, symbol.value as u32, 16, 1)?;
+        at += symbol.name.as_slice().len() as u32 + 1;
+    }
+    Ok(())
+}
+
+/// The strings of the symbol table.
+fn push_strings(out: &mut Bytes, symbols: &[Symbol]) -> Result<(), Memory>
+    ensures { OnOk result (out.new.items ≡ out.old.items ++ string_table (plain_all symbols.now)) }
+{
+    out.extend_from_slice(b"\0_defmt_version_ = 4\0_defmt_encoding_ = rzcobs\0")?;
+    for symbol in symbols {
+        out.extend_from_slice(symbol.name.as_slice())?;
+        out.push(0)?;
+    }
+    Ok(())
+}
+
+/// At most three zeros.
+fn push_zeros(out: &mut Bytes, count: u32) -> Result<(), Memory>
+    requires { count ≤ 3 }
+    ensures { OnOk result (out.new.items ≡ out.old.items ++ replicate count 0) }
+{
+    out.extend_from_slice(&[0; 3][..count as usize])?;
+    Ok(())
+}
+
+/// The five section headers: none, `.defmt`, `.symtab`, `.strtab` and `.shstrtab`.
+fn push_sections(out: &mut Bytes, count: u32, strings: u32) -> Result<(), Memory>
+    requires count { count ≤ 65536 }
+    requires strings { strings < 2 ^ 31 }
+    ensures { OnOk result (out.new.items ≡ out.old.items ++ headers_for count strings) }
+{
+    let table = 48 + 16 * count;
+    push_section(out, (0, 0), (0, 0), (0, 0), (0, 0))?;
+    push_section(out, (1, 1), (52, 0), (0, 0), (1, 0))?;
+    push_section(out, (8, 2), (52, table), (3, 1), (4, 16))?;
+    push_section(out, (16, 3), (52 + table, strings), (0, 0), (1, 0))?;
+    push_section(out, (24, 3), (52 + table + strings, 34), (0, 0), (1, 0))?;
+    Ok(())
+}
+
+/// The ELF32 file with these symbols in its section `.defmt`, in their order, and the two marker
+/// symbols in front of them. There are at most 65,536 symbols, each value is at most 65,535, no name
+/// has a zero byte, and all names together have at most 1 GiB.
+pub fn write_symbols(alloc: Global, list: &[Symbol]) -> Result<Bytes, Memory>
+    requires { IsWritable (plain_all list.now) }
+    ensures bytes { IfOk result (λ file. file.items ≡ written (plain_all list.now)) }
+
+    // Where no name speaks of another version or encoding, the file passes all checks and lists
+    // those of the symbols whose names begin with `{`. Where each name does, it lists them all.
+    ensures read_back { IfOk result (λ file. KeepsMarkers (plain_all list.now) → Lists file.items (braced (plain_all list.now))) }
+    ensures read_back_whole { IfOk result (λ file. AreBraced (plain_all list.now) → Lists file.items (plain_all list.now)) }
+{
+    let count = list.len() as u32;
+    let strings = 47 + names_len(list);
+    let names_at = 52 + 48 + 16 * count + strings;
+    let padding = (4 - (names_at + 34) % 4) % 4;
+    let sections_at = names_at + 34 + padding;
+    let mut file = Bytes::new(alloc);
+    file.reserve(sections_at as usize + 200)?;
+    push_header(&mut file, sections_at)?;
+    push_symbols(&mut file, list)?;
+    push_strings(&mut file, list)?;
+    file.extend_from_slice(b"\0.defmt\0.symtab\0.strtab\0.shstrtab\0")?;
+    push_zeros(&mut file, padding)?;
+    push_sections(&mut file, count, strings)?;
+    Ok(file)
+}

@@ -1,0 +1,5 @@
+pub mod Answers
+pub mod EntriesLaws
+pub mod ListedLaws
+pub mod NameTextLaws
+pub mod TableLaws

@@ -1,0 +1,12 @@
+use Rattle.std.proofs.Common.{◌≡◌, ap, sym, subst, arith, List, length}
+use Rattle.elf_section.specs.Symbol.{plain_all}
+use Rattle.elf_section.specs.declared.symbols.Symbol.{Symbol}
+use Rattle.elf_table.specs.Names.{Makes}
+use Rattle.elf_table.proofs.Answers.{reads_by_making}
+use Rattle.elf_table.proofs.reading.load.Goals as goal
+
+pub table_of-requires : goal.table_of-requires
+table_of-requires c = rw c.deref.ensures.value (let few = c.in-Ok.ensures.few in omega (arith, few))
+
+pub returns-in-Ok : goal.returns-in-Ok
+returns-in-Ok c = reads_by_making c.args.file.now (plain_all c.in-Ok.symbols.items) c.table_of.result c.in-Ok.ensures.answer (subst (λ (s : List Symbol). Makes (plain_all s) c.table_of.result) c.deref.ensures.value c.table_of.ensures)

@@ -1,0 +1,135 @@
+-- The table that symbols name (defmt book, "Interning": a symbol of `.defmt` has the entry as its name and the index as its value).
+use Rattle.std.specs.Prelude.{◌≡◌, ◌≢◌, ◌≤◌, ◌<◌, ◌⊎◌, ℕ, List, length, Option, Some, None, slice_get, Result, Ok, Err, ⊤}
+use Rattle.std.specs.FinMap as map
+use Rattle.defmt_intern.specs.declared.entry.Entry.{Entry}
+use Rattle.defmt_intern.specs.declared.entry.Tag.TheVariants.{Timestamp}
+use Rattle.defmt_intern.specs.Name.{Names}
+use Rattle.defmt_intern.specs.Table.{Map, InsertRefused}
+use Rattle.elf_section.specs.First.{Place, FirstToFail}
+use Rattle.elf_section.specs.Checks.{Refused}
+use Rattle.elf_section.specs.Listed.{Lists}
+use Rattle.elf_section.specs.Symbol.{PlainSymbol}
+use Rattle.elf_table.specs.declared.fault.LoadFault.{LoadFault}
+use Rattle.elf_table.specs.declared.fault.LoadFault.TheVariants as faults
+use Rattle.elf_table.specs.declared.fault.Cause.{Cause}
+use Rattle.elf_table.specs.declared.fault.Cause.TheVariants as causes
+use Rattle.elf_table.specs.declared.fault.StepFault.{StepFault}
+use Rattle.elf_table.specs.declared.fault.StepFault.TheVariants as steps
+
+-- symbol number p of the list
+abbrev pub At : List PlainSymbol → ℕ → PlainSymbol → Type 0
+At symbols p s = slice_get symbols p ≡ Some s
+
+-- ---- the checks of the symbols, one symbol after another
+
+pub data NameCheck : Type 0 where
+  has_entry : ℕ → NameCheck
+  is_small : ℕ → NameCheck
+  is_single : ℕ → NameCheck
+  is_short : ℕ → NameCheck
+  is_one_stamp : ℕ → NameCheck
+
+abbrev pub place : NameCheck → Place
+place (has_entry p) = record { row = p; index = 0 }
+place (is_small p) = record { row = p; index = 1 }
+place (is_single p) = record { row = p; index = 2 }
+place (is_short p) = record { row = p; index = 3 }
+place (is_one_stamp p) = record { row = p; index = 4 }
+
+abbrev pub cause_of : NameCheck → ℕ
+cause_of (has_entry p) = 3
+cause_of (is_small p) = 6
+cause_of (is_single p) = 2
+cause_of (is_short p) = 4
+cause_of (is_one_stamp p) = 5
+
+abbrev pub Holds : List PlainSymbol → NameCheck → Type 0
+-- its name reads as an entry
+Holds symbols (has_entry p) = (s : PlainSymbol) → At symbols p s → (e : Entry) × Names s.name e
+-- its value is an index
+Holds symbols (is_small p) = (s : PlainSymbol) → At symbols p s → s.value ≤ 65535
+-- no earlier symbol has its value
+Holds symbols (is_single p) = (s : PlainSymbol) → At symbols p s → (q : ℕ) (t : PlainSymbol) → q < p → At symbols q t → t.value ≢ s.value
+-- its text isn't too long
+Holds symbols (is_short p) = (s : PlainSymbol) (e : Entry) → At symbols p s → Names s.name e → length e.text ≤ 4096
+-- if it is the timestamp's, no earlier one is
+Holds symbols (is_one_stamp p) = (s : PlainSymbol) (e : Entry) → At symbols p s → Names s.name e → e.tag ≡ Timestamp → (q : ℕ) (t : PlainSymbol) (f : Entry) → q < p → At symbols q t → Names t.name f → f.tag ≢ Timestamp
+
+-- ---- the file's table, and its refusals
+
+-- the table has exactly the pairs of the symbols' values and entries
+pub record IsTableOf (symbols : List PlainSymbol) (table : Map) : Type 0 where
+  pub passes : (check : NameCheck) → Holds symbols check
+  pub each : (p : ℕ) (s : PlainSymbol) (e : Entry) → At symbols p s → Names s.name e → map.get table s.value ≡ Some e
+  pub only : (i : ℕ) (e : Entry) → map.get table i ≡ Some e → (p : ℕ) × (s : PlainSymbol) × At symbols p s × (s.value ≡ i) × Names s.name e
+
+-- the first refusal of the symbols
+pub record NamesRefused (symbols : List PlainSymbol) (cause : ℕ) (symbol : ℕ) : Type 0 where
+  pub check : NameCheck
+  pub first : FirstToFail place (Holds symbols) check
+  pub cause_is : cause ≡ cause_of check
+  pub symbol_is : symbol ≡ (place check).row
+
+-- the file names the table
+pub record NamesTable (file : List ℕ) (table : Map) : Type 0 where
+  pub symbols : List PlainSymbol
+  pub lists : Lists file symbols
+  pub table_of : IsTableOf symbols table
+
+-- one of its symbols is refused
+pub record SymbolRefused (file : List ℕ) (cause symbol : ℕ) : Type 0 where
+  pub symbols : List PlainSymbol
+  pub lists : Lists file symbols
+  pub refused : NamesRefused symbols cause symbol
+
+-- ---- answers
+
+abbrev pub ReadsTable : List ℕ → Result Map LoadFault → Type 0
+ReadsTable file (Ok table) = NamesTable file table
+ReadsTable file (Err (faults.Elf cause part place)) = Refused file (record { cause = cause; part = part; place = place })
+ReadsTable file (Err (faults.Names cause symbol)) = SymbolRefused file cause symbol
+ReadsTable file (Err faults.Memory) = Unit {0}
+
+-- this answer, unless memory runs out
+abbrev pub AnswersOnly : Result Map LoadFault → Result Map LoadFault → Type 0
+AnswersOnly (Ok table) wanted = Ok table ≡ wanted
+AnswersOnly (Err (faults.Elf cause part place)) wanted = Err (faults.Elf cause part place) ≡ wanted
+AnswersOnly (Err (faults.Names cause symbol)) wanted = Err (faults.Names cause symbol) ≡ wanted
+AnswersOnly (Err faults.Memory) wanted = Unit {0}
+
+-- ---- for private clauses
+
+-- the table of the symbols below n
+pub record Made (symbols : List PlainSymbol) (n : ℕ) (table : Map) : Type 0 where
+  pub passed : (check : NameCheck) → (place check).row < n → Holds symbols check
+  pub each : (p : ℕ) (s : PlainSymbol) (e : Entry) → p < n → At symbols p s → Names s.name e → map.get table s.value ≡ Some e
+  pub only : (i : ℕ) (e : Entry) → map.get table i ≡ Some e → (p : ℕ) × (s : PlainSymbol) × (p < n) × At symbols p s × (s.value ≡ i) × Names s.name e
+
+abbrev pub cause_number : Cause → ℕ
+cause_number causes.Name = 3
+cause_number causes.Index = 6
+cause_number (causes.Insert cause) = cause
+
+abbrev pub IsUnread : PlainSymbol → Type 0
+IsUnread s = (e : Entry) → Names s.name e → ⊥
+
+abbrev pub StepRefused : Map → PlainSymbol → ℕ → Type 0
+StepRefused table s cause = ((cause ≡ 3) × IsUnread s) ⊎ (((cause ≡ 6) × (65535 < s.value) × ((e : Entry) × Names s.name e)) ⊎ ((e : Entry) × Names s.name e × (s.value ≤ 65535) × InsertRefused table s.value e cause))
+
+pub record Puts (old new : Map) (s : PlainSymbol) : Type 0 where
+  pub entry : Entry
+  pub names : Names s.name entry
+  pub small : s.value ≤ 65535
+  pub new_is : new ≡ map.insert old s.value entry
+  pub may : (cause : ℕ) → InsertRefused old s.value entry cause → ⊥
+
+abbrev pub Steps : Map → PlainSymbol → Result ⊤ StepFault → Map → Type 0
+Steps old s (Ok done) new = Puts old new s
+Steps old s (Err (steps.Refused cause)) new = StepRefused old s (cause_number cause)
+Steps old s (Err steps.Memory) new = Unit {0}
+
+abbrev pub Makes : List PlainSymbol → Result Map LoadFault → Type 0
+Makes symbols (Ok table) = Made symbols (length symbols) table
+Makes symbols (Err (faults.Elf cause part place)) = ⊥
+Makes symbols (Err (faults.Names cause symbol)) = NamesRefused symbols cause symbol
+Makes symbols (Err faults.Memory) = Unit {0}

@@ -1,0 +1,88 @@
+//! The table that a file names.
+
+ghost use Rattle.std.specs.Prelude.{◌≡◌, ◌<◌, ◌^◌, ℕ, length, Ok, Err};
+ghost use Rattle.defmt_intern.specs.Table.{Map};
+ghost use Rattle.elf_section.specs.Checks.{Refusal, Refused};
+ghost use Rattle.elf_section.specs.Symbol.{plain, plain_all};
+ghost use Rattle.elf_table.specs.Names.{ReadsTable, AnswersOnly, NamesTable, SymbolRefused, Steps, Makes};
+ghost use Rattle.elf_table.specs.declared.fault.LoadFault.TheVariants.{Elf as OfElf, Names as OfNames};
+
+use crate::fault::{Cause, LoadFault, StepFault};
+use defmt_intern::{NameFault, Table, TableFault, read_name};
+use elf_section::{ElfFault, Symbol, read_symbols};
+use std::alloc::Global;
+
+/// Puts the entry that a symbol names into the table.
+fn put_symbol(alloc: Global, table: &mut Table, symbol: &Symbol) -> Result<(), StepFault>
+    ensures { Steps table.old (plain symbol.now) result table.new }
+{
+    let entry = match read_name(alloc, symbol.name.as_slice()) {
+        Ok(entry) => entry,
+        Err(NameFault::Memory) => return Err(StepFault::Memory),
+        Err(_) => return Err(StepFault::Refused { cause: Cause::Name }),
+    };
+    if symbol.value > 65535 {
+        return Err(StepFault::Refused {
+            cause: Cause::Index,
+        });
+    }
+    match table.insert(symbol.value as u16, entry) {
+        Ok(()) => Ok(()),
+        Err(TableFault::Refused { cause }) => Err(StepFault::Refused {
+            cause: Cause::Insert(cause),
+        }),
+        Err(TableFault::Memory) => Err(StepFault::Memory),
+    }
+}
+
+/// The table of these symbols.
+fn table_of(alloc: Global, symbols: &[Symbol]) -> Result<Table, LoadFault>
+    requires { length symbols.now < 2 ^ 32 }
+    ensures { Makes (plain_all symbols.now) result }
+{
+    let mut table = Table::new(alloc);
+    for (p, symbol) in symbols.iter().enumerate() {
+        match put_symbol(alloc, &mut table, symbol) {
+            Ok(()) => {}
+            Err(StepFault::Refused { cause }) => {
+                return Err(LoadFault::Names {
+                    cause: cause.number(),
+                    symbol: p as u32,
+                });
+            }
+            Err(StepFault::Memory) => return Err(LoadFault::Memory),
+        }
+    }
+    Ok(table)
+}
+
+fn load(alloc: Global, file: &[u8]) -> Result<Table, LoadFault>
+    requires { length file.now < 2 ^ 32 }
+    ensures { ReadsTable file.now result }
+{
+    match read_symbols(alloc, file) {
+        Ok(symbols) => table_of(alloc, &symbols),
+        Err(ElfFault::Refused { cause, part, place }) => Err(LoadFault::Elf { cause, part, place }),
+        Err(ElfFault::Memory) => Err(LoadFault::Memory),
+    }
+}
+
+/// The table that a file names: the symbols of its section `.defmt` whose names begin with `{` are its entries, each at
+/// the index that is the symbol's value (defmt book, "Interning"; ELF gABI, "Symbol Table").
+///
+/// The file is checked first, then its symbols one after another. The first refusal is answered.
+pub fn read_table(alloc: Global, file: &[u8]) -> Result<Table, LoadFault>
+    requires { length file.now < 2 ^ 32 }
+
+    // A table only where the file names it, and a refusal only where it is the first.
+    ensures answer { ReadsTable file.now result }
+
+    // Unless memory runs out, the table that the file names is answered, and its refusal.
+    ensures named { (table : Map) → NamesTable file.now table → AnswersOnly result (Ok table) }
+    ensures elf { (refusal : Refusal) → Refused file.now refusal
+        → AnswersOnly result (Err (OfElf refusal.cause refusal.part refusal.place)) }
+    ensures names { (cause symbol : ℕ) → SymbolRefused file.now cause symbol
+        → AnswersOnly result (Err (OfNames cause symbol)) }
+{
+    load(alloc, file)
+}

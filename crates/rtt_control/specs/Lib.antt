@@ -1,0 +1,4 @@
+pub mod Checks
+pub mod Control
+pub mod Ids
+pub mod Layout

@@ -1,0 +1,20 @@
+//! The control block of SEGGER RTT in a memory image of a target of 32 bits: found by its ID, read,
+//! written, and the bytes that wait in one of its buffers.
+//!
+//! An image is a slice of bytes with a base address, the address of its first byte. The place of an
+//! address in the image is the address less the base.
+#![tactic(auto)]
+
+mod block;
+mod bytes;
+mod calls;
+mod checks;
+mod fault;
+
+pub use block::{Block, Descriptor, Descriptors};
+pub use bytes::{ID, put, put_descriptor, put_words};
+pub use calls::{find, read, unread, write};
+pub use fault::{Cause, ControlFault};
+
+#[cfg(test)]
+mod tests;

@@ -1,0 +1,15 @@
+//! Three ways to send a frame through a ring.
+//!
+//! Each looks how much room the ring has. [`skip`] sends a frame whole or not at all, [`trim`] cuts the tail that
+//! doesn't fit, and [`block`] sends the frame in pieces until all of it is sent. They are the modes that a buffer's
+//! flags name (SEGGER RTT, the buffer's flags): 0 skip, 1 trim, 2 block.
+#![tactic(auto)]
+
+mod fate;
+mod modes;
+
+pub use fate::{Fate, Relief};
+pub use modes::{block, skip, trim};
+
+#[cfg(test)]
+mod tests;

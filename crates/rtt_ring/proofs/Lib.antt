@@ -1,0 +1,5 @@
+pub mod Residues
+pub mod Rounds
+pub mod Stores
+pub mod Blocks
+pub mod Kept

@@ -1,0 +1,74 @@
+-- What contracts see of the two ends of a ring, and what each call does to it.
+use Rattle.std.specs.Prelude.{◌≡◌, ℕ, ◌+◌, ◌-◌, ◌≤◌, Bool, true, List, [], ◌++◌, length}
+
+-- the upper end. Numbers of bytes are since the split
+pub record Up : Type 0 where
+  -- the name of the split that the end comes from
+  pub split : List ℕ
+  -- the ring's size in bytes
+  pub size : ℕ
+  -- all bytes published so far
+  pub sent : List ℕ
+  -- the bytes put and not published
+  pub staged : List ℕ
+  -- how many bytes may be put
+  pub room : ℕ
+  -- how many looks were made
+  pub looks : ℕ
+  -- how many bytes the last look found released; 0 before the first look, and where the ring doesn't tell it
+  pub freed : ℕ
+  -- whether the ring tells how many bytes were released
+  pub tells : Bool
+
+-- the lower end
+pub record Down : Type 0 where
+  pub split : List ℕ
+  pub size : ℕ
+  -- all bytes taken so far
+  pub got : List ℕ
+  -- how many bytes the last look found published
+  pub found : ℕ
+  pub looks : ℕ
+
+-- the two ends of a ring that is new
+abbrev pub new_up : List ℕ → ℕ → Bool → Up
+new_up split size tells =
+    record { split = split; size = size; sent = []; staged = []; room = 0; looks = 0; freed = 0; tells = tells }
+
+abbrev pub new_down : List ℕ → ℕ → Down
+new_down split size = record { split = split; size = size; got = []; found = 0; looks = 0 }
+
+-- what holds of every upper end: no byte is released that wasn't sent, and equal offsets mean an empty ring, so
+-- at most one byte fewer than the size is in use
+pub record IsBounded (u : Up) : Type 0 where
+  pub within : u.freed ≤ length u.sent
+  pub fits : u.tells ≡ true → length u.sent + length u.staged + 1 ≤ u.freed + u.size
+
+-- a look of the upper end, from u to v: looks, room and freed change, and nothing else
+pub record Looked (u v : Up) : Type 0 where
+  pub same : v ≡ record u { looks = u.looks + 1; room = v.room; freed = v.freed }
+  pub later : u.freed ≤ v.freed
+  pub within : v.freed ≤ length u.sent
+  pub told : u.tells ≡ true → v.room + length u.sent + 1 ≡ v.freed + u.size
+
+-- bytes are put
+abbrev pub put_up : Up → List ℕ → Up
+put_up u bytes = record u { staged = u.staged ++ bytes; room = u.room - length bytes }
+
+-- what is staged is published
+abbrev pub published : Up → Up
+published u = record u { sent = u.sent ++ u.staged; staged = [] }
+
+-- a look of the lower end that takes some bytes, from d to e
+pub record Took (d e : Down) (taken : List ℕ) : Type 0 where
+  pub same : e ≡ record d { got = d.got ++ taken; found = e.found; looks = d.looks + 1 }
+  pub later : d.found ≤ e.found
+  pub reached : length d.got ≤ e.found
+
+-- v is the same upper end as u, nothing is staged, and what it knows of the reader didn't fall
+pub record UpKept (u v : Up) : Type 0 where
+  pub split : v.split ≡ u.split
+  pub size : v.size ≡ u.size
+  pub tells : v.tells ≡ u.tells
+  pub staged : v.staged ≡ []
+  pub later : u.freed ≤ v.freed

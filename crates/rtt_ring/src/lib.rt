@@ -1,0 +1,21 @@
+//! The rings that carry bytes from a device to its host.
+//!
+//! A ring has two ends. The upper end belongs to the one that writes: it looks how much room there is, puts bytes
+//! and publishes them. The lower end belongs to the one that reads: it takes published bytes and so gives their
+//! places back. [`UpEnd`], [`DownEnd`] and [`Channel`] say what each call does, whatever the ring is made of.
+//! [`PlainRing`] is a ring of one owner whose bytes lie in a memory image, behind an RTT control block.
+#![tactic(auto)]
+
+mod ends;
+mod image;
+mod journal;
+mod plain;
+mod settled;
+
+pub use ends::{Channel, DownEnd, RingFault, UpEnd};
+pub use image::IMAGE_BASE;
+pub use plain::PlainRing;
+pub use settled::{RingKind, Settled};
+
+#[cfg(test)]
+mod tests;
