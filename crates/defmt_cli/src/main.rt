@@ -1,4 +1,5 @@
-//! The program `defmtl`: it reads a script from the standard input and prints its lines to the standard output.
+//! The program `defmtl`: it does what its words ask for, from the standard input and the files of the working folder to the
+//! standard output.
 #![tactic(auto)]
 
 use defmt_run::{Fault, OpenGate, session};

@@ -11,3 +11,4 @@ pub mod Slots
 pub mod Positions
 pub mod Whole
 pub mod Print
+pub mod Sizes

@@ -7,7 +7,7 @@ use Rattle.defmt_grammar.specs.declared.hint.Base.TheVariants.{Hex, HexUpper, Bi
 use Rattle.defmt_grammar.specs.declared.hint.Hint.{Hint}
 use Rattle.defmt_grammar.specs.declared.hint.Hint.TheVariants.{Plain, Debug, Radix, Ascii, Micros, Millis}
 use Rattle.defmt_grammar.specs.declared.kind.IntSize.{IntSize}
-use Rattle.defmt_grammar.specs.declared.kind.IntSize.TheVariants.{W8, W16, W32, W64, W128, Native}
+use Rattle.defmt_grammar.specs.Sizes.{size_bits}
 use Rattle.defmt_hints.specs.Digits.{number_text, zero_filled}
 use Rattle.defmt_hints.specs.Escapes.{quoted_text, byte_text}
 
@@ -60,20 +60,6 @@ printed_uint n Millis = fraction_text 1000 3 n
 abbrev pub printed_bits : ℕ → ℕ → ℕ → Hint → List ℕ
 printed_bits n lo hi hint = printed_uint (n / 2 ^ lo % 2 ^ (hi - lo)) hint
 
--- how many bits a size has; native integers are those of a 32-bit device
-abbrev pub bits_of : IntSize → ℕ
-bits_of W8 = 8
-bits_of W16 = 16
-bits_of W32 = 32
-bits_of W64 = 64
-bits_of W128 = 128
-bits_of Native = 32
-
--- a signed number of the size
-abbrev pub IsOfSize : IntSize → ℤ → Type 0
-IsOfSize size (pos n) = n < 2 ^ (bits_of size - 1)
-IsOfSize size (negsuc n) = n < 2 ^ (bits_of size - 1)
-
 -- the number of so many bits that differs from z by 0 or by 2 ^ bits
 abbrev pub twos_complement : ℕ → ℤ → ℕ
 twos_complement bits (pos n) = n
@@ -87,7 +73,7 @@ signed_text (negsuc n) = codes "-" ++ decimal_text (suc n)
 unfoldable pub printed_int : ℤ → IntSize → Hint → List ℕ
 printed_int z size Plain = signed_text z
 printed_int z size Debug = signed_text z
-printed_int z size (Radix base alt width) = radix_text base alt width (twos_complement (bits_of size) z)
+printed_int z size (Radix base alt width) = radix_text base alt width (twos_complement (size_bits size) z)
 printed_int z size Ascii = signed_text z
 printed_int z size Micros = signed_text z
 printed_int z size Millis = signed_text z

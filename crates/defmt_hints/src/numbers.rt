@@ -2,7 +2,8 @@
 
 ghost use Rattle.std.specs.Prelude.{◌≡◌, ◌<◌, ◌+◌, ◌^◌, length};
 ghost use Rattle.defmt_hints.specs.Appends.{Appends};
-ghost use Rattle.defmt_hints.specs.Printed.{bits_of, IsOfSize, twos_complement, base_number, base_prefix, is_upper, prefix_text, radix_text, fraction_text, decimal_text, signed_text, printed_uint, printed_int};
+ghost use Rattle.defmt_grammar.specs.Sizes.{size_bits, IsSigned};
+ghost use Rattle.defmt_hints.specs.Printed.{twos_complement, base_number, base_prefix, is_upper, prefix_text, radix_text, fraction_text, decimal_text, signed_text, printed_uint, printed_int};
 
 use crate::digits::{push, push_digits};
 use defmt_grammar::{Base, Hint, IntSize, Memory, Text};
@@ -91,7 +92,7 @@ pub fn show_uint(value: u128, hint: &Hint, out: &mut Text) -> Result<(), Memory>
 
 /// The greatest number of as many bits as the size has.
 fn greatest(size: IntSize) -> u128
-    ensures { result + 1 ≡ 2 ^ bits_of size }
+    ensures { result + 1 ≡ 2 ^ size_bits size }
 {
     match size {
         IntSize::W8 => 0xff,
@@ -104,8 +105,8 @@ fn greatest(size: IntSize) -> u128
 
 /// The two's complement of a value in its own width.
 fn twos_complement(value: i128, size: IntSize) -> u128
-    requires { IsOfSize size value }
-    ensures { result ≡ twos_complement (bits_of size) value }
+    requires { IsSigned (size_bits size) value }
+    ensures { result ≡ twos_complement (size_bits size) value }
 {
     let magnitude = value.unsigned_abs();
     if value < 0 {
@@ -131,7 +132,7 @@ fn push_signed(out: &mut Text, value: i128) -> Result<(), Memory>
 /// `Memory` is want of memory: a front of the text was appended.
 #[tactic(auto, unfolding(crate::specs::Printed::printed_int))]
 pub fn show_int(value: i128, size: IntSize, hint: &Hint, out: &mut Text) -> Result<(), Memory>
-    requires { IsOfSize size value }
+    requires { IsSigned (size_bits size) value }
     ensures { Appends result out.old out.new (printed_int value size hint.now) }
 {
     match *hint {

@@ -1,24 +1,36 @@
--- What a session answers is what its told text decides.
-use Rattle.std.proofs.Common.{◌≡◌, ◌≢◌, ◌<◌, ◌≤◌, ◌++◌, ℕ, List, Option, Some, None, Ok, Err, refl, sym, subst, ap, ◌∙◌, arith, length, length-append}
+-- What a session answers is what its told inputs come to.
+use Rattle.std.proofs.Common.{◌≡◌, ◌≢◌, ◌⊎◌, inl, inr, ◌<◌, ◌≤◌, ◌++◌, ℕ, zero, suc, List, [], ◌∷◌, Option, Some, None, Ok, Err, refl, sym, subst, ap, ◌∙◌, arith, length, length-append}
 use Rattle.std.specs.Prelude.{Result, nat_lt}
 use Rattle.std.specs.Io.KnownBytes.{Consumes, IsAtEnd}
 use Rattle.std.proofs.lemmas.Bool.{cond-false, cond-true, lt-ltb, le-ltb}
 use Rattle.std.proofs.lemmas.List.{append-nil}
-use Rattle.dl_io.specs.Outside.{Rose}
-use Rattle.defmt_run.specs.Script.{Script as Read, Reads}
-use Rattle.defmt_run.specs.Frames.{Event}
-use Rattle.defmt_run.specs.Session.{Answers, ComesToOrFails, GaveWhole, Input, IsFaultOf, Output, fault_of, fault_of_read, script_limit}
-use Rattle.defmt_run.specs.Refusal.{inner_of}
-use Rattle.defmt_run.specs.declared.refusal.Refusal.{Refusal}
+use Rattle.dl_io.specs.Outside.{HasFile, Lacks, Rose}
+use Rattle.defmt_intern.specs.Table.{Map}
+use Rattle.elf_table.specs.Names.{AnswersOnly, ReadsTable}
+use Rattle.elf_table.specs.declared.fault.LoadFault.{LoadFault}
+use Rattle.elf_table.specs.declared.fault.LoadFault.TheVariants as loads
+use Rattle.elf_table.proofs.Answers.{names_only, elf_only, symbol_only}
+use Rattle.defmt_listen.specs.Streams.{Input, Output}
+use Rattle.defmt_listen.specs.Heard.{HeardAll, faults, recording_limit}
+use Rattle.defmt_decode.specs.declared.event.Event.{Event}
+use Rattle.defmt_decode.specs.Event.{events_of}
+use Rattle.defmt_run.specs.Calls.{Files}
+use Rattle.defmt_script.specs.Reads.{Reads}
+use Rattle.defmt_script.specs.Script.{Refusal, Script as Read}
+use Rattle.defmt_run.specs.Decoding.{Decodes, DecodingComesTo, Hears, IsFile, Loaded, ReadingComesTo, RefusesFile, RefusesName, fault_of_count, fault_of_recording, table_limit}
+use Rattle.defmt_run.specs.Output.{reports}
+use Rattle.defmt_run.specs.Running.{GaveWhole, RunningComesTo, Runs, fault_of_read, script_limit}
+use Rattle.defmt_run.specs.Job.{Job, decoding, job_view}
+use Rattle.defmt_run.specs.Session.{Answers, OrFails}
+use Rattle.defmt_run.specs.declared.job.Job.{Job as Kept}
+use Rattle.defmt_run.specs.Status.{status_of}
+use Rattle.defmt_run.specs.declared.job.ScriptJob.{ScriptJob}
 use Rattle.defmt_run.specs.declared.outcome.Fault.{Fault}
-use Rattle.defmt_run.specs.declared.outcome.Fault.TheVariants.{Fine, Memory, Words, Source, Sink, Script, Long}
-
-abbrev Answer : Type 0
-Answer = Result Read (ℕ × Refusal)
+use Rattle.defmt_run.specs.declared.outcome.Fault.TheVariants.{Fine, Memory, Words, Source, Sink, Script, Elf, Names, Shelf, Long, Events}
 
 -- a text is read in one way
 abbrev pub OneReading : Type 0
-OneReading = (text : List ℕ) (read more : Answer) → Reads text read → Reads text more → read ≡ more
+OneReading = (text : List ℕ) (read other : Result Read Refusal) → Reads text read → Reads text other → read ≡ other
 
 all_taken : (left after : Option (List ℕ)) (text taken : List ℕ) → left ≡ Some text → Consumes left after taken → IsAtEnd after → taken ≡ text
 all_taken None after text taken is c e = absurd (cc is)
@@ -34,61 +46,229 @@ taken_within (Some xs) (Some ys) text taken is c =
     let same : xs ≡ text = cc is in
     omega (arith, ap length same, ap length c, length-append {A = ℕ})
 
-short_fault : (text : List ℕ) (read : Answer) → length text ≤ script_limit → fault_of text read ≡ fault_of_read read
-short_fault text read short = cond-false (nat_lt script_limit (length text)) _ _ (le-ltb script_limit (length text) short)
+-- the status 2 is that of one fault
+pub words_status : (fault : Fault) → status_of fault ≡ 2 → fault ≡ Words
+words_status Fine is = absurd (omega (arith, is))
+words_status Memory is = absurd (omega (arith, is))
+words_status Words is = refl
+words_status Source is = absurd (omega (arith, is))
+words_status Sink is = absurd (omega (arith, is))
+words_status (Script line cause inner) is = absurd (omega (arith, is))
+words_status (Elf cause part place) is = absurd (omega (arith, is))
+words_status (Names cause symbol) is = absurd (omega (arith, is))
+words_status Shelf is = absurd (omega (arith, is))
+words_status Long is = absurd (omega (arith, is))
+words_status (Events bad) is = absurd (omega (arith, is))
 
-long_fault : (text : List ℕ) (read : Answer) → script_limit < length text → fault_of text read ≡ Long
-long_fault text read long = cond-true (nat_lt script_limit (length text)) _ _ (lt-ltb script_limit (length text) long)
+pub or_fails : (source sink shelf : Type 0) (Is Other : Fault → Type 0) → ((fault : Fault) → Is fault → Other fault) → (fault : Fault) → OrFails source sink shelf Is fault
+    → OrFails source sink shelf Other fault
+or_fails source sink shelf Is Other so Memory is = tt
+or_fails source sink shelf Is Other so Source is = is
+or_fails source sink shelf Is Other so Sink is = is
+or_fails source sink shelf Is Other so Shelf is = elim is [ inl rose ↦ inl rose | inr is ↦ inr (so Shelf is) ]
+or_fails source sink shelf Is Other so Fine is = so Fine is
+or_fails source sink shelf Is Other so Words is = so Words is
+or_fails source sink shelf Is Other so (Script line cause inner) is = so (Script line cause inner) is
+or_fails source sink shelf Is Other so (Elf cause part place) is = so (Elf cause part place) is
+or_fails source sink shelf Is Other so (Names cause symbol) is = so (Names cause symbol) is
+or_fails source sink shelf Is Other so Long is = so Long is
+or_fails source sink shelf Is Other so (Events bad) is = so (Events bad) is
 
-module _ (one : OneReading) (input : Input) (text : List ℕ) (told : input.left ≡ Some text) where
-  same_text : (taken : List ℕ) → GaveWhole input taken → taken ≡ text
-  same_text taken whole = all_taken input.left input.left_after text taken told whole.taken whole.at_end
+-- ---- commands on a script
 
-  -- the text is within the limit, and is read so
-  whole_fault : (taken : List ℕ) (found read : Answer) → GaveWhole input taken → Reads taken found → Reads text read → fault_of text read ≡ fault_of_read found
-  whole_fault taken found read whole reads again =
-      let same = same_text taken whole in
-      short_fault text read (omega (arith, ap length same, whole.within))
-      ∙ ap fault_of_read (one text read found again (subst (λ (t : List ℕ). Reads t found) same reads))
-
-  pub decided : (output : Output) (fault : Fault) (stream : List ℕ) (events : List Event) → Answers input output fault stream events → fault ≢ Words → (read : Answer) → Reads text read
-      → IsFaultOf text read (Rose input.faults input.faults_after) (Rose output.faults output.faults_after) fault
-  decided output Fine stream events answers not read again =
-      let ran = answers.0 in whole_fault ran.text (Ok ran.script) read ran.whole ran.reads again
-  decided output Memory stream events answers not read again = tt
-  decided output Words stream events answers not read again = absurd (not refl)
-  decided output Source stream events answers not read again = answers.0.0
-  decided output Sink stream events answers not read again =
-      let ran = answers.0 in (answers.2, whole_fault ran.text (Ok ran.script) read ran.whole ran.reads again)
-  decided output (Script line cause inner) stream events answers not read again =
-      let refused = answers.0 in
-      whole_fault refused.text (Err (line, refused.why)) read refused.whole refused.refused again
-      ∙ ap (λ (c : ℕ). Script line c (inner_of refused.why)) (sym refused.cause_is) ∙ ap (λ (i : ℕ). Script line cause i) (sym refused.inner_is)
-  decided output Long stream events answers not read again =
-      let took = answers.0 in
-      long_fault text read (omega (arith, took.1, taken_within input.left input.left_after text took.0 told took.2))
-
-module _ (input : Input) (text : List ℕ) (told : input.left ≡ Some text) where
+module _ (job : ScriptJob) (input : Input) (text : List ℕ) (told : input.left ≡ Some text) where
   as_text : (taken : List ℕ) → GaveWhole input taken → taken ≡ text
   as_text taken whole = all_taken input.left input.left_after text taken told whole.taken whole.at_end
 
-  within : (taken : List ℕ) → GaveWhole input taken → length text ≤ script_limit
-  within taken whole = omega (arith, ap length (as_text taken whole), whole.within)
+  read_so : (taken : List ℕ) (read : Result Read Refusal) → GaveWhole input taken → Reads taken read → RunningComesTo text (fault_of_read read)
+  read_so taken read whole reads =
+      let same = as_text taken whole in
+      inr (omega (arith, ap length same, whole.within), (read, subst (λ (t : List ℕ). Reads t read) same reads, refl))
 
-  reads_text : (taken : List ℕ) (found : Answer) → GaveWhole input taken → Reads taken found → Reads text found
-  reads_text taken found whole reads = subst (λ (t : List ℕ). Reads t found) (as_text taken whole) reads
+  pub run_comes : (output : Output) (fault : Fault) (stream : List ℕ) (events : List Event) → Runs job input output fault stream events
+      → OrFails (Rose input.faults input.faults_after) (Rose output.faults output.faults_after) ⊥ (RunningComesTo text) fault
+  run_comes output Fine stream events runs = let ran = runs.1.ran in read_so ran.text (Ok ran.script) ran.whole ran.reads
+  run_comes output Memory stream events runs = tt
+  run_comes output Words stream events runs = absurd runs.0
+  run_comes output Source stream events runs = runs.0.0
+  run_comes output Sink stream events runs = runs.3
+  run_comes output (Script line cause inner) stream events runs =
+      let refuses = runs.0 in read_so refuses.text (Err (record { line = line; cause = cause; inner = inner })) refuses.whole refuses.refused
+  run_comes output (Elf cause part place) stream events runs = absurd runs.0
+  run_comes output (Names cause symbol) stream events runs = absurd runs.0
+  run_comes output Shelf stream events runs = absurd runs.0
+  run_comes output Long stream events runs =
+      let took = runs.0 in inl (omega (arith, took.1, taken_within input.left input.left_after text took.0 told took.2), refl)
+  run_comes output (Events bad) stream events runs = absurd runs.0
 
-  pub comes : (output : Output) (fault : Fault) (stream : List ℕ) (events : List Event) → Answers input output fault stream events → fault ≢ Words
-      → ComesToOrFails text (Rose input.faults input.faults_after) (Rose output.faults output.faults_after) fault
-  comes output Fine stream events answers not =
-      let ran = answers.0 in (within ran.text ran.whole, ran.script, reads_text ran.text (Ok ran.script) ran.whole ran.reads)
-  comes output Memory stream events answers not = tt
-  comes output Words stream events answers not = absurd (not refl)
-  comes output Source stream events answers not = answers.0.0
-  comes output Sink stream events answers not =
-      let ran = answers.0 in (answers.2, (within ran.text ran.whole, ran.script, reads_text ran.text (Ok ran.script) ran.whole ran.reads))
-  comes output (Script line cause inner) stream events answers not =
-      let refused = answers.0 in
-      (within refused.text refused.whole, refused.why, reads_text refused.text (Err (line, refused.why)) refused.whole refused.refused, refused.cause_is, refused.inner_is)
-  comes output Long stream events answers not =
-      let took = answers.0 in omega (arith, took.1, taken_within input.left input.left_after text took.0 told took.2)
+-- no command on a script comes to wrong words
+pub run_words : (job : ScriptJob) (input : Input) (output : Output) (fault : Fault) (stream : List ℕ) (events : List Event) → Runs job input output fault stream events → fault ≢ Words
+run_words job input output fault stream events runs is =
+    let words = subst (λ (f : Fault). Runs job input output f stream events) is runs in absurd words.0
+
+pub run_one : OneReading → (text : List ℕ) (fault other : Fault) → RunningComesTo text other → RunningComesTo text fault → fault ≡ other
+run_one one text fault other (inl a) (inl b) = b.1 ∙ sym a.1
+run_one one text fault other (inl a) (inr b) = absurd (omega (arith, a.0, b.0))
+run_one one text fault other (inr a) (inl b) = absurd (omega (arith, a.0, b.0))
+run_one one text fault other (inr a) (inr b) = b.1.2 ∙ ap fault_of_read (one text b.1.0 a.1.0 b.1.1 a.1.1) ∙ sym a.1.2
+
+-- ---- the decoding of a recording
+
+count_some : (n : ℕ) → 0 < n → fault_of_count n ≡ Events n
+count_some zero some = absurd (omega arith)
+count_some (suc n) some = refl
+
+is_file : (told : Option (List ℕ → Option (List ℕ))) (files : List ℕ → Option (List ℕ)) (name file : List ℕ) → told ≡ Some files → IsFile told name file → files name ≡ Some file
+is_file None files name file is found = absurd (cc is)
+is_file (Some given) files name file is found = let same : given ≡ files = cc is in subst (λ (f : List ℕ → Option (List ℕ)). f name ≡ Some file) same found
+
+has_file : (told : Option (List ℕ → Option (List ℕ))) (files : List ℕ → Option (List ℕ)) (name : List ℕ) (P : List ℕ → Type 0) → told ≡ Some files → HasFile told name P
+    → (file : List ℕ) × (files name ≡ Some file) × P file
+has_file None files name P is has = absurd (cc is)
+has_file (Some given) files name P is has =
+    let same : given ≡ files = cc is in subst (λ (f : List ℕ → Option (List ℕ)). (file : List ℕ) × (f name ≡ Some file) × P file) same has
+
+module _ (name recording : List ℕ) (files : List ℕ → Option (List ℕ)) (input : Input) (shelf : Files) (told : input.left ≡ Some recording) (shelf_told : shelf.files ≡ Some files) where
+  of_file : (file : List ℕ) (fault : Fault) → IsFile shelf.files name file → DecodingComesTo (Some file) recording fault → DecodingComesTo (files name) recording fault
+  of_file file fault found comes = subst (λ (o : Option (List ℕ)). DecodingComesTo o recording fault) (sym (is_file shelf.files files name file shelf_told found)) comes
+
+  of_table : (table : Map) (fault : Fault) → Loaded shelf name table → fault ≡ fault_of_recording table recording → DecodingComesTo (files name) recording fault
+  of_table table fault loaded is = of_file loaded.file fault loaded.fetched (inr (loaded.within, (Ok table, loaded.names, is)))
+
+  short_recording : (table : Map) (n : ℕ) → length recording ≤ recording_limit → n ≡ faults (reports table) (events_of table recording) → fault_of_recording table recording ≡ fault_of_count n
+  short_recording table n short is =
+      cond-false (nat_lt recording_limit (length recording)) _ _ (le-ltb recording_limit (length recording) short) ∙ ap fault_of_count (sym is)
+
+  long_recording : (table : Map) → recording_limit < length recording → fault_of_recording table recording ≡ Long
+  long_recording table long = cond-true (nat_lt recording_limit (length recording)) _ _ (lt-ltb recording_limit (length recording) long)
+
+  of_all : (table : Map) (output : Output) (n : ℕ) → Loaded shelf name table → HeardAll (reports table) input output n → (fault : Fault) → fault_of_count n ≡ fault → DecodingComesTo (files name) recording fault
+  of_all table output n loaded heard fault is =
+      let same = all_taken input.left input.left_after recording heard.recording told heard.taken heard.at_end in
+      of_table table fault loaded (sym (short_recording table n (omega (arith, ap length same, heard.within)) (heard.counted ∙ ap (λ (l : List ℕ). faults (reports table) (events_of table l)) same) ∙ is))
+
+  hears_comes : (table : Map) (output : Output) (fault : Fault) → Loaded shelf name table → Hears table input output fault
+      → OrFails (Rose input.faults input.faults_after) (Rose output.faults output.faults_after) (Rose shelf.faults shelf.faults_after) (DecodingComesTo (files name) recording) fault
+  hears_comes table output Fine loaded hears = of_all table output 0 loaded hears Fine refl
+  hears_comes table output (Events bad) loaded hears = of_all table output bad loaded hears.0 (Events bad) (count_some bad hears.1)
+  hears_comes table output Memory loaded hears = tt
+  hears_comes table output Source loaded hears = hears.1
+  hears_comes table output Sink loaded hears = hears.1
+  hears_comes table output Long loaded hears =
+      of_table table Long loaded (sym (long_recording table (omega (arith, hears.size, taken_within input.left input.left_after recording hears.bytes told hears.taken))))
+  hears_comes table output Words loaded hears = absurd hears
+  hears_comes table output (Script line cause inner) loaded hears = absurd hears
+  hears_comes table output (Elf cause part place) loaded hears = absurd hears
+  hears_comes table output (Names cause symbol) loaded hears = absurd hears
+  hears_comes table output Shelf loaded hears = absurd hears
+
+  lacks_file : Lacks shelf.files name → files name ≡ None
+  lacks_file lacks = lacking shelf.files shelf_told lacks
+    where
+      lacking : (given : Option (List ℕ → Option (List ℕ))) → given ≡ Some files → Lacks given name → files name ≡ None
+      lacking None is lacks = absurd (cc is)
+      lacking (Some given) is lacks = let same : given ≡ files = cc is in subst (λ (f : List ℕ → Option (List ℕ)). f name ≡ None) same lacks
+
+  name_comes : (output : Output) (fault : Fault) → RefusesName shelf name fault
+      → OrFails (Rose input.faults input.faults_after) (Rose output.faults output.faults_after) (Rose shelf.faults shelf.faults_after) (DecodingComesTo (files name) recording) fault
+  name_comes output Memory refuses = tt
+  name_comes output Shelf refuses = elim refuses [
+    | inl rose ↦ inl rose
+    | inr lacks ↦ inr (subst (λ (o : Option (List ℕ)). DecodingComesTo o recording Shelf) (sym (lacks_file lacks)) refl)
+  ]
+  name_comes output Long refuses =
+      let found = has_file shelf.files files name (λ file. table_limit < length file) shelf_told refuses in
+      subst (λ (o : Option (List ℕ)). DecodingComesTo o recording Long) (sym found.1) (inl (found.2, refl))
+  name_comes output Fine refuses = absurd refuses
+  name_comes output Words refuses = absurd refuses
+  name_comes output Source refuses = absurd refuses
+  name_comes output Sink refuses = absurd refuses
+  name_comes output (Script line cause inner) refuses = absurd refuses
+  name_comes output (Elf cause part place) refuses = absurd refuses
+  name_comes output (Names cause symbol) refuses = absurd refuses
+  name_comes output (Events bad) refuses = absurd refuses
+
+  file_comes : (output : Output) (fault : Fault) (file : List ℕ) → IsFile shelf.files name file → length file ≤ table_limit → RefusesFile file fault
+      → OrFails (Rose input.faults input.faults_after) (Rose output.faults output.faults_after) (Rose shelf.faults shelf.faults_after) (DecodingComesTo (files name) recording) fault
+  file_comes output Memory file found short refuses = tt
+  file_comes output (Elf cause part place) file found short refuses = of_file file (Elf cause part place) found (inr (short, (Err (loads.Elf cause part place), refuses, refl)))
+  file_comes output (Names cause symbol) file found short refuses = of_file file (Names cause symbol) found (inr (short, (Err (loads.Names cause symbol), refuses, refl)))
+  file_comes output Fine file found short refuses = absurd refuses
+  file_comes output Words file found short refuses = absurd refuses
+  file_comes output Source file found short refuses = absurd refuses
+  file_comes output Sink file found short refuses = absurd refuses
+  file_comes output (Script line cause inner) file found short refuses = absurd refuses
+  file_comes output Shelf file found short refuses = absurd refuses
+  file_comes output Long file found short refuses = absurd refuses
+  file_comes output (Events bad) file found short refuses = absurd refuses
+
+  pub decode_comes : (output : Output) (fault : Fault) → Decodes name input shelf output fault
+      → OrFails (Rose input.faults input.faults_after) (Rose output.faults output.faults_after) (Rose shelf.faults shelf.faults_after) (DecodingComesTo (files name) recording) fault
+  decode_comes output fault (inl refused) = elim refused.0 [
+    | inl no_file ↦ name_comes output fault no_file
+    | inr no_table ↦ file_comes output fault no_table.0 no_table.1 no_table.2 no_table.3
+  ]
+  decode_comes output fault (inr heard) = hears_comes heard.0 output fault heard.1 heard.2
+
+-- no decoding comes to wrong words
+name_words : (shelf : Files) (name : List ℕ) (fault : Fault) → fault ≡ Words → RefusesName shelf name fault → ⊥
+name_words shelf name fault is refuses = subst (RefusesName shelf name) is refuses
+
+file_words : (file : List ℕ) (fault : Fault) → fault ≡ Words → RefusesFile file fault → ⊥
+file_words file fault is refuses = subst (RefusesFile file) is refuses
+
+hears_words : (table : Map) (input : Input) (output : Output) (fault : Fault) → fault ≡ Words → Hears table input output fault → ⊥
+hears_words table input output fault is hears = subst (Hears table input output) is hears
+
+pub decode_words : (name : List ℕ) (input : Input) (shelf : Files) (output : Output) (fault : Fault) → Decodes name input shelf output fault → fault ≢ Words
+decode_words name input shelf output fault (inl refused) is = elim refused.0 [
+  | inl no_file ↦ name_words shelf name fault is no_file
+  | inr no_table ↦ file_words no_table.0 fault is no_table.3
+]
+decode_words name input shelf output fault (inr heard) is = hears_words heard.0 input output fault is heard.2
+
+same_answer : (read wanted : Result Map LoadFault) (recording : List ℕ) (fault : Fault) → AnswersOnly read wanted → ReadingComesTo read recording fault → read ≡ wanted
+same_answer (Ok table) wanted recording fault only comes = only
+same_answer (Err (loads.Elf cause part place)) wanted recording fault only comes = only
+same_answer (Err (loads.Names cause symbol)) wanted recording fault only comes = only
+same_answer (Err loads.Memory) wanted recording fault only comes = absurd comes
+
+one_load : (file recording : List ℕ) (read wanted : Result Map LoadFault) (fault other : Fault) → ReadsTable file read → ReadsTable file wanted
+    → ReadingComesTo read recording fault → ReadingComesTo wanted recording other → fault ≡ other
+one_load file recording read (Ok table) fault other reads wants comes also =
+    let same = same_answer read (Ok table) recording fault (names_only file read table reads wants) comes in
+    let here = subst (λ (r : Result Map LoadFault). ReadingComesTo r recording fault) same comes in here ∙ sym also
+one_load file recording read (Err (loads.Elf cause part place)) fault other reads wants comes also =
+    let same = same_answer read (Err (loads.Elf cause part place)) recording fault (elf_only file read (record { cause = cause; part = part; place = place }) reads wants) comes in
+    let here = subst (λ (r : Result Map LoadFault). ReadingComesTo r recording fault) same comes in here ∙ sym also
+one_load file recording read (Err (loads.Names cause symbol)) fault other reads wants comes also =
+    let same = same_answer read (Err (loads.Names cause symbol)) recording fault (symbol_only file read cause symbol reads wants) comes in
+    let here = subst (λ (r : Result Map LoadFault). ReadingComesTo r recording fault) same comes in here ∙ sym also
+one_load file recording read (Err loads.Memory) fault other reads wants comes also = absurd also
+
+pub decode_one : (file : Option (List ℕ)) (recording : List ℕ) (fault other : Fault) → DecodingComesTo file recording other → DecodingComesTo file recording fault → fault ≡ other
+decode_one None recording fault other a b = b ∙ sym a
+decode_one (Some file) recording fault other (inl a) (inl b) = b.1 ∙ sym a.1
+decode_one (Some file) recording fault other (inl a) (inr b) = absurd (omega (arith, a.0, b.0))
+decode_one (Some file) recording fault other (inr a) (inl b) = absurd (omega (arith, a.0, b.0))
+decode_one (Some file) recording fault other (inr a) (inr b) = one_load file recording b.1.0 a.1.0 fault other b.1.1 a.1.1 b.1.2 a.1.2
+
+-- ---- the parts of a decoding, by other names
+
+pub asked_name : (words : Option Job) (kept : Kept) (given name : List ℕ) → Some (job_view kept) ≡ words → job_view kept ≡ decoding given → words ≡ Some (decoding name) → given ≡ name
+asked_name words kept given name is kept_is asked =
+    let both : Some (job_view kept) ≡ Some (decoding name) = is ∙ asked in
+    let same : job_view kept ≡ decoding name = cc both in
+    let names : decoding given ≡ decoding name = sym kept_is ∙ same in
+    cc names
+
+pub decoded : (name given : List ℕ) (input : Input) (shelf : Files) (output : Output) (fault found : Fault) → given ≡ name → fault ≡ found
+    → Decodes given input shelf output found → Decodes name input shelf output fault
+decoded name given input shelf output fault found names faults_ decodes =
+    subst (λ (n : List ℕ). Decodes n input shelf output fault) names (subst (λ (f : Fault). Decodes given input shelf output f) (sym faults_) decodes)
+
+pub answered : (words : Option Job) (kept : Kept) (name : List ℕ) (input : Input) (shelf : Files) (output : Output) (fault : Fault) (stream : List ℕ) (events : List Event)
+    → Some (job_view kept) ≡ words → job_view kept ≡ decoding name → Decodes name input shelf output fault → stream ≡ [] → events ≡ [] → Answers words input shelf output fault stream events
+answered words kept name input shelf output fault stream events is kept_is decodes no_stream no_events =
+    let asked : Some (decoding name) ≡ words = ap (λ (j : Job). let o : Option Job = Some j in o) (sym kept_is) ∙ is in
+    subst (λ (o : Option Job). Answers o input shelf output fault stream events) asked (decodes, no_stream, no_events)

@@ -1,5 +1,3 @@
-pub mod LineCuts
-pub mod Places
-pub mod Reading
 pub mod Deciding
-pub mod FrameLaws
+pub mod Numbered
+pub mod Stamped

@@ -1,9 +1,10 @@
 ghost use Rattle.std.specs.Prelude.{◌≡◌, [], ◌++◌, IfOk, OnOk};
 ghost use Rattle.defmt_run.specs.Status.{status_of, said};
 
-use crate::event::Events;
+use defmt_decode::Events;
 use defmt_grammar::Text;
 use dl_io::{Bytes, Memory};
+use elf_section::Part;
 use std::alloc::Global;
 
 /// What a session came to.
@@ -21,8 +22,17 @@ pub enum Fault {
     Sink,
     /// A line of the script is refused: its number from 1, the cause, and the inner number of the cause or 0. Status 5.
     Script { line: u32, cause: u8, inner: u8 },
-    /// The script has more than 4,194,304 bytes. Status 8.
+    /// The file of the table is refused: the cause, the part and its place, as `elf_section::read_symbols` gives them. Status 6.
+    Elf { cause: u8, part: Part, place: u32 },
+    /// A symbol of the table's file is refused: the cause and its place, as `elf_table::read_table` gives them. Status 6.
+    Names { cause: u8, symbol: u32 },
+    /// The shelf failed, or hasn't the file. Status 7.
+    Shelf,
+    /// The script has more than 4,194,304 bytes, the table's file more than 67,108,864, or the recording more than
+    /// 268,435,456. Status 8.
     Long,
+    /// All was done, and so many events of the recording are no lines. Status 9.
+    Events { bad: u64 },
 }
 
 impl Fault {
@@ -37,7 +47,10 @@ impl Fault {
             Fault::Source => 3,
             Fault::Sink => 4,
             Fault::Script { .. } => 5,
+            Fault::Elf { .. } | Fault::Names { .. } => 6,
+            Fault::Shelf => 7,
             Fault::Long => 8,
+            Fault::Events { .. } => 9,
         }
     }
 }
@@ -97,7 +110,20 @@ impl Outcome {
                 let words = format!(in alloc; "script line {line} cause {cause} inner {inner}")?;
                 add(&mut text, words.as_str())?
             }
+            Fault::Elf { cause, place, .. } => {
+                let words = format!(in alloc; "table elf cause {cause} place {place}")?;
+                add(&mut text, words.as_str())?
+            }
+            Fault::Names { cause, symbol } => {
+                let words = format!(in alloc; "table name cause {cause} symbol {symbol}")?;
+                add(&mut text, words.as_str())?
+            }
+            Fault::Shelf => add(&mut text, "shelf")?,
             Fault::Long => add(&mut text, "too long")?,
+            Fault::Events { bad } => {
+                let words = format!(in alloc; "events with faults {bad}")?;
+                add(&mut text, words.as_str())?
+            }
         }
         Ok(text)
     }

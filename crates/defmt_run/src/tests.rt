@@ -1,6 +1,10 @@
 // One call of `session` a test.
 use crate::{Event, Fault, OpenGate, Outcome, session};
+use defmt_grammar::Text;
+use defmt_intern::{Entry, Table, Tag};
 use dl_io::{Bytes, MemShelf, MemSink, MemSource, RepeatSource, Source};
+use elf_section::Part;
+use elf_table::{is_writable, write_table};
 use std::alloc::Global;
 use std::test::Fail;
 
@@ -18,11 +22,33 @@ fn bytes_of(alloc: Global, items: &[u8]) -> Result<Bytes, Fail> {
     Ok(bytes)
 }
 
-fn memory(alloc: Global, script: &[u8], fails: &[u8]) -> Result<MemSource, Fail> {
-    Ok(MemSource::new(bytes_of(alloc, script)?, bytes_of(alloc, fails)?))
+fn text_of(alloc: Global, text: &str) -> Result<Text, Fail> {
+    let mut copy = Text::new(alloc);
+    copy.push_str(text)?;
+    Ok(copy)
+}
+
+fn memory(alloc: Global, bytes: &[u8], fails: &[u8]) -> Result<MemSource, Fail> {
+    Ok(MemSource::new(bytes_of(alloc, bytes)?, bytes_of(alloc, fails)?))
 }
 
 fn session_of<S: Source>(
+    alloc: Global,
+    words: &[String],
+    source: &mut S,
+    shelf: &mut MemShelf,
+    sink_fails: &[u8],
+) -> Result<Session, Fail> {
+    let mut held = Bytes::new(alloc);
+    held.reserve(4096)?;
+    let mut sink = MemSink::new(held, bytes_of(alloc, sink_fails)?);
+    let outcome = session(alloc, words, source, shelf, &mut sink, &OpenGate);
+    let written = bytes_of(alloc, sink.held())?;
+    Ok(Session { outcome, written })
+}
+
+// A command on a script.
+fn command_of<S: Source>(
     alloc: Global,
     command: &str,
     source: &mut S,
@@ -32,54 +58,44 @@ fn session_of<S: Source>(
         String::from_str(alloc, "defmtl")?,
         String::from_str(alloc, command)?,
     ]?;
-    let mut held = Bytes::new(alloc);
-    held.reserve(4096)?;
-    let mut sink = MemSink::new(held, bytes_of(alloc, sink_fails)?);
     let mut shelf = MemShelf::new(alloc, Bytes::new(alloc));
-    let outcome = session(
-        alloc,
-        words.as_slice(),
-        source,
-        &mut shelf,
-        &mut sink,
-        &OpenGate,
-    );
-    let written = bytes_of(alloc, sink.held())?;
-    Ok(Session { outcome, written })
+    session_of(alloc, words.as_slice(), source, &mut shelf, sink_fails)
 }
 
 fn run_of(alloc: Global, script: &[u8]) -> Result<Session, Fail> {
-    session_of(alloc, "run", &mut memory(alloc, script, b"")?, b"")
+    command_of(alloc, "run", &mut memory(alloc, script, b"")?, b"")
 }
 
-fn refused(line: u32) -> Fault {
-    Fault::Script {
-        line,
-        cause: 14,
-        inner: 0,
-    }
+// `decode --table t.elf`, where the shelf has this file.
+fn decode_of<S: Source>(alloc: Global, file: Bytes, source: &mut S) -> Result<Session, Fail> {
+    let words = vec![in alloc;
+        String::from_str(alloc, "defmtl")?,
+        String::from_str(alloc, "decode")?,
+        String::from_str(alloc, "--table")?,
+        String::from_str(alloc, "t.elf")?,
+    ]?;
+    let mut shelf = MemShelf::new(alloc, Bytes::new(alloc));
+    shelf.put("t.elf", file)?;
+    session_of(alloc, words.as_slice(), source, &mut shelf, b"")
 }
 
-fn refused_text(line: u32, inner: u8) -> Fault {
-    Fault::Script {
-        line,
-        cause: 10,
-        inner,
+// The file of a table of one string.
+fn hello_file(alloc: Global) -> Result<Bytes, Fail> {
+    let mut table = Table::new(alloc);
+    let entry = Entry {
+        tag: Tag::Info,
+        package: text_of(alloc, "script")?,
+        text: text_of(alloc, "hello")?,
+        disambiguator: text_of(alloc, "1")?,
+    };
+    if table.add(entry).is_err() || !is_writable(&table) {
+        return Err("no table".into());
     }
-}
-
-// The script of one string with a text of this many letters.
-fn script_of_letters(alloc: Global, count: usize) -> Result<Bytes, Fail> {
-    let mut script = bytes_of(alloc, b"s a defmt_info ")?;
-    script.reserve(count)?;
-    for _ in 0..count {
-        script.push(b'a')?;
-    }
-    Ok(script)
+    Ok(write_table(alloc, &table)?)
 }
 
 #[test]
-fn a_statement_is_framed_and_printed(rt: HostRuntime) -> Result<(), Fail> {
+fn a_statement_is_framed_decoded_and_printed(rt: HostRuntime) -> Result<(), Fail> {
     let session = run_of(rt.alloc(), HI)?;
     assert_eq!(rt; session.outcome.fault, Fault::Fine);
     assert_eq!(rt; session.outcome.status, 0);
@@ -91,27 +107,56 @@ fn a_statement_is_framed_and_printed(rt: HostRuntime) -> Result<(), Fail> {
         return Err("another number of events".into());
     };
     assert_eq!(rt; *index, 1);
-    assert_eq!(rt; text.as_str(), "hello");
+    assert_eq!(rt; text.as_str(), "INFO  hello");
     assert_eq!(rt; session.written.as_slice(), b"INFO  hello\n".as_slice());
     Ok(())
 }
 
+const STAMPED: &[u8] =
+    b"stamp 1000 250\ns a defmt_info a {=u8}\ns b defmt_warn b {=bool}\nw 1 b true\nw 0 a 1\nw 0 a 2\n";
+
 #[test]
-fn statements_are_printed_in_their_order(rt: HostRuntime) -> Result<(), Fail> {
-    let script =
-        b"# two strings\r\ns a defmt_info\ns b_1 defmt_info two  words \n\nw 0 b_1\nw 0 a  \nw 0 b_1";
-    let session = run_of(rt.alloc(), script)?;
+fn writers_follow_one_another_with_their_stamps(rt: HostRuntime) -> Result<(), Fail> {
+    let session = run_of(rt.alloc(), STAMPED)?;
     assert_eq!(rt; session.outcome.fault, Fault::Fine);
     assert_eq!(rt; session.outcome.status, 0);
-    assert_eq!(rt;
-        session.outcome.stream.as_slice(),
-        [0, 2, 0x7e, 0, 0, 1, 0x7e, 0, 0, 2, 0x7e, 0].as_slice()
-    );
     assert_eq!(rt; session.outcome.events.as_slice().len(), 3);
     assert_eq!(rt;
         session.written.as_slice(),
-        b"INFO  two  words \nINFO  \nINFO  two  words \n".as_slice()
+        b"0.001000 INFO  a 1\n0.001250 INFO  a 2\n0.001500 WARN  b true\n".as_slice()
     );
+    Ok(())
+}
+
+#[test]
+fn print_gives_the_lines_of_run(rt: HostRuntime) -> Result<(), Fail> {
+    let alloc = rt.alloc();
+    let session = command_of(alloc, "print", &mut memory(alloc, STAMPED, b"")?, b"")?;
+    assert_eq!(rt; session.outcome.fault, Fault::Fine);
+    assert_eq!(rt; session.outcome.events.as_slice().len(), 0);
+    assert_eq!(rt;
+        session.written.as_slice(),
+        b"0.001000 INFO  a 1\n0.001250 INFO  a 2\n0.001500 WARN  b true\n".as_slice()
+    );
+    Ok(())
+}
+
+#[test]
+fn record_writes_the_frames(rt: HostRuntime) -> Result<(), Fail> {
+    let alloc = rt.alloc();
+    let session = command_of(alloc, "record", &mut memory(alloc, HI, b"")?, b"")?;
+    assert_eq!(rt; session.outcome.fault, Fault::Fine);
+    assert_eq!(rt; session.written.as_slice(), [0, 1, 0x7e, 0].as_slice());
+    Ok(())
+}
+
+#[test]
+fn table_writes_the_file_of_the_table(rt: HostRuntime) -> Result<(), Fail> {
+    let alloc = rt.alloc();
+    let session = command_of(alloc, "table", &mut memory(alloc, HI, b"")?, b"")?;
+    assert_eq!(rt; session.outcome.fault, Fault::Fine);
+    assert_eq!(rt; session.written.len(), 472);
+    assert_eq!(rt; session.written.as_slice(), hello_file(alloc)?.as_slice());
     Ok(())
 }
 
@@ -121,7 +166,6 @@ fn an_empty_source_prints_nothing(rt: HostRuntime) -> Result<(), Fail> {
     assert_eq!(rt; session.outcome.fault, Fault::Fine);
     assert_eq!(rt; session.outcome.status, 0);
     assert_eq!(rt; session.outcome.stream.len(), 0);
-    assert_eq!(rt; session.outcome.events.as_slice().len(), 0);
     assert_eq!(rt; session.written.len(), 0);
     Ok(())
 }
@@ -129,7 +173,7 @@ fn an_empty_source_prints_nothing(rt: HostRuntime) -> Result<(), Fail> {
 #[test]
 fn an_unknown_command_is_status_2(rt: HostRuntime) -> Result<(), Fail> {
     let alloc = rt.alloc();
-    let session = session_of(alloc, "frob", &mut memory(alloc, HI, b"")?, b"")?;
+    let session = command_of(alloc, "frob", &mut memory(alloc, HI, b"")?, b"")?;
     assert_eq!(rt; session.outcome.fault, Fault::Words);
     assert_eq!(rt; session.outcome.status, 2);
     assert_eq!(rt; session.written.len(), 0);
@@ -138,9 +182,18 @@ fn an_unknown_command_is_status_2(rt: HostRuntime) -> Result<(), Fail> {
 }
 
 #[test]
+fn decode_without_a_table_is_status_2(rt: HostRuntime) -> Result<(), Fail> {
+    let alloc = rt.alloc();
+    let session = command_of(alloc, "decode", &mut memory(alloc, b"", b"")?, b"")?;
+    assert_eq!(rt; session.outcome.fault, Fault::Words);
+    assert_eq!(rt; session.outcome.status, 2);
+    Ok(())
+}
+
+#[test]
 fn a_source_that_fails_is_status_3(rt: HostRuntime) -> Result<(), Fail> {
     let alloc = rt.alloc();
-    let session = session_of(alloc, "run", &mut memory(alloc, HI, b"\0")?, b"")?;
+    let session = command_of(alloc, "run", &mut memory(alloc, HI, b"\0")?, b"")?;
     assert_eq!(rt; session.outcome.fault, Fault::Source);
     assert_eq!(rt; session.outcome.status, 3);
     assert_eq!(rt; session.written.len(), 0);
@@ -151,14 +204,13 @@ fn a_source_that_fails_is_status_3(rt: HostRuntime) -> Result<(), Fail> {
 #[test]
 fn a_sink_that_fails_is_status_4(rt: HostRuntime) -> Result<(), Fail> {
     let alloc = rt.alloc();
-    let session = session_of(alloc, "run", &mut memory(alloc, HI, b"")?, b"\0")?;
+    let session = command_of(alloc, "run", &mut memory(alloc, HI, b"")?, b"\0")?;
     assert_eq!(rt; session.outcome.fault, Fault::Sink);
     assert_eq!(rt; session.outcome.status, 4);
     assert_eq!(rt;
         session.outcome.stream.as_slice(),
         [0, 1, 0x7e, 0].as_slice()
     );
-    assert_eq!(rt; session.outcome.events.as_slice().len(), 1);
     assert_eq!(rt; session.written.len(), 0);
     Ok(())
 }
@@ -166,126 +218,153 @@ fn a_sink_that_fails_is_status_4(rt: HostRuntime) -> Result<(), Fail> {
 #[test]
 fn a_statement_of_an_unknown_name_is_refused(rt: HostRuntime) -> Result<(), Fail> {
     let alloc = rt.alloc();
-    let session = run_of(alloc, b"\n# nothing yet\nw 0 hi")?;
-    assert_eq!(rt; session.outcome.fault, refused(3));
-    assert_eq!(rt; session.outcome.status, 5);
+    let session = run_of(alloc, b"w 0 hi")?;
     assert_eq!(rt;
-        session.outcome.say(alloc)?.as_str(),
-        "script line 3 cause 14 inner 0"
+        session.outcome.fault,
+        Fault::Script {
+            line: 1,
+            cause: 2,
+            inner: 0
+        }
     );
-    Ok(())
-}
-
-#[test]
-fn doubled_braces_are_printed_once(rt: HostRuntime) -> Result<(), Fail> {
-    let session = run_of(rt.alloc(), b"s b defmt_info {{x}}\nw 0 b\n")?;
-    assert_eq!(rt; session.outcome.fault, Fault::Fine);
-    assert_eq!(rt; session.outcome.status, 0);
-    let [Event::Line { index, text }] = session.outcome.events.as_slice() else {
-        return Err("another number of events".into());
-    };
-    assert_eq!(rt; *index, 1);
-    assert_eq!(rt; text.as_str(), "{x}");
-    assert_eq!(rt; session.written.as_slice(), b"INFO  {x}\n".as_slice());
-    Ok(())
-}
-
-#[test]
-fn closing_braces_come_first(rt: HostRuntime) -> Result<(), Fail> {
-    let session = run_of(rt.alloc(), b"s b defmt_info }}{{\nw 0 b\n")?;
-    assert_eq!(rt; session.outcome.fault, Fault::Fine);
-    assert_eq!(rt; session.written.as_slice(), b"INFO  }{\n".as_slice());
-    Ok(())
-}
-
-#[test]
-fn a_lone_brace_is_cause_10(rt: HostRuntime) -> Result<(), Fail> {
-    let alloc = rt.alloc();
-    let session = run_of(alloc, b"s b defmt_info {\nw 0 b\n")?;
-    assert_eq!(rt; session.outcome.fault, refused_text(1, 1));
     assert_eq!(rt; session.outcome.status, 5);
     assert_eq!(rt; session.written.len(), 0);
     assert_eq!(rt;
         session.outcome.say(alloc)?.as_str(),
-        "script line 1 cause 10 inner 1"
+        "script line 1 cause 2 inner 0"
     );
-    Ok(())
-}
-
-#[test]
-fn an_unknown_hint_is_cause_10(rt: HostRuntime) -> Result<(), Fail> {
-    let session = run_of(rt.alloc(), b"# hints\ns b defmt_info {=u8:z}\n")?;
-    assert_eq!(rt; session.outcome.fault, refused_text(2, 3));
-    Ok(())
-}
-
-#[test]
-fn a_text_with_a_parameter_is_cause_14(rt: HostRuntime) -> Result<(), Fail> {
-    let session = run_of(rt.alloc(), b"s b defmt_info {=u8}\nw 0 b\n")?;
-    assert_eq!(rt; session.outcome.fault, refused(1));
-    assert_eq!(rt; session.written.len(), 0);
-    Ok(())
-}
-
-#[test]
-fn a_name_that_was_there_comes_before_the_text(rt: HostRuntime) -> Result<(), Fail> {
-    let session = run_of(rt.alloc(), b"s b defmt_info b\ns b defmt_info {\n")?;
-    assert_eq!(rt; session.outcome.fault, refused(2));
-    Ok(())
-}
-
-#[test]
-fn a_text_of_the_greatest_length_is_taken(rt: HostRuntime) -> Result<(), Fail> {
-    let alloc = rt.alloc();
-    let script = script_of_letters(alloc, 4096)?;
-    let session = run_of(alloc, script.as_slice())?;
-    assert_eq!(rt; session.outcome.fault, Fault::Fine);
-    assert_eq!(rt; session.outcome.status, 0);
-    Ok(())
-}
-
-#[test]
-fn a_longer_text_is_cause_10(rt: HostRuntime) -> Result<(), Fail> {
-    let alloc = rt.alloc();
-    let script = script_of_letters(alloc, 4097)?;
-    let session = run_of(alloc, script.as_slice())?;
-    assert_eq!(rt; session.outcome.fault, refused_text(1, 0));
-    Ok(())
-}
-
-#[test]
-fn a_comment_that_is_no_text_is_refused(rt: HostRuntime) -> Result<(), Fail> {
-    let session = run_of(rt.alloc(), b"# \xc3\xa9\n# \xff\n")?;
-    assert_eq!(rt; session.outcome.fault, refused(2));
-    Ok(())
-}
-
-#[test]
-fn a_last_line_keeps_its_carriage_return(rt: HostRuntime) -> Result<(), Fail> {
-    let session = run_of(rt.alloc(), b"s hi defmt_info hello\r\nw 0 hi\r")?;
-    assert_eq!(rt; session.outcome.fault, refused(2));
-    Ok(())
-}
-
-#[test]
-fn a_script_of_the_greatest_length_is_read(rt: HostRuntime) -> Result<(), Fail> {
-    let session = session_of(
-        rt.alloc(),
-        "run",
-        &mut RepeatSource::new(b'\n', 4_194_304),
-        b"",
-    )?;
-    assert_eq!(rt; session.outcome.fault, Fault::Fine);
-    assert_eq!(rt; session.outcome.status, 0);
     Ok(())
 }
 
 #[test]
 fn a_longer_script_is_status_8(rt: HostRuntime) -> Result<(), Fail> {
     let alloc = rt.alloc();
-    let session = session_of(alloc, "run", &mut RepeatSource::new(b'\n', 4_194_305), b"")?;
+    let session = command_of(alloc, "run", &mut RepeatSource::new(b'\n', 4_194_305), b"")?;
     assert_eq!(rt; session.outcome.fault, Fault::Long);
     assert_eq!(rt; session.outcome.status, 8);
     assert_eq!(rt; session.outcome.say(alloc)?.as_str(), "too long");
+    Ok(())
+}
+
+#[test]
+fn an_intact_recording_is_decoded(rt: HostRuntime) -> Result<(), Fail> {
+    let alloc = rt.alloc();
+    let recording = [0, 1, 0x7e, 0, 0, 1, 0x7e, 0];
+    let session = decode_of(
+        alloc,
+        hello_file(alloc)?,
+        &mut memory(alloc, &recording, b"")?,
+    )?;
+    assert_eq!(rt; session.outcome.fault, Fault::Fine);
+    assert_eq!(rt; session.outcome.status, 0);
+    assert_eq!(rt;
+        session.written.as_slice(),
+        b"INFO  hello\nINFO  hello\n".as_slice()
+    );
+    Ok(())
+}
+
+#[test]
+fn a_recording_without_its_front_is_status_9(rt: HostRuntime) -> Result<(), Fail> {
+    let alloc = rt.alloc();
+    let recording = [0x7e, 0, 0, 1, 0x7e, 0];
+    let session = decode_of(
+        alloc,
+        hello_file(alloc)?,
+        &mut memory(alloc, &recording, b"")?,
+    )?;
+    assert_eq!(rt; session.outcome.fault, Fault::Events { bad: 1 });
+    assert_eq!(rt; session.outcome.status, 9);
+    assert_eq!(rt;
+        session.written.as_slice(),
+        b"-- front 1\nINFO  hello\n".as_slice()
+    );
+    assert_eq!(rt;
+        session.outcome.say(alloc)?.as_str(),
+        "events with faults 1"
+    );
+    Ok(())
+}
+
+#[test]
+fn a_piece_that_is_no_code_is_named(rt: HostRuntime) -> Result<(), Fail> {
+    let alloc = rt.alloc();
+    let recording = [0, 1, 0, 0, 1, 0x7e, 0, 5];
+    let session = decode_of(
+        alloc,
+        hello_file(alloc)?,
+        &mut memory(alloc, &recording, b"")?,
+    )?;
+    assert_eq!(rt; session.outcome.fault, Fault::Events { bad: 2 });
+    assert_eq!(rt;
+        session.written.as_slice(),
+        b"-- E1 Cobs\nINFO  hello\n-- tail 1\n".as_slice()
+    );
+    Ok(())
+}
+
+#[test]
+fn a_file_that_names_no_table_is_status_6(rt: HostRuntime) -> Result<(), Fail> {
+    let alloc = rt.alloc();
+    let session = decode_of(
+        alloc,
+        bytes_of(alloc, b"hello")?,
+        &mut memory(alloc, b"", b"")?,
+    )?;
+    assert_eq!(rt;
+        session.outcome.fault,
+        Fault::Elf {
+            cause: 1,
+            part: Part::Nothing,
+            place: 0
+        }
+    );
+    assert_eq!(rt; session.outcome.status, 6);
+    assert_eq!(rt;
+        session.outcome.say(alloc)?.as_str(),
+        "table elf cause 1 place 0"
+    );
+    Ok(())
+}
+
+#[test]
+fn a_missing_file_is_status_7(rt: HostRuntime) -> Result<(), Fail> {
+    let alloc = rt.alloc();
+    let words = vec![in alloc;
+        String::from_str(alloc, "defmtl")?,
+        String::from_str(alloc, "decode")?,
+        String::from_str(alloc, "--table")?,
+        String::from_str(alloc, "t.elf")?,
+    ]?;
+    let mut shelf = MemShelf::new(alloc, Bytes::new(alloc));
+    let mut source = memory(alloc, b"", b"")?;
+    let session = session_of(alloc, words.as_slice(), &mut source, &mut shelf, b"")?;
+    assert_eq!(rt; session.outcome.fault, Fault::Shelf);
+    assert_eq!(rt; session.outcome.status, 7);
+    assert_eq!(rt; session.outcome.say(alloc)?.as_str(), "shelf");
+    Ok(())
+}
+
+#[test]
+fn a_longer_recording_is_status_8(rt: HostRuntime) -> Result<(), Fail> {
+    let alloc = rt.alloc();
+    let session = decode_of(
+        alloc,
+        hello_file(alloc)?,
+        &mut RepeatSource::new(0, 268_435_457),
+    )?;
+    assert_eq!(rt; session.outcome.fault, Fault::Long);
+    assert_eq!(rt; session.outcome.status, 8);
+    assert_eq!(rt; session.written.len(), 0);
+    Ok(())
+}
+
+#[test]
+fn a_longer_table_file_is_status_8(rt: HostRuntime) -> Result<(), Fail> {
+    let alloc = rt.alloc();
+    let file = Bytes::from_vec(vec![in alloc; 0u8; 67_108_865]?);
+    let session = decode_of(alloc, file, &mut memory(alloc, b"", b"")?)?;
+    assert_eq!(rt; session.outcome.fault, Fault::Long);
+    assert_eq!(rt; session.outcome.status, 8);
     Ok(())
 }

@@ -41,6 +41,7 @@ fresh_kept image size t is big small wide front =
       sent_is = refl;
       staged_is = refl;
       bound = omega arith;
+      leaves = λ h. omega arith;
       freed = omega arith;
       found = (omega arith, omega arith);
       looked = omega arith;
@@ -66,7 +67,7 @@ module _ (image : List ℕ) (size rd wait staged room looks got_len : ℕ) (t : 
       let g = length_staged in
       let b = k.bound in
       let f = k.freed in
-      record { within = omega arith; fits = λ _. omega arith }
+      record { within = omega arith; fits = λ _. omega arith; leaves = λ _ h. let e = k.leaves h in omega arith }
 
   -- bytes are put
   module _ (new bytes : List ℕ) (at : ℕ) (t' : Traffic) (now : t' ≡ put_more t bytes) (is : new ≡ stored image at bytes) (some : length bytes ≤ room)
@@ -108,6 +109,7 @@ module _ (image : List ℕ) (size rd wait staged room looks got_len : ℕ) (t : 
           sent_is = k.sent_is ∙ ap (λ (l : List ℕ). t.got ++ l) (sym sent_same);
           staged_is = ap (λ (l : List ℕ). l ++ bytes) k.staged_is ∙ sym staged_more;
           bound = let b = k.bound in omega arith;
+          leaves = λ h. let b = k.leaves h in omega arith;
           freed = k.freed;
           found = k.found;
           looked = k.looked;
@@ -129,6 +131,7 @@ module _ (image : List ℕ) (size rd wait staged room looks got_len : ℕ) (t : 
           sent_is = k.sent_is;
           staged_is = k.staged_is;
           bound = omega arith;
+          leaves = λ h. omega arith;
           freed = omega arith;
           found = k.found;
           looked = omega arith;
@@ -163,6 +166,7 @@ module _ (image : List ℕ) (size rd wait staged room looks got_len : ℕ) (t : 
         sent_is = k.sent_is;
         staged_is = k.staged_is;
         bound = k.bound;
+        leaves = k.leaves;
         freed = k.freed;
         found = (omega arith, omega arith);
         looked = k.looked;
@@ -222,6 +226,7 @@ module _ (image : List ℕ) (size rd wait staged room looks got_len : ℕ) (t : 
             ∙ ap (λ (l : List ℕ). t.got ++ round l size (length t.got) (wait + staged)) (sym (marked_buffer new ((rd + (wait + staged)) % size) rd is));
         staged_is = refl;
         bound = let b = k.bound in omega arith;
+        leaves = λ h. let b = k.leaves h in omega arith;
         freed = k.freed;
         found = (f.0, omega arith);
         looked = k.looked;
@@ -266,6 +271,7 @@ module _ (image : List ℕ) (size rd wait staged room looks got_len : ℕ) (t : 
         staged_is = k.staged_is ∙ ap (λ (n : ℕ). round b size n staged) behind
             ∙ ap (λ (l : List ℕ). round l size (length (t.got ++ bytes) + left) staged) (sym same);
         bound = omega arith;
+        leaves = λ h. let b = k.leaves h in omega arith;
         freed = omega arith;
         found = (omega arith, omega arith);
         looked = k.looked;

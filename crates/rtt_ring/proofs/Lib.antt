@@ -3,3 +3,6 @@ pub mod Rounds
 pub mod Stores
 pub mod Blocks
 pub mod Kept
+mod WordResidues
+mod WordMoves
+mod WordKeeps

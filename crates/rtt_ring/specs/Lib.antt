@@ -6,3 +6,8 @@ pub mod Steps
 pub mod JournalView
 pub mod Plain
 pub mod PlainView
+pub mod QueueName
+pub mod QueueEnds
+pub mod WordRule
+pub mod WordKept
+pub mod WordEnds

@@ -32,6 +32,7 @@ pub record IsPlain (image : List ℕ) (size rd waiting staged room looks got_len
   pub staged_is : t.staged ≡ part image size (length t.got + waiting) staged
   -- room was left by the last look, which found `freed` bytes released
   pub bound : length t.got + waiting + staged + room + 1 ≤ t.freed + size
+  pub leaves : 0 < t.up_looks → length t.got + waiting + staged + room + 1 ≡ t.freed + size
   pub freed : t.freed ≤ length t.got
   pub found : (length t.got ≤ t.found) × (t.found ≤ length t.got + waiting)
   pub looked : looks ≡ capped t.up_looks

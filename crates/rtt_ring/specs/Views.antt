@@ -1,5 +1,5 @@
 -- What contracts see of the two ends of a ring, and what each call does to it.
-use Rattle.std.specs.Prelude.{◌≡◌, ℕ, ◌+◌, ◌-◌, ◌≤◌, Bool, true, List, [], ◌++◌, length}
+use Rattle.std.specs.Prelude.{◌≡◌, ℕ, ◌+◌, ◌-◌, ◌<◌, ◌≤◌, Bool, true, List, [], ◌++◌, length}
 
 -- the upper end. Numbers of bytes are since the split
 pub record Up : Type 0 where
@@ -39,10 +39,11 @@ abbrev pub new_down : List ℕ → ℕ → Down
 new_down split size = record { split = split; size = size; got = []; found = 0; looks = 0 }
 
 -- what holds of every upper end: no byte is released that wasn't sent, and equal offsets mean an empty ring, so
--- at most one byte fewer than the size is in use
+-- at most one byte fewer than the size is in use. After the first look the room is what that leaves
 pub record IsBounded (u : Up) : Type 0 where
   pub within : u.freed ≤ length u.sent
   pub fits : u.tells ≡ true → length u.sent + length u.staged + 1 ≤ u.freed + u.size
+  pub leaves : u.tells ≡ true → 0 < u.looks → u.room + length u.sent + length u.staged + 1 ≡ u.freed + u.size
 
 -- a look of the upper end, from u to v: looks, room and freed change, and nothing else
 pub record Looked (u v : Up) : Type 0 where

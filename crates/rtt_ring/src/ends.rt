@@ -1,4 +1,4 @@
-// The two ends of a ring, and a ring whose ends part.
+//! The two ends of a ring, and a ring whose ends part.
 use crate::settled::{RingKind, Settled};
 use dl_io::{Bytes, Memory};
 use std::alloc::{AllocError, Global};

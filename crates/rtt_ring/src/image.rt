@@ -1,4 +1,4 @@
-// The memory image of a plain ring: the control block, with one up-descriptor and none down, and behind it the buffer.
+//! The memory image of a plain ring: the control block, with one up-descriptor and none down, and behind it the buffer.
 ghost use Rattle.std.specs.Prelude.{◌≡◌, ◌≤◌, ◌<◌, ◌+◌, length, take, IfOk};
 ghost use Rattle.rtt_control.specs.Layout.{descriptor_bytes, with_bytes};
 ghost use Rattle.rtt_ring.specs.Image.{block_of, header, plain_descriptor, stored};

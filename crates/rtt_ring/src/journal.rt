@@ -1,7 +1,7 @@
-// What went through a ring, as contracts alone read it.
-//
-// The bytes and counts aren't stored. They are the view of a seat of a table with one word, and each note is one step
-// on that word. So a note takes no memory, and the table gives the ring a name that no other ring has.
+//! What went through a ring, as contracts alone read it.
+//!
+//! The bytes and counts aren't stored. They are the view of a seat of a table with one word, and each note is one step
+//! on that word. So a note takes no memory, and the table gives the ring a name that no other ring has.
 ghost use Rattle.std.specs.Prelude.{◌≡◌, [], IfOk};
 
 use atomic_table::{Play, Seat, Table, TableRule};

@@ -1,4 +1,4 @@
-// A ring of one owner, over a memory image with a control block.
+//! A ring of one owner, over a memory image with a control block.
 ghost use Rattle.rtt_ring.specs.JournalView.{traffic_of};
 ghost use Rattle.rtt_ring.specs.Plain.{IsPlain};
 

@@ -1,4 +1,4 @@
-// What was sent and taken, once the two ends of a ring came together.
+//! What was sent and taken, once the two ends of a ring came together.
 ghost use Rattle.std.specs.Prelude.{◌≡◌, length};
 ghost use Rattle.rtt_ring.specs.Account.{capped, Account};
 

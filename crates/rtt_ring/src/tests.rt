@@ -2,6 +2,8 @@
 ghost use Rattle.std.specs.Prelude.{◌≡◌, [], IfOk};
 ghost use Rattle.rtt_ring.specs.PlainView.{up_of};
 
+mod channels;
+
 use crate::{DownEnd, IMAGE_BASE, PlainRing, RingFault, RingKind, UpEnd};
 use dl_io::Bytes;
 use rtt_control::{Descriptor, find, read, unread};

@@ -1,0 +1,115 @@
+-- The event of a piece as a relation and as a function agree.
+use Rattle.std.proofs.Common.{◌≡◌, ◌^◌, ◌<◌, ◌≤◌, inl, inr, ℕ, Bool, true, false, cond, List, length, All, Ok, Err, refl, sym, ap, subst, ◌∙◌}
+use Rattle.std.proofs.lemmas.Bool.{cases_Bool, cases_lt, or_cases, or_left, or_right, ltb-true, lt-ltb, le-leb, lt-leb, true≢false}
+use Rattle.rzcobs_core.specs.Blocks.{Blocks, IsNoCode}
+use Rattle.defmt_framing.specs.Decides.{Decided, decides}
+use Rattle.defmt_framing.specs.Decoded.{decoded}
+use Rattle.defmt_framing.specs.Told.{of_piece}
+use Rattle.defmt_framing.proofs.Agree.{decoded_found, decoded_none}
+use Rattle.defmt_intern.specs.Table.{Map}
+use Rattle.defmt_values.specs.Plain.{Vals}
+use Rattle.defmt_eager.specs.Line.{eager_line, IsWide}
+use Rattle.defmt_encode.specs.Cause.{cause_number}
+use Rattle.defmt_encode.specs.Heard.{IsHeard}
+use Rattle.defmt_encode.specs.Met.{IsMet}
+use Rattle.defmt_encode.specs.Read.{Read}
+use Rattle.defmt_encode.proofs.Numbers.{AreBytes}
+use Rattle.defmt_encode.proofs.Laws.{heard_found, heard_again, met_found, met_again}
+use Rattle.defmt_decode.proofs.Bytes.{are_bytes, blocks_bytes, blocks_few}
+use Rattle.defmt_decode.specs.Event.{IsEventOf, too_long, no_code, line_told, too_wide, not_heard, is_wide, of_heard, read_of, of_read, of_code, tells, event_of}
+use Rattle.defmt_decode.specs.declared.event.Event.{Event}
+use Rattle.defmt_decode.specs.declared.event.Event.TheVariants.{Line, Bad}
+
+-- ---- wide
+
+wide_so : (t : Map) (stamp : Vals) (index : ℕ) (vs : Vals) → is_wide t stamp index vs ≡ true → IsWide t stamp index vs
+wide_so t stamp index vs e = elim (or_cases _ _ e) [ inl long ↦ inl (ltb-true _ _ long) | inr long ↦ inr (ltb-true _ _ long) ]
+
+wide_test : (t : Map) (stamp : Vals) (index : ℕ) (vs : Vals) → IsWide t stamp index vs → is_wide t stamp index vs ≡ true
+wide_test t stamp index vs (inl long) = or_left _ _ (lt-ltb _ _ long)
+wide_test t stamp index vs (inr long) = or_right _ _ (lt-ltb _ _ long)
+
+narrow_so : (t : Map) (stamp : Vals) (index : ℕ) (vs : Vals) → is_wide t stamp index vs ≡ false → IsWide t stamp index vs → ⊥
+narrow_so t stamp index vs e wide = true≢false (sym (wide_test t stamp index vs wide) ∙ e)
+
+narrow_test : (t : Map) (stamp : Vals) (index : ℕ) (vs : Vals) → (IsWide t stamp index vs → ⊥) → is_wide t stamp index vs ≡ false
+narrow_test t stamp index vs narrow = elim (cases_Bool (is_wide t stamp index vs)) [
+  | inl e ↦ absurd (narrow (wide_so t stamp index vs e))
+  | inr e ↦ e
+]
+
+pub heard_wide : (t : Map) (stamp : Vals) (index : ℕ) (vs : Vals) → IsWide t stamp index vs → of_heard t stamp index vs ≡ Bad 14
+heard_wide t stamp index vs wide = ap (λ (b : Bool). cond b (Bad 14) (Line index (eager_line t stamp index vs))) (wide_test t stamp index vs wide)
+
+pub heard_narrow : (t : Map) (stamp : Vals) (index : ℕ) (vs : Vals) → (IsWide t stamp index vs → ⊥)
+    → of_heard t stamp index vs ≡ Line index (eager_line t stamp index vs)
+heard_narrow t stamp index vs narrow = ap (λ (b : Bool). cond b (Bad 14) (Line index (eager_line t stamp index vs))) (narrow_test t stamp index vs narrow)
+
+-- ---- read
+
+pub heard_read : (t : Map) (bytes : List ℕ) (stamp : Vals) (index : ℕ) (vs : Vals) → length bytes < 2 ^ 32 → IsHeard t bytes stamp index vs
+    → of_read t (read_of t bytes) ≡ of_heard t stamp index vs
+unfolding read_of
+heard_read t bytes stamp index vs size heard = ap (of_read t) (heard_again t bytes stamp index vs size heard)
+
+pub met_read : (t : Map) (bytes : List ℕ) (cause : ℕ) → length bytes < 2 ^ 32 → IsMet t bytes cause → of_read t (read_of t bytes) ≡ Bad cause
+unfolding read_of
+met_read t bytes cause size (c, number, meets) = ap (of_read t) (met_again t bytes c size meets) ∙ ap (λ (n : ℕ). Bad n) (sym number)
+
+-- ---- by the length and the code
+
+long_is : (t : Map) (piece : List ℕ) → 65536 < length piece → event_of t piece ≡ Bad 13
+unfolding of_piece tells
+long_is t piece long = ap (λ (b : Bool). cond b (of_code t (decoded piece)) (Bad 13)) (lt-leb (length piece) 65536 long)
+
+short_is : (t : Map) (piece : List ℕ) → length piece ≤ 65536 → event_of t piece ≡ of_code t (decoded piece)
+unfolding of_piece tells
+short_is t piece short = ap (λ (b : Bool). cond b (of_code t (decoded piece)) (Bad 13)) (le-leb (length piece) 65536 short)
+
+read_is : (t : Map) (piece bytes : List ℕ) → length piece ≤ 65536 → Blocks piece bytes → event_of t piece ≡ of_read t (read_of t bytes)
+read_is t piece bytes short blocks = short_is t piece short ∙ ap (of_code t) (decoded_found piece bytes blocks)
+
+none_is : (t : Map) (piece : List ℕ) → length piece ≤ 65536 → IsNoCode piece → event_of t piece ≡ Bad 1
+none_is t piece short none = short_is t piece short ∙ ap (of_code t) (decoded_none piece none)
+
+-- ---- what the relation says is answered
+
+pub only : (t : Map) (piece : List ℕ) (event : Event) → IsEventOf t piece event → event_of t piece ≡ event
+only t piece _ (too_long long) = long_is t piece long
+only t piece _ (no_code short none) = none_is t piece short none
+only t piece _ (line_told bytes stamp index vs short blocks heard narrow) =
+    read_is t piece bytes short blocks ∙ heard_read t bytes stamp index vs (blocks_few piece bytes short blocks) heard ∙ heard_narrow t stamp index vs narrow
+only t piece _ (too_wide bytes stamp index vs short blocks heard wide) =
+    read_is t piece bytes short blocks ∙ heard_read t bytes stamp index vs (blocks_few piece bytes short blocks) heard ∙ heard_wide t stamp index vs wide
+only t piece _ (not_heard bytes cause short blocks met) = read_is t piece bytes short blocks ∙ met_read t bytes cause (blocks_few piece bytes short blocks) met
+
+-- ---- what is answered the relation says
+
+by_width : (t : Map) (piece bytes : List ℕ) (stamp : Vals) (index : ℕ) (vs : Vals) → length piece ≤ 65536 → Blocks piece bytes
+    → IsHeard t bytes stamp index vs → IsEventOf t piece (of_heard t stamp index vs)
+by_width t piece bytes stamp index vs short blocks heard = elim (cases_Bool (is_wide t stamp index vs)) [
+  | inl e ↦
+      let wide = wide_so t stamp index vs e in
+      subst (IsEventOf t piece) (sym (heard_wide t stamp index vs wide)) (too_wide bytes stamp index vs short blocks heard wide)
+  | inr e ↦
+      let narrow = narrow_so t stamp index vs e in
+      subst (IsEventOf t piece) (sym (heard_narrow t stamp index vs narrow)) (line_told bytes stamp index vs short blocks heard narrow)
+]
+
+by_read : (t : Map) (piece bytes : List ℕ) (r : Read (Vals × ℕ × Vals)) → AreBytes bytes → read_of t bytes ≡ r → length piece ≤ 65536
+    → Blocks piece bytes → IsEventOf t piece (of_read t r)
+unfolding read_of
+by_read t piece bytes (Ok (stamp, index, vs)) all e short blocks = by_width t piece bytes stamp index vs short blocks (heard_found t bytes stamp index vs all e)
+by_read t piece bytes (Err cause) all e short blocks = not_heard bytes (cause_number cause) short blocks (cause, refl, met_found t bytes cause all e)
+
+by_code : (t : Map) (piece : List ℕ) → AreBytes piece → Decided piece → length piece ≤ 65536 → IsEventOf t piece (event_of t piece)
+by_code t piece all (inl found) short =
+    subst (IsEventOf t piece) (sym (read_is t piece found.0 short found.1))
+    (by_read t piece found.0 (read_of t found.0) (blocks_bytes piece found.0 found.1 all) refl short found.1)
+by_code t piece all (inr none) short = subst (IsEventOf t piece) (sym (none_is t piece short none)) (no_code short none)
+
+pub is_event : (t : Map) (piece : List ℕ) → All (λ b. b < 256) piece → IsEventOf t piece (event_of t piece)
+is_event t piece all = elim (cases_lt 65536 (length piece)) [
+  | inl long ↦ subst (IsEventOf t piece) (sym (long_is t piece long)) (too_long long)
+  | inr short ↦ by_code t piece (are_bytes piece all) (decides piece) short
+]

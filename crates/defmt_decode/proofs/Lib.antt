@@ -1,0 +1,4 @@
+mod Bytes
+mod Deciding
+mod Sending
+mod Stamps

@@ -1,0 +1,4 @@
+pub mod Event
+pub mod Hearing
+pub mod Refusal
+pub mod Sent

@@ -1,0 +1,90 @@
+//! The host.
+
+ghost use Rattle.std.specs.Prelude.{◌≡◌, ◌≤◌, ◌<◌, ◌++◌, [], None, List, ℕ, length, take, IfOk, OnErr, option_to_list};
+ghost use Rattle.defmt_decode.specs.Event.{tells, events_of, begun_of};
+
+use crate::event::Event;
+use crate::reader::Reader;
+use defmt_framing::Framer;
+use defmt_intern::Table;
+use dl_io::Memory;
+use std::alloc::Global;
+use std::marker::Model;
+
+/// Hears one stream of frames, which is fed in parts, and answers its events.
+///
+/// Contracts see a host as its table, how many bytes it has heard, whether a zero was among them,
+/// how many came after the last zero (of all where there was none), and, after a zero, the first
+/// 65,537 of these. It stands for a stream where these parts are the stream's. The stream is cut
+/// at its zeros: what comes before the first is the front, what lies between two that follow one
+/// another is a piece, what comes after the last is the tail (defmt book, the encoding rzcobs).
+#[derive(Drop)]
+pub struct Host {
+    reader: Reader,
+    framer: Framer,
+}
+
+impl Model for Host {
+    ghost use Rattle.defmt_decode.specs.Hearing.{Hearing, hearing_code};
+
+    ghost Value = { Hearing };
+
+    ghost coded = { hearing_code };
+
+    ghost view = { λ h. record { table = h.reader; framing = h.framer } };
+}
+
+impl Host {
+    ghost use Rattle.defmt_framing.specs.Framing.{Stands, Hears};
+
+    /// A host of this table that has heard nothing. It takes the memory that it works in, 458,752
+    /// bytes and more; on want of it the table is given up.
+    pub fn new(alloc: Global, table: Table) -> Result<Host, Memory>
+        ensures stands { IfOk result (λ host. Stands host.framing []) }
+        ensures table { IfOk result (λ host. host.table ≡ table) }
+    {
+        Ok(Host {
+            reader: Reader::new(alloc, table)?,
+            framer: Framer::new(alloc),
+        })
+    }
+
+    /// Takes bytes up to and with the zero that ends the first front or piece which isn't empty,
+    /// and answers how many it took with the event of that part.
+    ///
+    /// `None` comes exactly where it took all bytes and none ended such a part. On want of memory
+    /// nothing was taken, and the host is unchanged. After any event it goes on with what follows.
+    pub fn feed(&mut self, bytes: &[u8]) -> Result<(usize, Option<Event>), Memory>
+        // No more than these bytes were taken.
+        ensures within { IfOk result (λ r. r.0 ≤ length bytes.now) }
+        // For each stream that the host stands for: it stands for that stream and the bytes that
+        // were taken, the event is what these begin beyond it, and comes by the last of them.
+        ensures hears { IfOk result (λ r. (stream : List ℕ) → Stands self.old.framing stream
+            → Hears (tells self.old.table) self.new.framing stream (take r.0 bytes.now) r.1) }
+        // Something was taken where there was something.
+        ensures some { IfOk result (λ r. 0 < length bytes.now → 0 < r.0) }
+        // Without an event all was taken.
+        ensures all { IfOk result (λ r. r.1 ≡ None → r.0 ≡ length bytes.now) }
+        ensures table { self.new.table ≡ self.old.table }
+        ensures err { OnErr result (self.new ≡ self.old) }
+    {
+        self.framer.feed(&mut self.reader, bytes)
+    }
+
+    /// The event that the end of the stream brings: a cut front where no zero was heard and
+    /// something was, a cut tail where bytes follow the last zero, else none. Takes no memory.
+    pub fn finish(self) -> Option<Event>
+        ensures { (stream : List ℕ) → Stands self.framing stream
+            → events_of self.table stream ≡ begun_of self.table stream ++ option_to_list result }
+    {
+        self.framer.finish(&self.reader)
+    }
+
+    /// How many bytes were heard; the last value of its type where there were more. Takes no
+    /// memory.
+    pub fn heard_len(&self) -> u64
+        ensures { result ≡ self.now.framing.heard }
+    {
+        self.framer.heard_len()
+    }
+}

@@ -1,0 +1,82 @@
+//! What holds of the events of streams.
+
+ghost use Rattle.std.specs.Prelude.{◌≡◌, ◌<◌, ◌≤◌, ◌++◌, ◌∷◌, [], List, ℕ, length, map, take, drop, false, All};
+ghost use Rattle.defmt_framing.specs.Calls.{Calls};
+ghost use Rattle.defmt_framing.specs.Cut.{has_zero, front, pieces, tail};
+ghost use Rattle.defmt_framing.specs.Framing.{Framing, Stands};
+ghost use Rattle.defmt_intern.specs.Table.{Map};
+ghost use Rattle.rzcobs_core.specs.Blocks.{Blocks};
+ghost use Rattle.defmt_eager.specs.Line.{eager_line, IsWide};
+ghost use Rattle.defmt_encode.specs.Carry.{message_of};
+ghost use Rattle.defmt_encode.specs.Heard.{IsHeard};
+ghost use Rattle.defmt_values.specs.Plain.{Vals};
+ghost use Rattle.defmt_decode.specs.declared.event.Event.TheVariants.{Line};
+ghost use Rattle.defmt_decode.specs.Event.{IsEventOf, event_of, events_of, begun_of, tells};
+ghost use Rattle.defmt_decode.specs.Sent.{Sent, IsSent, AreSent, code_of, line_of, stream_of, sent_from, sent_by, front_event, tail_event};
+ghost use Rattle.defmt_decode.specs.declared.event.Event.{Event as AnyEvent};
+
+/// Each piece of bytes has one event: where it is a code of at most 65,536 bytes, the line of the stamp and
+/// the statement that are heard in what it stands for, unless their texts are too wide, or the
+/// cause that is met; else that it is no code or too long.
+pub fn one_event()
+    ensures is { (t : Map) (piece : List ℕ) → All (λ b. b < 256) piece → IsEventOf t piece (event_of t piece) }
+    ensures only { (t : Map) (piece : List ℕ) (event : AnyEvent) → IsEventOf t piece event
+        → event_of t piece ≡ event }
+{}
+
+/// The events of a stream are that of its front, those of its pieces and that of its tail, in this
+/// order, none for a front or a tail that is empty.
+pub fn events_by_parts()
+    ensures { (t : Map) (stream : List ℕ) → events_of t stream
+        ≡ front_event (front stream) ++ (map (event_of t) (pieces stream) ++ tail_event (tail stream)) }
+{}
+
+/// The code of a statement's message is read back as its line. It has at most 65,536 bytes where
+/// the message has at most 2,000.
+pub fn frames_read_back()
+    ensures line { (t : Map) (s : Sent) → IsSent t s → event_of t (code_of t s) ≡ line_of t s }
+    ensures short { (t : Map) (s : Sent) → length (message_of t s.stamp s.index s.args) ≤ 2000
+        → length (code_of t s) ≤ 65536 }
+{}
+
+/// However a stream is cut into the bytes of the calls of a new host, the events that they answer
+/// are those that are begun in the bytes that they took.
+pub fn any_cutting()
+    ensures { (t : Map) (before after : Framing) (taken : List ℕ) (told : List AnyEvent)
+        → Stands before [] → Calls (tells t) before after taken told
+        → Stands after taken × (begun_of t taken ≡ told) }
+{}
+
+/// A frame whose bytes and both zeros stand in a stream gives its event in its place, whatever
+/// stands in front and behind: its line where its piece has at most 65,536 bytes and is a code in
+/// which a stamp and a statement are heard whose texts aren't too wide. So it is of each statement
+/// that is sent.
+pub fn intact_frames()
+    ensures piece { (t : Map) (p c q : List ℕ) → has_zero c ≡ false → 0 < length c
+        → events_of t (p ++ (0 ∷ (c ++ (0 ∷ q))))
+        ≡ events_of t (p ++ 0 ∷ []) ++ (event_of t c ∷ events_of t (0 ∷ q)) }
+    ensures heard { (t : Map) (p c q bytes : List ℕ) (stamp : Vals) (index : ℕ) (vs : Vals)
+        → length c ≤ 65536 → Blocks c bytes → IsHeard t bytes stamp index vs
+        → (IsWide t stamp index vs → ⊥)
+        → events_of t (p ++ (0 ∷ (c ++ (0 ∷ q))))
+        ≡ events_of t (p ++ 0 ∷ []) ++ (Line index (eager_line t stamp index vs) ∷ events_of t (0 ∷ q)) }
+    ensures sent { (t : Map) (p q : List ℕ) (s : Sent) → IsSent t s
+        → events_of t (p ++ (0 ∷ (code_of t s ++ (0 ∷ q))))
+        ≡ events_of t (p ++ 0 ∷ []) ++ (line_of t s ∷ events_of t (0 ∷ q)) }
+{}
+
+/// A stream of frames without its first bytes: a cut front with the number of bytes before the
+/// next zero, where that isn't 0, and then the lines of the frames that begin at or after the cut.
+pub fn without_front()
+    ensures { (t : Map) (place : ℕ) (sent : List Sent) → AreSent t sent
+        → let left = drop place (stream_of t sent) in
+        events_of t left ≡ front_event (front left) ++ map (line_of t) (sent_from t place 0 sent) }
+{}
+
+/// The first bytes of a stream of frames: the lines of the frames that end at or before the cut,
+/// and then a cut tail with the number of bytes behind the last zero, where that isn't 0.
+pub fn without_end()
+    ensures { (t : Map) (place : ℕ) (sent : List Sent) → AreSent t sent
+        → let left = take place (stream_of t sent) in
+        events_of t left ≡ map (line_of t) (sent_by t place 0 sent) ++ tail_event (tail left) }
+{}

@@ -1,0 +1,4 @@
+pub mod Appends
+pub mod Bits
+pub mod Lengths
+pub mod Stamps

@@ -1,0 +1,124 @@
+//! The printed line of a statement.
+ghost use Rattle.std.specs.Prelude.{◌≡◌, ◌≤◌, ℕ, length, Option, IfSome};
+ghost use Rattle.std.specs.Option.{option_map, ForSome};
+ghost use Rattle.defmt_eager.specs.Answers.{Shows, GivesFront, GivesLine};
+ghost use Rattle.defmt_eager.specs.Line.{level_text, level_at, stamp_at, stamp_text, stamp_space};
+ghost use Rattle.defmt_intern.specs.Table.{Map, IsLawful, StampIs};
+ghost use Rattle.defmt_values.specs.Fits.{Fits, FitsStamp, IsLogged};
+
+use crate::eager::{EagerFault, LIMIT};
+use crate::values::push_statement;
+use defmt_grammar::Text;
+use defmt_intern::{Table, Tag};
+use defmt_values::{Args, Statement, look_up};
+use std::alloc::Global;
+
+// The name of a level, left in five places.
+fn level_text(tag: &Tag) -> Option<&'static str>
+    ensures text { option_map (λ level. level.now) result ≡ level_text tag.now }
+    ensures width { IfSome result (λ level. length level.now ≡ 5) }
+{
+    match tag {
+        Tag::Trace => Some("TRACE"),
+        Tag::Debug => Some("DEBUG"),
+        Tag::Info => Some("INFO "),
+        Tag::Warn => Some("WARN "),
+        Tag::Error => Some("ERROR"),
+        _ => None,
+    }
+}
+
+// The level of an index's entry.
+fn level_at(table: &Table, index: u16) -> Option<&'static str>
+    ensures text { option_map (λ level. level.now) result ≡ level_at table.now index }
+    ensures width { IfSome result (λ level. length level.now ≡ 5) }
+{
+    match look_up(table, index) {
+        None => None,
+        Some((entry, _)) => level_text(&entry.tag),
+    }
+}
+
+/// The index of the timestamp's entry, to which the stamp of a line fits; `None` where the table has no such entry.
+/// Takes no memory.
+pub fn stamp_at(table: &Table) -> Option<u16>
+    ensures { result ≡ stamp_at table.now }
+{
+    table.lawful();
+    table.stamp()
+}
+
+// Appends the text of the stamp, where there is a timestamp's entry.
+fn push_stamp(
+    table: &Table,
+    out: &mut Text,
+    at: Option<u16>,
+    stamp: &Args,
+) -> Result<(), EagerFault>
+    requires { length out.old ≤ 65536 }
+    ensures { Shows 65536 out.old out.new result (stamp_text table.now at stamp.now) }
+{
+    match at {
+        None => Ok(()),
+        Some(index) => push_statement(table, out, LIMIT, index, stamp),
+    }
+}
+
+fn stamp_space(at: Option<u16>) -> &'static str
+    ensures { result.now ≡ stamp_space at }
+{
+    match at {
+        None => "",
+        Some(_) => " ",
+    }
+}
+
+// What stands in front of the text of a statement of this level.
+fn front_of(
+    alloc: Global,
+    table: &Table,
+    at: Option<u16>,
+    stamp: &Args,
+    level: Option<&str>,
+) -> Result<Text, EagerFault>
+    requires { ForSome level (λ l. length l.now ≡ 5) }
+    ensures { GivesFront result table.now at stamp.now (option_map (λ l. l.now) level.entry) }
+{
+    let mut out = Text::new(alloc);
+    push_stamp(table, &mut out, at, stamp)?;
+    let Some(level) = level else {
+        return Ok(Text::new(alloc));
+    };
+    out.push_str(stamp_space(at))?;
+    out.push_str(level)?;
+    out.push_str(" ")?;
+    Ok(out)
+}
+
+/// The printed line of a statement, without a newline at its end: the stamp's text and a space, where the table has a
+/// timestamp entry; the level, `TRACE`, `DEBUG`, `INFO`, `WARN` or `ERROR`, left in five places; a space; the text. The
+/// line of a println statement is its text alone (defmt book, the display of log frames).
+///
+/// The stamp's arguments and the statement fit the table, and the statement's entry is a level's or println's. Without
+/// a timestamp entry the stamp has no arguments.
+///
+/// # Errors
+/// `EagerFault::Wide` exactly where the text of the stamp or that of the statement has more than 65,536 bytes, also
+/// where the stamp isn't printed. `EagerFault::Memory` where memory runs out.
+pub fn line(alloc: Global, table: &Table, stamp: &Args, stm: &Statement) -> Result<Text, EagerFault>
+    requires stamp { FitsStamp table.now (stamp_at table.now) stamp.now }
+    requires fits { Fits table.now stm.now.index stm.now.args }
+    requires logged { IsLogged table.now stm.now.index }
+    ensures { GivesLine result table.now stamp.now stm.now.index stm.now.args }
+{
+    let level = level_at(table, stm.index);
+    let mut out = front_of(alloc, table, stamp_at(table), stamp, level)?;
+    let limit = out.len() + LIMIT;
+    push_statement(table, &mut out, limit, stm.index, &stm.args)?;
+    Ok(out)
+}
+
+/// The index that the printed line takes for the timestamp's is the table's own.
+pub fn stamp_is_one()
+    ensures { (table : Map) (at : Option ℕ) → IsLawful table → StampIs table at → stamp_at table ≡ at }
+{}

@@ -1,0 +1,171 @@
+-- What is heard is what is read.
+use Rattle.std.proofs.Common.{◌≡◌, ◌<◌, ◌≤◌, ◌^◌, ◌+◌, ◌&&◌, ℕ, Bool, true, false, nat_le, List, [], ◌++◌, length, Option, Some, None, Ok, refl, sym, ap, ◌∙◌, subst, arith, append_assoc, length-append}
+use Rattle.std.proofs.lemmas.Bool.{le-leb, leb-true}
+use Rattle.byteorder.specs.Endian.{little_bytes}
+use Rattle.defmt_grammar.specs.declared.piece.Piece.{Piece}
+use Rattle.defmt_grammar.specs.declared.slot.Slot.{Slot}
+use Rattle.defmt_intern.specs.Table.{Map}
+use Rattle.defmt_intern.specs.declared.entry.Entry.{Entry}
+use Rattle.defmt_values.specs.Entries.{look, is_logged, places_of}
+use Rattle.defmt_values.specs.Fits.{Fits, FitsStamp, IsLogged, weigh_vals}
+use Rattle.defmt_values.specs.Plain.{Vals, no_vals}
+use Rattle.defmt_values.proofs.Forms.{index_small}
+use Rattle.defmt_encode.specs.Carry.{own_slots, stamp_slots, slots_at, bytes_vals}
+use Rattle.defmt_encode.specs.Fields.{IsOwn, FoundStamp}
+use Rattle.defmt_encode.specs.Heard.{IsHeard}
+use Rattle.defmt_encode.specs.Read.{Read, ◌⇒◌, number_at, value_at, each_at, logged_of, stamp_form, stamp_at, all_zero, is_padding, padded, message_at}
+use Rattle.defmt_encode.specs.Sound.{AreSound}
+use Rattle.defmt_encode.specs.Stamp.{stamp_of}
+use Rattle.defmt_encode.specs.declared.cause.Cause.TheVariants as causes
+use Rattle.defmt_encode.proofs.Back.{vals_back}
+use Rattle.defmt_encode.proofs.Chains.{done, same, bound, chosen}
+use Rattle.defmt_encode.proofs.Entries.{own_slots_are, own_found, own_back, stamp_found}
+use Rattle.defmt_encode.proofs.FindsAll.{Args3, value_found, each_found}
+use Rattle.defmt_encode.proofs.Numbers.{AreBytes, bytes_rest, number_back, number_found}
+use Rattle.defmt_encode.proofs.Stamps.{stamp_entry}
+use Rattle.defmt_encode.proofs.Uses.{own_used}
+
+-- ---- what is heard is read
+
+-- the values of an entry's own arguments, in front of whatever follows
+own_vals : (t : Map) (index : ℕ) (vs : Vals) (rest : List ℕ) (f : Fits t index vs) → AreSound vs → length (bytes_vals t (own_slots t index) vs) < 2 ^ 32
+    → each_at (value_at t 16) (places_of f.pieces) 1 0 (bytes_vals t (own_slots t index) vs ++ rest) ≡ done (vs, 0 + weigh_vals t (places_of f.pieces) 1 vs, rest)
+own_vals t index vs rest f g short =
+    let own : own_slots t index ≡ slots_at (places_of f.pieces) = own_slots_are t index f.entry f.pieces f.there f.body in
+    let size : length (bytes_vals t (slots_at (places_of f.pieces)) vs) < 2 ^ 32 = subst (λ (q : List Slot). length (bytes_vals t q vs) < 2 ^ 32) own short in
+    ap (λ (q : List Slot). each_at (value_at t 16) (places_of f.pieces) 1 0 (bytes_vals t q vs ++ rest)) own
+    ∙ vals_back t 16 (places_of f.pieces) 1 0 rest vs f.values g (omega arith) (own_used f.entry f.pieces f.body) size (omega (arith, f.light))
+
+abbrev pub stamp_rest : Map → List ℕ → List Piece → Read (Vals × List ℕ)
+stamp_rest t from ps = each_at (value_at t 16) (places_of ps) 1 0 from ⇒ λ r. Ok (r.0, r.2)
+
+stamp_by : (t : Map) (o : Option ℕ) (stamp : Vals) (rest : List ℕ) → FitsStamp t o stamp → AreSound stamp → length (bytes_vals t (stamp_slots t o) stamp) < 2 ^ 32 → stamp_at t o (bytes_vals t (stamp_slots t o) stamp ++ rest) ≡ done (stamp, rest)
+unfolding bytes_vals
+stamp_by t None stamp rest f g short = rw f refl
+stamp_by t (Some index) stamp rest f g short =
+    let form : stamp_form (look t index) ≡ done f.pieces = rw (f.there, f.body) refl in
+    ap (λ (q : Read (List Piece)). q ⇒ stamp_rest t (bytes_vals t (own_slots t index) stamp ++ rest)) form
+    ∙ ap (λ (q : Read Args3). q ⇒ λ r. Ok (r.0, r.2)) (own_vals t index stamp rest f g short)
+
+pub stamp_back : (t : Map) (stamp : Vals) (from rest : List ℕ) → FoundStamp t stamp from rest → length from < 2 ^ 32 → stamp_at t (stamp_of t) from ≡ done (stamp, rest)
+stamp_back t stamp from rest f short =
+    let body : List ℕ = bytes_vals t (stamp_slots t (stamp_of t)) stamp in
+    let size : length body < 2 ^ 32 = omega (arith, short, ap length f.carries, length-append body rest) in
+    ap (λ (x : List ℕ). stamp_at t (stamp_of t) x) f.carries ∙ stamp_by t (stamp_of t) stamp rest f.fits f.sound size
+
+pads : (padding : List ℕ) → length padding ≤ 6 → all_zero padding ≡ true → padded padding ≡ done tt
+pads padding h z = rw (le-leb (length padding) 6 h, z) refl
+
+one_entry : (t : Map) (index : ℕ) (e d : Entry) → look t index ≡ Some e → look t index ≡ Some d → e ≡ d
+one_entry t index e d a b = let k : Some e ≡ Some d = sym a ∙ b in cc
+
+own_of : (t : Map) (index : ℕ) (vs : Vals) (f : Fits t index vs) → IsLogged t index → IsOwn t index f.pieces
+own_of t index vs f l =
+    let same_entry = one_entry t index l.entry f.entry l.there f.there in
+    record { entry = f.entry; there = f.there; tag = subst (λ (e : Entry). is_logged e.tag ≡ true) same_entry l.tag; body = f.body }
+
+pub heard_again : (t : Map) (bytes : List ℕ) (stamp : Vals) (index : ℕ) (vs : Vals) → length bytes < 2 ^ 32 → IsHeard t bytes stamp index vs → message_at t bytes ≡ done (stamp, index, vs)
+heard_again t bytes stamp index vs short h =
+    let f = h.fits in
+    let own = own_of t index vs f h.logged in
+    let head : List ℕ = little_bytes 2 index in
+    let first : List ℕ = bytes_vals t (stamp_slots t (stamp_of t)) stamp in
+    let body : List ℕ = bytes_vals t (own_slots t index) vs in
+    let is : bytes ≡ head ++ (first ++ (body ++ h.padding)) =
+    h.message ∙ append_assoc (head ++ first) body h.padding ∙ append_assoc head first (body ++ h.padding) in
+    let sizes : length (head ++ (first ++ (body ++ h.padding))) ≡ length head + (length first + (length body + length h.padding)) =
+    length-append head (first ++ (body ++ h.padding)) ∙ ap (λ n. length head + n) (length-append first (body ++ h.padding) ∙ ap (λ n. length first + n) (length-append body h.padding)) in
+    let small_first : length first < 2 ^ 32 = omega (arith, short, ap length is, sizes) in
+    let small_body : length body < 2 ^ 32 = omega (arith, short, ap length is, sizes) in
+    let a = number_back 2 index (first ++ (body ++ h.padding)) (index_small t index f.entry f.there) in
+    let b = stamp_by t (stamp_of t) stamp (body ++ h.padding) h.stamp_fits h.stamp_sound small_first in
+    let d = own_vals t index vs h.padding f h.sound small_body in
+    rw (is, a, own_back t index f.pieces own, b, d, pads h.padding h.few h.zeros) refl
+
+-- ---- what is read is heard
+
+both_left : (a b : Bool) → (a && b) ≡ true → a ≡ true
+both_left true b h = refl
+both_left false b h = absurd (cc)
+
+both_right : (a b : Bool) → (a && b) ≡ true → b ≡ true
+both_right true b h = h
+both_right false b h = absurd (cc)
+
+abbrev Stamp2 : Type 0
+Stamp2 = Vals × List ℕ
+
+-- the stamp's index, with what is known of it
+stamp_found_by : (t : Map) (o : Option ℕ) (from : List ℕ) (y : Stamp2) → stamp_of t ≡ o → AreBytes from → stamp_at t o from ≡ done y → FitsStamp t o y.0 × AreSound y.0 × (from ≡ bytes_vals t (stamp_slots t o) y.0 ++ y.1)
+unfolding bytes_vals
+stamp_found_by t None from y s h e = subst (λ (p : Stamp2). FitsStamp t None p.0 × AreSound p.0 × (from ≡ bytes_vals t [] p.0 ++ p.1)) (same (no_vals, from) y e) (refl, tt, refl)
+stamp_found_by t (Some index) from y s h e =
+    let entry = stamp_entry t index s in
+    let e' : (stamp_form (Some entry.0) ⇒ stamp_rest t from) ≡ done y = ap (λ (o : Option Entry). stamp_form o ⇒ stamp_rest t from) (sym entry.1) ∙ e in
+    let b0 = bound (stamp_form (Some entry.0)) (stamp_rest t from) y e' in
+    let ps : List Piece = b0.0 in
+    let body = stamp_found entry.0 ps b0.1 in
+    let b1 = bound (each_at (value_at t 16) (places_of ps) 1 0 from) (λ r. Ok (r.0, r.2)) y b0.2 in
+    let f = each_found t 16 (value_at t 16) (value_found t 16) (places_of ps) 1 0 from b1.0 h b1.1 in
+    let m : b1.0.1 ≤ 8192 = f.sums.kept (omega arith) in
+    let fits : Fits t index b1.0.0 = record { entry = entry.0; pieces = ps; there = entry.1; body = body; values = f.fits; light = omega (arith, m, f.sums.sum) } in
+    let own : own_slots t index ≡ slots_at (places_of ps) = own_slots_are t index entry.0 ps entry.1 body in
+    subst (λ (p : Stamp2). FitsStamp t (Some index) p.0 × AreSound p.0 × (from ≡ bytes_vals t (own_slots t index) p.0 ++ p.1)) (same (b1.0.0, b1.0.2) y b1.2)
+    (fits, f.sound, f.carries ∙ ap (λ (q : List Slot). bytes_vals t q b1.0.0 ++ b1.0.2) (sym own))
+
+pub found_stamp : (t : Map) (from : List ℕ) (y : Stamp2) → AreBytes from → stamp_at t (stamp_of t) from ≡ done y → FoundStamp t y.0 from y.1
+found_stamp t from y h e = let p = stamp_found_by t (stamp_of t) from y refl h e in record { fits = p.0; sound = p.1; carries = p.2 }
+
+abbrev pub Message3 : Type 0
+Message3 = Vals × ℕ × Vals
+
+abbrev pub rest_end : ℕ → Vals → Args3 → Read Message3
+rest_end i stamp r = padded r.2 ⇒ λ _. Ok (stamp, i, r.0)
+
+abbrev pub rest_args : Map → ℕ → List Piece → Stamp2 → Read Message3
+rest_args t i ps s = each_at (value_at t 16) (places_of ps) 1 0 s.1 ⇒ rest_end i s.0
+
+abbrev pub rest_stamp : Map → ℕ × List ℕ → List Piece → Read Message3
+rest_stamp t i ps = stamp_at t (stamp_of t) i.1 ⇒ rest_args t i.0 ps
+
+abbrev pub rest_own : Map → ℕ × List ℕ → Read Message3
+rest_own t i = logged_of (look t i.0) ⇒ rest_stamp t i
+
+pub heard_found : (t : Map) (bytes : List ℕ) (y : Message3) → AreBytes bytes → message_at t bytes ≡ done y → IsHeard t bytes y.0 y.1 y.2
+heard_found t bytes y h e =
+    let b0 = bound (number_at 2 bytes) (rest_own t) y e in
+    let i : ℕ = b0.0.0 in
+    let b1 = bound (logged_of (look t i)) (rest_stamp t b0.0) y b0.2 in
+    let ps : List Piece = b1.0 in
+    let b2 = bound (stamp_at t (stamp_of t) b0.0.1) (rest_args t i ps) y b1.2 in
+    let stamp : Vals = b2.0.0 in
+    let b3 = bound (each_at (value_at t 16) (places_of ps) 1 0 b2.0.1) (rest_end i stamp) y b2.2 in
+    let vs : Vals = b3.0.0 in
+    let rest : List ℕ = b3.0.2 in
+    let b4 = bound (padded rest) (λ _. Ok (stamp, i, vs)) y b3.2 in
+    let n = number_found 2 bytes b0.0 h b0.1 in
+    let h1 = bytes_rest bytes (little_bytes 2 i) b0.0.1 h n.carries in
+    let own = own_found t i ps b1.1 in
+    let s = found_stamp t b0.0.1 b2.0 h1 b2.1 in
+    let first : List ℕ = bytes_vals t (stamp_slots t (stamp_of t)) stamp in
+    let h2 = bytes_rest b0.0.1 first b2.0.1 h1 s.carries in
+    let f = each_found t 16 (value_at t 16) (value_found t 16) (places_of ps) 1 0 b2.0.1 b3.0 h2 b3.1 in
+    let p = (chosen (is_padding rest) tt causes.Trailing tt b4.1).0 in
+    let own_is : own_slots t i ≡ slots_at (places_of ps) = own_slots_are t i own.entry ps own.there own.body in
+    let m : b3.0.1 ≤ 8192 = f.sums.kept (omega arith) in
+    let body : List ℕ = bytes_vals t (own_slots t i) vs in
+    let carries : bytes ≡ ((little_bytes 2 i ++ first) ++ body) ++ rest =
+    n.carries ∙ ap (λ (x : List ℕ). little_bytes 2 i ++ x) (s.carries ∙ ap (λ (x : List ℕ). first ++ x) (f.carries ∙ ap (λ (q : List Slot). bytes_vals t q vs ++ rest) (sym own_is)))
+    ∙ sym (append_assoc (little_bytes 2 i) first (body ++ rest)) ∙ sym (append_assoc (little_bytes 2 i ++ first) body rest) in
+    let all : IsHeard t bytes stamp i vs = record {
+      stamp_fits = s.fits;
+      fits = record { entry = own.entry; pieces = ps; there = own.there; body = own.body; values = f.fits; light = omega (arith, m, f.sums.sum) };
+      logged = record { entry = own.entry; there = own.there; tag = own.tag };
+      stamp_sound = s.sound;
+      sound = f.sound;
+      padding = rest;
+      few = leb-true (length rest) 6 (both_left (nat_le (length rest) 6) (all_zero rest) p);
+      zeros = both_right (nat_le (length rest) 6) (all_zero rest) p;
+      message = carries;
+    } in
+    subst (λ (z : Message3). IsHeard t bytes z.0 z.1 z.2) (same (stamp, i, vs) y b4.2) all

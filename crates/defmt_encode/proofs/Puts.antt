@@ -1,0 +1,49 @@
+-- Steps of the loops that put values.
+use Rattle.std.proofs.Common.{◌≡◌, ◌≤◌, ◌<◌, ℕ, ◌+◌, List, [], ◌∷◌, ◌++◌, length, map, refl, sym, ap, subst, ◌∙◌, arith, append_assoc, length-append}
+use Rattle.std.proofs.lemmas.List.{append-nil}
+use Rattle.defmt_grammar.specs.declared.slot.Slot.{Slot}
+use Rattle.defmt_intern.specs.Table.{Map}
+use Rattle.defmt_values.specs.Plain.{vals_size, elems_size}
+use Rattle.defmt_values.specs.View.{plain, vals_of, elems_of}
+use Rattle.defmt_values.specs.declared.value.Item.{Item}
+use Rattle.defmt_values.specs.declared.value.Value.{Value}
+use Rattle.defmt_encode.specs.Carry.{bytes_val, bytes_vals, bytes_elems, variant_byte, node_slots}
+use Rattle.defmt_encode.specs.Out.{Wrote}
+
+pub joins_on : (done one others whole all : List ℕ) → whole ≡ one ++ others → done ++ whole ≡ all → (done ++ one) ++ others ≡ all
+joins_on done one others whole all p q = append_assoc done one others ∙ ap (λ t. done ++ t) (sym p) ∙ q
+
+pub passes : (at end : ℕ) (done one others whole all : List ℕ) → whole ≡ one ++ others → done ++ whole ≡ all → end ≡ at + length done → 2000 < end + length one → 2000 < at + length all
+passes at end done one others whole all p q e h =
+    omega (arith, ap length p, ap length q, length-append done whole, length-append one others)
+
+pub done_all : (old new : List ℕ) (at n : ℕ) (done all whole : List ℕ) → Wrote old new at n done → done ++ whole ≡ all → whole ≡ [] → Wrote old new at n all
+done_all old new at n done all whole w q e = subst (λ (t : List ℕ). Wrote old new at n t) (sym (append-nil done) ∙ ap (λ t. done ++ t) (sym e) ∙ q) w
+
+module _ (t : Map) (values more : List Value) (v : Value) (p : values ≡ v ∷ more) where
+  pub vals_step : (slots others : List Slot) (x : Slot) → slots ≡ x ∷ others → bytes_vals t slots (vals_of (map plain values)) ≡ bytes_val t x (plain v) ++ bytes_vals t others (vals_of (map plain more))
+  unfolding bytes_vals
+  vals_step slots others x q = rw (p, q) refl
+
+  pub slots_none : (slots : List Slot) → slots ≡ [] → bytes_vals t slots (vals_of (map plain values)) ≡ []
+  unfolding bytes_vals
+  slots_none slots q = rw (p, q) refl
+
+  pub vals_smaller : (n : ℕ) → vals_size (vals_of (map plain values)) ≤ n → vals_size (vals_of (map plain more)) ≤ n
+  vals_smaller n h = let e = ap (λ (xs : List Value). vals_size (vals_of (map plain xs))) p in omega (arith, e)
+
+pub vals_none : (t : Map) (slots : List Slot) (values : List Value) → values ≡ [] → bytes_vals t slots (vals_of (map plain values)) ≡ []
+unfolding bytes_vals
+vals_none t slots values p = rw p refl
+
+module _ (t : Map) (i : ℕ) (items more : List Item) (x : Item) (p : items ≡ x ∷ more) where
+  pub elems_step : bytes_elems t i (elems_of items) ≡ (variant_byte x.variant ++ bytes_vals t (node_slots t i x.variant) x.args) ++ bytes_elems t i (elems_of more)
+  unfolding bytes_elems
+  elems_step = rw p refl
+
+  pub elems_smaller : (n : ℕ) → elems_size (elems_of items) ≤ n → elems_size (elems_of more) ≤ n
+  elems_smaller n h = let e = ap (λ (xs : List Item). elems_size (elems_of xs)) p in omega (arith, e)
+
+pub elems_none : (t : Map) (i : ℕ) (items : List Item) → items ≡ [] → bytes_elems t i (elems_of items) ≡ []
+unfolding bytes_elems
+elems_none t i items p = rw p refl

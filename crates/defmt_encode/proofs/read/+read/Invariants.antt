@@ -1,0 +1,44 @@
+use Rattle.std.proofs.Common.{◌≡◌, ◌≤◌, ◌+◌, ◌*◌, ◌-◌, length, All}
+use Rattle.defmt_grammar.specs.Slots.{IsSound}
+use Rattle.defmt_values.specs.Entries.{places_of, places_from}
+use Rattle.defmt_encode.specs.Read.{each_at, elems_at, value_at}
+use Rattle.defmt_encode.proofs.Joins.{before_vals, before_elems}
+use Rattle.defmt_encode.proofs.read.+read.Given as goal
+
+abbrev pub decreases-read_value : goal.decreases-read_value
+decreases-read_value l = 8 * l.left + 4
+
+abbrev pub decreases-read_some : goal.decreases-read_some
+decreases-read_some l = 8 * l.left + 3
+
+abbrev pub decreases-read_args : goal.decreases-read_args
+decreases-read_args l = 8 * l.left + 5
+
+abbrev pub decreases-read_item : goal.decreases-read_item
+decreases-read_item l = 8 * l.left + 6
+
+abbrev pub decreases-read_node : goal.decreases-read_node
+decreases-read_node l = 8 * l.left + 7
+
+abbrev pub decreases-read_items : goal.decreases-read_items
+decreases-read_items l = 8 * l.left + 7
+
+abbrev pub decreases-read_list : goal.decreases-read_list
+decreases-read_list l = 8 * l.left + 8
+
+abbrev pub invariant-read_args-each : goal.invariant-read_args-each
+invariant-read_args-each l = record {
+  small : l.total ≤ 8192;
+  few : l.position + length l.slots ≤ 16;
+  sound : All IsSound l.slots;
+  same : before_vals l.args (each_at (value_at l.table l.left) (places_from l.pieces l.position l.slots) l.weight l.total l.rest) ≡ each_at (value_at l.table l.left) (places_of l.pieces) l.weight l.sum l.bytes;
+}
+
+abbrev pub decreases-read_args-each : goal.decreases-read_args-each
+decreases-read_args-each l = length l.slots
+
+abbrev pub invariant-read_items-each : goal.invariant-read_items-each
+invariant-read_items-each l = record {
+  small : l.total ≤ 8192;
+  same : before_elems l.items (elems_at (value_at l.table l.left) l.form (l.count - l.counter) l.weight l.total l.rest) ≡ elems_at (value_at l.table l.left) l.form l.count l.weight l.sum l.bytes;
+}

@@ -1,0 +1,62 @@
+use Rattle.std.proofs.Common.{arith, List, ℕ, Ok, ◌++◌}
+use Rattle.std.proofs.lemmas.Result.{err_from_is_err_and}
+use Rattle.defmt_values.specs.View.{plain}
+use Rattle.defmt_encode.specs.Carry.{bytes_val, bytes_vals, variant_byte, node_slots}
+use Rattle.defmt_encode.proofs.Chain.{chain}
+use Rattle.defmt_encode.proofs.Puts as puts
+use Rattle.defmt_encode.proofs.writing.+put.Goals as goal
+
+pub put_args-returns-in_default-cut : goal.put_args-returns-in_default-cut
+put_args-returns-in_default-cut t c =
+    puts.done_all c.args.out.now c.each.out c.args.at c.each.end c.each.invariant.done _ _ c.each.invariant.wrote c.each.invariant.joins
+    (puts.slots_none c.args.table.now c.each.values.now c.in-Some.more.now c.in-Some.value.now c.in-Some.ensures c.each.slots_left.now c.in_default-cut.ensures)
+
+pub put_args-returns-in_err-end : goal.put_args-returns-in_err-end
+put_args-returns-in_err-end t c =
+    let p = err_from_is_err_and c.from_residual.result c.from_residual.ensures.1 in
+    rw p.1 (puts.passes c.args.at c.each.end c.each.invariant.done _ _ _ _
+    (puts.vals_step c.args.table.now c.each.values.now c.in-Some.more.now c.in-Some.value.now c.in-Some.ensures c.each.slots_left.now c.in-Some-cut.others.now c.in-Some-cut.slot.now c.in-Some-cut.ensures)
+    c.each.invariant.joins c.each.invariant.wrote.end_is c.in_err-end.ensures)
+
+pub put_args-each-preserved : goal.put_args-each-preserved
+put_args-each-preserved t c =
+    let one : List ℕ = bytes_val c.args.table.now c.in-Some-cut.slot.now (plain c.in-Some.value.now) in
+    record {
+      room = omega arith;
+      smaller = puts.vals_smaller c.args.table.now c.each.values.now c.in-Some.more.now c.in-Some.value.now c.in-Some.ensures _ c.each.invariant.smaller;
+      done = c.each.invariant.done ++ one;
+      wrote = chain c.args.out.now c.each.out c.put_value.new.out c.args.at c.each.end (Ok c.in_ok-end.end) c.each.invariant.done one c.each.invariant.wrote c.in_ok-end.ensures;
+      joins = puts.joins_on c.each.invariant.done one _ _ _
+          (puts.vals_step c.args.table.now c.each.values.now c.in-Some.more.now c.in-Some.value.now c.in-Some.ensures c.each.slots_left.now c.in-Some-cut.others.now c.in-Some-cut.slot.now c.in-Some-cut.ensures)
+          c.each.invariant.joins;
+    }
+
+pub put_args-returns : goal.put_args-returns
+put_args-returns t c =
+    puts.done_all c.args.out.now c.each.out c.args.at c.each.end c.each.invariant.done _ _ c.each.invariant.wrote c.each.invariant.joins
+    (puts.vals_none c.args.table.now c.each.slots_left.now c.each.values.now c.in_default.ensures)
+
+pub put_items-returns-in_err-end : goal.put_items-returns-in_err-end
+put_items-returns-in_err-end t c =
+    let p = err_from_is_err_and c.from_residual.result c.from_residual.ensures.1 in
+    rw p.1 (puts.passes c.args.at c.each.end c.each.invariant.done _ _ _ _
+    (puts.elems_step c.args.table.now c.args.index c.each.rest.now c.in-Some.more.now c.in-Some.item.now c.in-Some.ensures)
+    c.each.invariant.joins c.each.invariant.wrote.end_is c.in_err-end.ensures)
+
+pub put_items-each-preserved : goal.put_items-each-preserved
+put_items-each-preserved t c =
+    let one : List ℕ = variant_byte c.in-Some.item.now.variant ++ bytes_vals c.args.table.now (node_slots c.args.table.now c.args.index c.in-Some.item.now.variant) c.in-Some.item.now.args in
+    record {
+      room = omega arith;
+      smaller = puts.elems_smaller c.args.table.now c.args.index c.each.rest.now c.in-Some.more.now c.in-Some.item.now c.in-Some.ensures _ c.each.invariant.smaller;
+      done = c.each.invariant.done ++ one;
+      wrote = chain c.args.out.now c.each.out c.put_item.new.out c.args.at c.each.end (Ok c.in_ok-end.end) c.each.invariant.done one c.each.invariant.wrote c.in_ok-end.ensures;
+      joins = puts.joins_on c.each.invariant.done one _ _ _
+          (puts.elems_step c.args.table.now c.args.index c.each.rest.now c.in-Some.more.now c.in-Some.item.now c.in-Some.ensures)
+          c.each.invariant.joins;
+    }
+
+pub put_items-returns : goal.put_items-returns
+put_items-returns t c =
+    puts.done_all c.args.out.now c.each.out c.args.at c.each.end c.each.invariant.done _ _ c.each.invariant.wrote c.each.invariant.joins
+    (puts.elems_none c.args.table.now c.args.index c.each.rest.now c.in_default.ensures)

@@ -1,0 +1,10 @@
+pub mod Carry
+pub mod Cause
+pub mod Fields
+pub mod Heard
+pub mod Met
+pub mod Out
+pub mod Read
+pub mod Reads
+pub mod Sound
+pub mod Stamp

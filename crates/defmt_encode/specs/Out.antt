@@ -1,0 +1,26 @@
+-- What is put into a buffer of which 2,000 bytes are used.
+use Rattle.std.specs.Prelude.{◌≡◌, ◌≤◌, ◌<◌, ◌+◌, ℕ, List, ◌++◌, length, take, drop, Result, Ok, Err}
+use Rattle.defmt_encode.specs.declared.put.Long.{Long}
+
+-- the bytes stand behind the first `at`, up to the place n
+pub record Wrote (old new : List ℕ) (at n : ℕ) (bytes : List ℕ) : Type 0 where
+  pub end_is : n ≡ at + length bytes
+  pub fits : n ≤ 2000
+  pub front : take n new ≡ take at old ++ bytes
+
+-- the bytes stand behind the first `at`, or don't fit
+abbrev pub Puts : List ℕ → List ℕ → ℕ → Result ℕ Long → List ℕ → Type 0
+Puts old new at (Ok n) bytes = Wrote old new at n bytes
+Puts old new at (Err e) bytes = 2000 < at + length bytes
+
+-- the buffer begins with the message and is as before behind it
+pub record Begins (old new : List ℕ) (n : ℕ) (message : List ℕ) : Type 0 where
+  pub message_is : take n new ≡ message
+  pub length_is : n ≡ length message
+  pub short : n ≤ 2000
+  pub behind : drop n new ≡ drop n old
+
+-- the message was written, or it has more than 2,000 bytes and the buffer is as before
+abbrev pub Writes : List ℕ → List ℕ → Result ℕ Long → List ℕ → Type 0
+Writes old new (Ok n) message = Begins old new n message
+Writes old new (Err e) message = (2000 < length message) × (new ≡ old)

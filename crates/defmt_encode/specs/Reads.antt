@@ -1,0 +1,109 @@
+-- What the readers answer.
+use Rattle.std.specs.Prelude.{◌≡◌, ◌≤◌, ℕ, List, Option, Result, Ok, Err}
+use Rattle.std.specs.Borrow.{Bor}
+use Rattle.dl_io.specs.Buffer.{Buffer}
+use Rattle.defmt_grammar.specs.declared.piece.Piece.{Piece}
+use Rattle.defmt_intern.specs.Table.{Map}
+use Rattle.defmt_values.specs.Plain.{Val, Vals, Elems}
+use Rattle.defmt_values.specs.View.{plain}
+use Rattle.defmt_values.specs.declared.value.Item.{Item}
+use Rattle.defmt_values.specs.declared.value.Value.{Value}
+use Rattle.defmt_encode.specs.Cause.{answer_of}
+use Rattle.defmt_encode.specs.Heard.{IsHeard}
+use Rattle.defmt_encode.specs.Met.{IsMet}
+use Rattle.defmt_encode.specs.Read.{Read}
+use Rattle.defmt_encode.specs.declared.cause.Cause.{Cause}
+use Rattle.defmt_encode.specs.declared.cause.Fault.{Fault}
+use Rattle.defmt_encode.specs.declared.cause.Fault.TheVariants.{Bad, Memory}
+use Rattle.defmt_encode.specs.declared.heard.Heard.{Heard}
+use Rattle.defmt_encode.specs.declared.heard.ReadCause.{ReadCause}
+use Rattle.defmt_encode.specs.declared.heard.ReadCause.TheVariants as answers
+
+-- ---- what references in results refer to
+
+abbrev pub now_of : {T : Type 0} → Result (Bor T) Cause → Read T
+now_of (Ok r) = Ok r.now
+now_of (Err e) = Err e
+
+abbrev pub pair_now : {T : Type 0} → Result (T × Bor (List ℕ)) Cause → Read (T × List ℕ)
+pair_now (Ok r) = Ok (r.0, r.1.now)
+pair_now (Err e) = Err e
+
+abbrev pub chunks_now : Result (Bor (List ℕ) × Bor (List ℕ)) Cause → Read (List ℕ × List ℕ)
+chunks_now (Ok r) = Ok (r.0.now, r.1.now)
+chunks_now (Err e) = Err e
+
+abbrev pub variant_now : Result (Option ℕ × Bor (List Piece) × Bor (List ℕ)) Cause → Read (Option ℕ × List Piece × List ℕ)
+variant_now (Ok r) = Ok (r.0, r.1.now, r.2.now)
+variant_now (Err e) = Err e
+
+-- ---- what is read, unless memory runs out
+
+abbrev pub ReadsChunk : Result (List ℕ × Bor (List ℕ)) Fault → Read (List ℕ × List ℕ) → Type 0
+ReadsChunk (Ok r) expected = Ok (r.0, r.1.now) ≡ expected
+ReadsChunk (Err (Bad c)) expected = Err c ≡ expected
+ReadsChunk (Err Memory) expected = Unit {0}
+
+abbrev pub ReadsBuffer : Result (Buffer × Bor (List ℕ)) Fault → Read (List ℕ × List ℕ) → Type 0
+ReadsBuffer (Ok r) expected = Ok (r.0.items, r.1.now) ≡ expected
+ReadsBuffer (Err (Bad c)) expected = Err c ≡ expected
+ReadsBuffer (Err Memory) expected = Unit {0}
+
+abbrev pub ReadsVal : Result (Value × ℕ × Bor (List ℕ)) Fault → Read (Val × ℕ × List ℕ) → Type 0
+ReadsVal (Ok r) expected = Ok (plain r.0, r.1, r.2.now) ≡ expected
+ReadsVal (Err (Bad c)) expected = Err c ≡ expected
+ReadsVal (Err Memory) expected = Unit {0}
+
+abbrev pub ReadsVals : Result (Vals × ℕ × Bor (List ℕ)) Fault → Read (Vals × ℕ × List ℕ) → Type 0
+ReadsVals (Ok r) expected = Ok (r.0, r.1, r.2.now) ≡ expected
+ReadsVals (Err (Bad c)) expected = Err c ≡ expected
+ReadsVals (Err Memory) expected = Unit {0}
+
+abbrev pub ReadsElem : Result (Item × ℕ × Bor (List ℕ)) Fault → Read ((Option ℕ × Vals) × ℕ × List ℕ) → Type 0
+ReadsElem (Ok r) expected = Ok ((r.0.variant, r.0.args), r.1, r.2.now) ≡ expected
+ReadsElem (Err (Bad c)) expected = Err c ≡ expected
+ReadsElem (Err Memory) expected = Unit {0}
+
+abbrev pub ReadsElems : Result (Elems × ℕ × Bor (List ℕ)) Fault → Read (Elems × ℕ × List ℕ) → Type 0
+ReadsElems (Ok r) expected = Ok (r.0, r.1, r.2.now) ≡ expected
+ReadsElems (Err (Bad c)) expected = Err c ≡ expected
+ReadsElems (Err Memory) expected = Unit {0}
+
+abbrev pub ReadsStamp : Result (Vals × Bor (List ℕ)) Fault → Read (Vals × List ℕ) → Type 0
+ReadsStamp (Ok r) expected = Ok (r.0, r.1.now) ≡ expected
+ReadsStamp (Err (Bad c)) expected = Err c ≡ expected
+ReadsStamp (Err Memory) expected = Unit {0}
+
+abbrev pub ReadsMessage : Result Heard Fault → Read (Vals × ℕ × Vals) → Type 0
+ReadsMessage (Ok heard) expected = Ok (heard.stamp, heard.stm.index, heard.stm.args) ≡ expected
+ReadsMessage (Err (Bad c)) expected = Err c ≡ expected
+ReadsMessage (Err Memory) expected = Unit {0}
+
+abbrev pub SumSmall : {T : Type 0} → Result (T × ℕ × Bor (List ℕ)) Fault → Type 0
+SumSmall (Ok r) = r.1 ≤ 8192
+SumSmall (Err e) = Unit {0}
+
+-- ---- the answers of `read_message`
+
+-- the cause by its number
+abbrev pub answered : Result Heard Fault → Result Heard ReadCause
+answered (Ok heard) = Ok heard
+answered (Err fault) = Err (answer_of fault)
+
+-- only what is heard is answered, and only a cause that is met
+abbrev pub Answers : Map → List ℕ → Result Heard ReadCause → Type 0
+Answers t bytes (Ok heard) = IsHeard t bytes heard.stamp heard.stm.index heard.stm.args
+Answers t bytes (Err (answers.Bad cause)) = IsMet t bytes cause
+Answers t bytes (Err answers.Memory) = Unit {0}
+
+-- this stamp and statement, unless memory runs out
+abbrev pub GivesOnly : Result Heard ReadCause → Vals → ℕ → Vals → Type 0
+GivesOnly (Ok heard) stamp index vs = (heard.stamp ≡ stamp) × (heard.stm.index ≡ index) × (heard.stm.args ≡ vs)
+GivesOnly (Err (answers.Bad cause)) stamp index vs = ⊥
+GivesOnly (Err answers.Memory) stamp index vs = Unit {0}
+
+-- this cause, unless memory runs out
+abbrev pub RefusesOnly : Result Heard ReadCause → ℕ → Type 0
+RefusesOnly (Ok heard) number = ⊥
+RefusesOnly (Err (answers.Bad cause)) number = cause ≡ number
+RefusesOnly (Err answers.Memory) number = Unit {0}

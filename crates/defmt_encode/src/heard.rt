@@ -1,0 +1,168 @@
+//! Messages read from bytes.
+ghost use Rattle.std.specs.Prelude.{◌≡◌, ◌<◌, ◌^◌, ℕ, length};
+ghost use Rattle.defmt_values.specs.Entries.{look, is_logged};
+ghost use Rattle.defmt_values.specs.Plain.{Vals};
+ghost use Rattle.defmt_encode.specs.Heard.{IsHeard};
+ghost use Rattle.defmt_encode.specs.Met.{IsMet};
+ghost use Rattle.defmt_encode.specs.Read.{one_in, logged_of, stamp_form, stamp_at, all_zero, is_padding, message_at};
+ghost use Rattle.defmt_encode.specs.Reads.{now_of, ReadsStamp, ReadsMessage, Answers, GivesOnly, RefusesOnly, answered};
+ghost use Rattle.defmt_encode.specs.Stamp.{stamp_of};
+
+use crate::cause::{Cause, Fault};
+use crate::field::index;
+use crate::read::{read_args, suited};
+use crate::writing::stamp_index;
+use defmt_grammar::Pieces;
+use defmt_intern::{Parsed, Table, Tag};
+use defmt_values::{Args, Statement, cut, look_up};
+use std::alloc::Global;
+
+/// What a message says.
+#[derive(Drop)]
+pub struct Heard {
+    /// The stamp's arguments, none where the table has no timestamp's entry.
+    pub stamp: Args,
+    /// The statement.
+    pub stm: Statement,
+}
+
+/// Why bytes aren't read as a message.
+#[derive(Clone, Copy, Debug, PartialEq, Eq)]
+pub enum ReadCause {
+    /// The first cause that stands in the bytes, from left to right: 2 an index that isn't in the
+    /// table; 3 an entry whose tag doesn't suit; 4 an entry whose tag is unknown, or whose text was
+    /// refused; 5 the bytes end within a field; 6 a truth value above 1; 7 a number that is no
+    /// character; 8 a text that isn't UTF-8; 9 a variant that isn't there; 10 a Format value at depth
+    /// 17; 11 something else than at most six zeros behind the last argument; 12 the weights of the
+    /// Format values pass 8,192.
+    Bad { cause: u8 },
+    /// Want of memory.
+    Memory,
+}
+
+impl From<Fault> for ReadCause {
+    ghost use Rattle.std.specs.Prelude.{◌≡◌};
+    ghost use Rattle.defmt_encode.specs.Cause.{answer_of};
+
+    ghost from_gives = { λ fault e. e ≡ answer_of fault };
+
+    fn from(fault: Fault) -> ReadCause {
+        match fault {
+            Fault::Bad(cause) => ReadCause::Bad {
+                cause: cause.number(),
+            },
+            Fault::Memory => ReadCause::Memory,
+        }
+    }
+}
+
+fn is_logged(tag: &Tag) -> bool
+    ensures { result ≡ is_logged tag.now }
+{
+    matches!(
+        tag,
+        Tag::Trace | Tag::Debug | Tag::Info | Tag::Warn | Tag::Error | Tag::Println
+    )
+}
+
+fn one_in(body: &Parsed) -> Result<&Pieces, Cause>
+    ensures { now_of result ≡ one_in body.now }
+{
+    match body {
+        Parsed::One(pieces) => Ok(pieces),
+        _ => Err(Cause::Unsupported),
+    }
+}
+
+// The pieces of a frame's own entry.
+fn logged(table: &Table, index: u16) -> Result<&Pieces, Cause>
+    ensures { now_of result ≡ logged_of (look table.now index) }
+{
+    let Some((entry, body)) = look_up(table, index) else {
+        return Err(Cause::NoEntry);
+    };
+    suited(is_logged(&entry.tag), &entry.tag)?;
+    one_in(body)
+}
+
+fn stamp_form(table: &Table, index: u16) -> Result<&Pieces, Cause>
+    ensures { now_of result ≡ stamp_form (look table.now index) }
+{
+    match look_up(table, index) {
+        None => Err(Cause::Unsupported),
+        Some((_, body)) => one_in(body),
+    }
+}
+
+fn read_stamp<'b>(alloc: Global, table: &Table, bytes: &'b [u8]) -> Result<(Args, &'b [u8]), Fault>
+    ensures { ReadsStamp result (stamp_at table.now (stamp_of table.now) bytes.now) }
+{
+    match stamp_index(table) {
+        None => Ok((Args::new(alloc), bytes)),
+        Some(index) => {
+            let pieces = stamp_form(table, index)?;
+            let (args, _, rest) = read_args(alloc, table, pieces, 16, 1, 0, bytes)?;
+            Ok((args, rest))
+        }
+    }
+}
+
+fn all_zero(bytes: &[u8]) -> bool
+    ensures { result ≡ all_zero bytes.now }
+{
+    match cut(bytes) {
+        None => true,
+        Some((b, rest)) => *b == 0 && all_zero(rest),
+    }
+}
+
+fn is_padding(bytes: &[u8]) -> bool
+    ensures { result ≡ is_padding bytes.now }
+{
+    bytes.len() <= 6 && all_zero(bytes)
+}
+
+fn read_whole(alloc: Global, table: &Table, bytes: &[u8]) -> Result<Heard, Fault>
+    ensures { ReadsMessage result (message_at table.now bytes.now) }
+{
+    let (index, rest) = index(bytes)?;
+    let pieces = logged(table, index)?;
+    let (stamp, rest) = read_stamp(alloc, table, rest)?;
+    let (args, _, rest) = read_args(alloc, table, pieces, 16, 1, 0, rest)?;
+    if !is_padding(rest) {
+        return Err(Fault::Bad(Cause::Trailing));
+    }
+    Ok(Heard {
+        stamp,
+        stm: Statement { index, args },
+    })
+}
+
+// The answer, with the cause by its number.
+fn answered(read: Result<Heard, Fault>) -> Result<Heard, ReadCause>
+    ensures { result ≡ answered read }
+{
+    match read {
+        Ok(heard) => Ok(heard),
+        Err(fault) => Err(ReadCause::from(fault)),
+    }
+}
+
+/// The stamp and the statement of a message of fewer than 4,294,967,296 bytes, or the first cause
+/// for which it has none (defmt book, "Serialization").
+///
+/// Behind the last argument there may be up to six zeros, which the last block of a code may add.
+///
+/// # Errors
+/// `ReadCause::Bad` exactly where a cause is met, with the number of the first. `ReadCause::Memory`
+/// where memory runs out.
+pub fn read_message(alloc: Global, table: &Table, bytes: &[u8]) -> Result<Heard, ReadCause>
+    requires { length bytes.now < 2 ^ 32 }
+    // A statement is answered only where it is heard, and a cause only where it is met.
+    ensures answer { Answers table.now bytes.now result }
+    // Unless memory runs out, what is heard is answered, and the cause that is met.
+    ensures heard { (stamp : Vals) (index : ℕ) (vs : Vals) → IsHeard table.now bytes.now stamp index vs → GivesOnly result stamp index vs }
+    ensures met { (number : ℕ) → IsMet table.now bytes.now number → RefusesOnly result number }
+{
+    answered(read_whole(alloc, table, bytes))
+}

@@ -1,0 +1,49 @@
+//! Bytes put into a buffer of which 2,000 are used.
+ghost use Rattle.std.specs.Prelude.{◌≡◌, ◌≤◌, ◌∷◌, [], length};
+ghost use Rattle.byteorder.specs.Endian.{little_bytes};
+ghost use Rattle.defmt_encode.specs.Out.{Puts};
+
+/// A message has more than 2,000 bytes.
+#[derive(Clone, Copy, Debug, PartialEq, Eq)]
+pub struct Long;
+
+// Puts one byte behind the first `at`.
+#[tactic(auto, using(crate::proofs::Chain::one_byte))]
+pub fn put(out: &mut [u8], at: usize, byte: u8) -> Result<usize, Long>
+    requires { (2000 ≤ length out.old) × (at ≤ 2000) }
+    ensures { Puts out.old out.new at result (byte ∷ []) }
+{
+    if at == 2000 {
+        return Err(Long);
+    }
+    out[at] = byte;
+    Ok(at + 1)
+}
+
+/// Puts bytes behind the first `at` of a message. The buffer has at least 2,000 bytes, of
+/// which `at` are put. Answers how many are put then, or `Long` where these would be more than 2,000. Takes no memory.
+pub fn put_bytes(out: &mut [u8], at: usize, bytes: &[u8]) -> Result<usize, Long>
+    requires { (2000 ≤ length out.old) × (at ≤ 2000) }
+    ensures { Puts out.old out.new at result bytes.now }
+{
+    if bytes.len() > 2000 - at {
+        return Err(Long);
+    }
+    let end = at + bytes.len();
+    out[at..end].copy_from_slice(bytes);
+    Ok(end)
+}
+
+/// Puts the lowest `width` bytes of a number behind the first `at` of a message, the lowest first. The buffer has at least 2,000 bytes, of
+/// which `at` are put. Answers how many are put then, or `Long` where these would be more than 2,000. Takes no memory.
+#[tactic(auto, using(crate::proofs::Numbers::little_step))]
+pub fn put_number(out: &mut [u8], at: usize, n: u128, width: u8) -> Result<usize, Long>
+    requires { (2000 ≤ length out.old) × (at ≤ 2000) }
+    ensures { Puts out.old out.new at result (little_bytes width n) }
+{
+    if width == 0 {
+        return Ok(at);
+    }
+    let at = put(out, at, (n % 256) as u8)?;
+    put_number(out, at, n / 256, width - 1)
+}

@@ -1,0 +1,97 @@
+-- Verdicts on texts.
+use Rattle.std.proofs.Common.{◌≡◌, ◌<◌, ◌≤◌, ◌++◌, ◌⊎◌, inl, inr, ℕ, List, [], ◌∷◌, length, Option, Some, None, sym, ◌∙◌, ap, subst, arith}
+use Rattle.std.specs.Prelude.{is_some, true, false}
+use Rattle.defmt_grammar.specs.Grammar.{Spells, HasFault, SameFault}
+use Rattle.defmt_grammar.specs.Fault.{cause_number}
+use Rattle.defmt_grammar.specs.declared.fault.Cause.{Cause}
+use Rattle.defmt_grammar.specs.declared.fault.Mode.{Mode}
+use Rattle.defmt_grammar.specs.declared.fault.Mode.TheVariants.{Strict}
+use Rattle.defmt_grammar.specs.declared.piece.Piece.{Piece}
+use Rattle.defmt_intern.specs.Body.{HasNoBar, variants}
+use Rattle.defmt_intern.specs.declared.entry.Tag.{Tag}
+use Rattle.defmt_intern.specs.declared.entry.Tag.TheVariants as tags
+use Rattle.defmt_intern.proofs.BodyLaws.{variants_one, variants_more}
+use Rattle.defmt_lines.specs.Verdict.{Judges, JudgesBody, JudgesForms, JudgesVariants}
+
+-- a text spells at most one list of pieces, or has one fault and spells nothing
+pub record OneAnswer : Type 0 where
+  pub one : (text : List ℕ) (mode : Mode) (ps qs : List Piece) → Spells text mode ps → Spells text mode qs → ps ≡ qs
+  pub never_both : (text : List ℕ) (mode : Mode) (ps : List Piece) (cause : Cause) (at : ℕ) → Spells text mode ps → HasFault text mode cause at → ⊥
+  pub first : (text : List ℕ) (mode : Mode) (c d : Cause) (a b : ℕ) → HasFault text mode c a → HasFault text mode d b → SameFault c d a b
+
+module _ (law : OneAnswer) where
+  one_of_forms : (texts : List (List ℕ)) (v w : Option ℕ) → JudgesForms texts v → JudgesForms texts w → v ≡ w
+  one_of_forms [] v w p q = p ∙ sym q
+  one_of_forms (text ∷ texts) v w (inl p) (inl q) = one_of_forms texts v w p.2 q.2
+  one_of_forms (text ∷ texts) v w (inl p) (inr q) = absurd (law.never_both text Strict p.0 q.2.0 q.1 p.1 q.2.1)
+  one_of_forms (text ∷ texts) v w (inr p) (inl q) = absurd (law.never_both text Strict q.0 p.2.0 p.1 q.1 p.2.1)
+  one_of_forms (text ∷ texts) v w (inr p) (inr q) =
+      let same : p.0 ≡ q.0 = p.2.2 ∙ ap cause_number (law.first text Strict p.2.0 q.2.0 p.1 q.1 p.2.1 q.2.1).cause ∙ sym q.2.2 in
+      p.3 ∙ ap (λ (n : ℕ). let o : Option ℕ = Some n in o) same ∙ sym q.3
+
+  one_of_variants : (texts : List (List ℕ)) (v w : Option ℕ) → JudgesVariants texts v → JudgesVariants texts w → v ≡ w
+  one_of_variants texts v w (inl p) (inl q) = p.1 ∙ sym q.1
+  one_of_variants texts v w (inl p) (inr q) = absurd (omega (arith, p.0, q.0))
+  one_of_variants texts v w (inr p) (inl q) = absurd (omega (arith, p.0, q.0))
+  one_of_variants texts v w (inr p) (inr q) = one_of_forms texts v w p.1 q.1
+
+  one_of_body : (tag : Tag) (text : List ℕ) (v w : Option ℕ) → JudgesBody tag text v → JudgesBody tag text w → v ≡ w
+  one_of_body tags.Interned text v w p q = p ∙ sym q
+  one_of_body tags.Prim text v w p q = one_of_variants (variants text) v w p q
+  one_of_body tags.Derived text v w p q = one_of_variants (variants text) v w p q
+  one_of_body tags.Write text v w p q = one_of_variants (variants text) v w p q
+  one_of_body tags.Trace text v w p q = one_of_forms (text ∷ []) v w p q
+  one_of_body tags.Debug text v w p q = one_of_forms (text ∷ []) v w p q
+  one_of_body tags.Info text v w p q = one_of_forms (text ∷ []) v w p q
+  one_of_body tags.Warn text v w p q = one_of_forms (text ∷ []) v w p q
+  one_of_body tags.Error text v w p q = one_of_forms (text ∷ []) v w p q
+  one_of_body tags.Println text v w p q = one_of_forms (text ∷ []) v w p q
+  one_of_body tags.Timestamp text v w p q = one_of_forms (text ∷ []) v w p q
+  one_of_body (tags.Other name) text v w p q = one_of_forms (text ∷ []) v w p q
+
+  by_cases : (tag : Tag) (text : List ℕ) (v w : Option ℕ)
+      → ((4096 < length text) × (v ≡ Some 0)) ⊎ ((length text ≤ 4096) × JudgesBody tag text v)
+      → ((4096 < length text) × (w ≡ Some 0)) ⊎ ((length text ≤ 4096) × JudgesBody tag text w) → v ≡ w
+  by_cases tag text v w (inl p) (inl q) = p.1 ∙ sym q.1
+  by_cases tag text v w (inl p) (inr q) = absurd (omega (arith, p.0, q.0))
+  by_cases tag text v w (inr p) (inl q) = absurd (omega (arith, p.0, q.0))
+  by_cases tag text v w (inr p) (inr q) = one_of_body tag text v w p.1 q.1
+
+  pub one_verdict : (tag : Tag) (text : List ℕ) (v w : Option ℕ) → Judges tag text v → Judges tag text w → v ≡ w
+  unfolding Judges
+  one_verdict tag text v w p q = by_cases tag text v w p q
+
+-- ---- variants one after another
+
+-- what the verdict on the rest is, is the verdict on the whole
+pub record IsBehind (rest text : List ℕ) : Type 0 where
+  pub then : (v : Option ℕ) → JudgesForms (variants rest) v → JudgesForms (variants text) v
+
+pub begins : (text : List ℕ) → IsBehind text text
+begins text = record { then = λ v j. j }
+
+taken_first : (variant : List ℕ) (more : List (List ℕ)) (u v : Option ℕ) → is_some u ≡ false → JudgesForms (variant ∷ []) u → JudgesForms more v → JudgesForms (variant ∷ more) v
+taken_first variant more (Some n) v none p j = absurd cc
+taken_first variant more None v none (inl p) j = inl (p.0, p.1, j)
+taken_first variant more None v none (inr p) j = absurd (cc p.3)
+
+refused_first : (variant : List ℕ) (more : List (List ℕ)) (v : Option ℕ) → is_some v ≡ true → JudgesForms (variant ∷ []) v → JudgesForms (variant ∷ more) v
+refused_first variant more None some p = absurd cc
+refused_first variant more (Some n) some (inl p) = absurd (cc p.2)
+refused_first variant more (Some n) some (inr p) = inr p
+
+pub goes_on : (rest text variant after : List ℕ) (u : Option ℕ) → IsBehind rest text → rest ≡ variant ++ 124 ∷ after → HasNoBar variant → is_some u ≡ false → JudgesForms (variant ∷ []) u → IsBehind after text
+goes_on rest text variant after u behind e bare none taken = record {
+  then = λ v j.
+      let cut : variants rest ≡ variant ∷ variants after = ap variants e ∙ variants_more variant after bare in
+      behind.then v (subst (λ (ts : List (List ℕ)). JudgesForms ts v) (sym cut) (taken_first variant (variants after) u v none taken j));
+}
+
+pub stops : (rest text variant after : List ℕ) (v : Option ℕ) → IsBehind rest text → rest ≡ variant ++ 124 ∷ after → HasNoBar variant → is_some v ≡ true → JudgesForms (variant ∷ []) v
+    → JudgesForms (variants text) v
+stops rest text variant after v behind e bare some refused =
+    let cut : variants rest ≡ variant ∷ variants after = ap variants e ∙ variants_more variant after bare in
+    behind.then v (subst (λ (ts : List (List ℕ)). JudgesForms ts v) (sym cut) (refused_first variant (variants after) v some refused))
+
+pub ends : (rest text : List ℕ) (v : Option ℕ) → IsBehind rest text → HasNoBar rest → JudgesForms (rest ∷ []) v → JudgesForms (variants text) v
+ends rest text v behind bare j = behind.then v (subst (λ (ts : List (List ℕ)). JudgesForms ts v) (sym (variants_one rest bare)) j)

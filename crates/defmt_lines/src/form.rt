@@ -1,0 +1,71 @@
+//! The forms of a script's lines.
+
+ghost use Rattle.std.specs.Prelude.{◌≡◌};
+ghost use Rattle.defmt_lines.specs.Form.{form_of, in_order, next, rank};
+
+/// The form of a line, by its first word. A script has its lines in this order.
+#[derive(Clone, Copy, Debug, PartialEq, Eq)]
+pub enum Form {
+    /// `ring`
+    Ring,
+    /// `mode`
+    Mode,
+    /// `reader`
+    Reader,
+    /// `stamp`
+    Stamp,
+    /// `s`
+    Entry,
+    /// `w`
+    Statement,
+}
+
+impl Form {
+    fn rank(self) -> u8
+        ensures { result ≡ rank self }
+    {
+        match self {
+            Form::Ring => 0,
+            Form::Mode => 1,
+            Form::Reader => 2,
+            Form::Stamp => 3,
+            Form::Entry => 4,
+            Form::Statement => 5,
+        }
+    }
+
+    /// The first form that may stand behind a line of this one: each of the first four stands at most once.
+    pub fn next(self) -> Form
+        ensures { result ≡ next self }
+    {
+        match self {
+            Form::Ring => Form::Mode,
+            Form::Mode => Form::Reader,
+            Form::Reader => Form::Stamp,
+            Form::Stamp | Form::Entry => Form::Entry,
+            Form::Statement => Form::Statement,
+        }
+    }
+
+    /// Whether a line of this form may come where `first` is the first form that may.
+    pub fn is_in_order(self, first: Form) -> bool
+        ensures { result ≡ in_order first self }
+    {
+        first.rank() <= self.rank()
+    }
+}
+
+/// The form that a line's first word gives it.
+pub fn form_of(word: &str) -> Option<Form>
+    ensures { result ≡ form_of word.now }
+{
+    match word {
+        "ring" => Some(Form::Ring),
+        "mode" => Some(Form::Mode),
+        "reader" => Some(Form::Reader),
+        "stamp" => Some(Form::Stamp),
+        "s" => Some(Form::Entry),
+        "w" => Some(Form::Statement),
+        _ => None,
+    }
+}

@@ -1,0 +1,23 @@
+//! The lines of a script: a text cut into lines, what each line says, and what the texts and the first lines of a script
+//! must be. Which lines may follow one another, and what they come to, is the crate above.
+#![tactic(auto)]
+
+mod cause;
+mod content;
+mod cut;
+mod form;
+mod line;
+mod number;
+mod settings;
+mod verdict;
+
+pub use cause::Cause;
+pub use content::{EntryLine, Line, StatementLine};
+pub use cut::next_line;
+pub use form::Form;
+pub use line::{is_name, read_line};
+pub use settings::{RingMode, Settings};
+pub use verdict::{judge, one_verdict};
+
+#[cfg(test)]
+mod tests;

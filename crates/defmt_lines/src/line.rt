@@ -1,0 +1,182 @@
+//! The reading of a line.
+
+ghost use Rattle.std.specs.Prelude.{◌≡◌, ◌<◌, true, unwrap_or, IfSome, option_copied, option_map};
+ghost use Rattle.std.specs.List.{list_all};
+ghost use Rattle.defmt_grammar.specs.Cut.{cut, parts_of};
+ghost use Rattle.defmt_lines.specs.Line.{by_form, entry_of, field_and_rest, is_blank, is_letter, is_name, is_name_byte, is_string_tag, line_of, one_field, statement_of, tag_of, text_of, two_fields, worded};
+ghost use Rattle.defmt_lines.specs.LineView.{line_view};
+
+use crate::content::{EntryLine, Line, StatementLine};
+use crate::form::{Form, form_of};
+use crate::number::writer_of;
+use defmt_intern::Tag;
+
+/// What a line says.
+#[tactic(auto, unfolding(crate::specs::Line::line_of))]
+pub fn read_line(line: &[u8]) -> Line<'_>
+    ensures { line_view result ≡ line_of line.now }
+{
+    let Some(text) = text_of(line) else {
+        return Line::Other;
+    };
+    if is_blank(text.as_bytes()) {
+        return Line::Blank;
+    }
+    match worded(text) {
+        Some(line) => line,
+        None => Line::Other,
+    }
+}
+
+// The bytes as a text, where these are UTF-8.
+fn text_of(bytes: &[u8]) -> Option<&str>
+    ensures { option_copied result ≡ text_of bytes.now }
+{
+    match str::from_utf8(bytes) {
+        Ok(text) => Some(text),
+        Err(_) => None,
+    }
+}
+
+fn is_blank(line: &[u8]) -> bool
+    ensures { result ≡ is_blank line.now }
+{
+    match line {
+        [] => true,
+        [first, ..] => *first == b'#',
+    }
+}
+
+// A line by its first word.
+#[tactic(auto, unfolding(crate::specs::Line::worded))]
+fn worded(text: &str) -> Option<Line<'_>>
+    ensures { option_map line_view result ≡ worded text.now }
+{
+    let (word, rest) = cut(text)?;
+    let form = form_of(word)?;
+    by_form(form, rest)
+}
+
+fn by_form(form: Form, rest: &str) -> Option<Line<'_>>
+    ensures { option_map line_view result ≡ by_form form rest.now }
+{
+    match form {
+        Form::Ring => Some(Line::Ring(one_field(rest)?)),
+        Form::Mode => Some(Line::Mode(one_field(rest)?)),
+        Form::Reader => Some(Line::Reader(one_field(rest)?)),
+        Form::Stamp => {
+            let (base, step) = two_fields(rest)?;
+            Some(Line::Stamp(base, step))
+        }
+        Form::Entry => entry_of(rest),
+        Form::Statement => statement_of(rest),
+    }
+}
+
+// What stands before and after the first space.
+fn cut(text: &str) -> Option<(&str, &str)>
+    ensures { parts_of result ≡ cut 32 text.now }
+{
+    text.split_once(' ')
+}
+
+// The text, where it is one field.
+#[tactic(auto, unfolding(crate::specs::Line::one_field))]
+fn one_field(text: &str) -> Option<&str>
+    ensures { option_copied result ≡ one_field text.now }
+{
+    match cut(text) {
+        Some(_) => None,
+        None => Some(text),
+    }
+}
+
+#[tactic(auto, unfolding(crate::specs::Line::two_fields))]
+fn two_fields(text: &str) -> Option<(&str, &str)>
+    ensures { parts_of result ≡ two_fields text.now }
+{
+    let (first, rest) = cut(text)?;
+    Some((first, one_field(rest)?))
+}
+
+// A field and what follows it: where nothing follows, the space may be missing.
+#[tactic(auto, unfolding(crate::specs::Line::field_and_rest))]
+fn field_and_rest(text: &str) -> (&str, &str)
+    ensures field { result.0.now ≡ (field_and_rest text.now).0 }
+    ensures rest { result.1.now ≡ (field_and_rest text.now).1 }
+{
+    match cut(text) {
+        Some(parts) => parts,
+        None => (text, ""),
+    }
+}
+
+// The tag of a word, of which an `s` line has ten.
+fn tag_of(word: &str) -> Option<Tag>
+    ensures value { result ≡ tag_of word.now }
+    ensures of_string { IfSome result (λ tag. is_string_tag tag ≡ true) }
+{
+    match word {
+        "defmt_trace" => Some(Tag::Trace),
+        "defmt_debug" => Some(Tag::Debug),
+        "defmt_info" => Some(Tag::Info),
+        "defmt_warn" => Some(Tag::Warn),
+        "defmt_error" => Some(Tag::Error),
+        "defmt_println" => Some(Tag::Println),
+        "defmt_prim" => Some(Tag::Prim),
+        "defmt_derived" => Some(Tag::Derived),
+        "defmt_write" => Some(Tag::Write),
+        "defmt_str" => Some(Tag::Interned),
+        _ => None,
+    }
+}
+
+// The string of a line `s NAME TAG TEXT`, behind its `s`.
+#[tactic(auto, unfolding(crate::specs::Line::entry_of))]
+fn entry_of(text: &str) -> Option<Line<'_>>
+    ensures { option_map line_view result ≡ entry_of text.now }
+{
+    let (name, rest) = cut(text)?;
+    let (word, text) = field_and_rest(rest);
+    let tag = tag_of(word)?;
+    Some(Line::Entry(EntryLine { name, tag, text }))
+}
+
+// The statement of a line `w WRITER NAME ARGS`, behind its `w`.
+#[tactic(auto, unfolding(crate::specs::Line::statement_of))]
+fn statement_of(text: &str) -> Option<Line<'_>>
+    ensures { option_map line_view result ≡ statement_of text.now }
+{
+    let (digits, rest) = cut(text)?;
+    let writer = writer_of(digits)?;
+    let (name, args) = field_and_rest(rest);
+    Some(Line::Statement(StatementLine { writer, name, args }))
+}
+
+/// A letter, and up to 31 letters, digits and `_` behind it, all ASCII.
+pub fn is_name(name: &[u8]) -> bool
+    ensures { result ≡ is_name name.now }
+{
+    match name {
+        [] => false,
+        [first, more @ ..] => is_letter(*first) && are_name_bytes(more) && more.len() <= 31,
+    }
+}
+
+fn is_letter(byte: u8) -> bool
+    ensures { result ≡ is_letter byte }
+{
+    (byte >= b'A' && byte <= b'Z') || (byte >= b'a' && byte <= b'z')
+}
+
+fn is_name_byte(byte: u8) -> bool
+    ensures { result ≡ is_name_byte byte }
+{
+    is_letter(byte) || (byte >= b'0' && byte <= b'9') || byte == b'_'
+}
+
+fn are_name_bytes(bytes: &[u8]) -> bool
+    ensures { result ≡ list_all is_name_byte bytes.now }
+{
+    bytes.iter().all(|byte| is_name_byte(*byte))
+}

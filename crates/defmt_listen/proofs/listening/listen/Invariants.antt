@@ -1,0 +1,19 @@
+use Rattle.std.proofs.Common.{◌≡◌, ◌≤◌, ◌+◌, ◌-◌, [], length}
+use Rattle.defmt_listen.specs.Heard.{recording_limit}
+use Rattle.defmt_listen.proofs.Wholes.{Listening}
+use Rattle.defmt_listen.proofs.listening.listen.Given as goal
+
+abbrev pub invariant-parts : goal.invariant-parts
+invariant-parts g l = record {
+  listening : Listening (record { tells = g.L.Listener.tells l.fn.listener; line = g.L.Listener.line; is_fault = g.L.Listener.is_fault })
+      (g.L.Listener.framing l.listener) (g.S.Source.left l.fn.src) (g.S.Source.left l.src)
+      (g.K.Sink.held l.fn.out) (g.K.Sink.held l.out) l.taken l.report.faults;
+  empty : l.report.lines.items ≡ [];
+  room : length l.buf.items ≡ 65536;
+  same : g.L.Listener.tells l.listener ≡ g.L.Listener.tells l.fn.listener;
+  source_later : g.S.Source.faults l.fn.src ≤ g.S.Source.faults l.src;
+  sink_later : g.K.Sink.faults l.fn.out ≤ g.K.Sink.faults l.out;
+}
+
+abbrev pub decreases-parts : goal.decreases-parts
+decreases-parts g l = recording_limit - l.taken

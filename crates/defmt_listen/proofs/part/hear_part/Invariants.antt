@@ -1,0 +1,15 @@
+use Rattle.std.proofs.Common.{◌≡◌, ◌≤◌, length}
+use Rattle.defmt_listen.proofs.Hearing.{Hearing}
+use Rattle.defmt_listen.proofs.part.hear_part.Given as goal
+
+abbrev pub invariant-parts : goal.invariant-parts
+invariant-parts g l = record {
+  hearing : Hearing (record { tells = g.L.Listener.tells l.fn.listener; line = g.L.Listener.line; is_fault = g.L.Listener.is_fault })
+      (g.L.Listener.framing l.fn.listener) (g.L.Listener.framing l.listener) l.bytes l.rest
+      (g.K.Sink.held l.fn.out) (g.K.Sink.held l.out) l.report.lines.items l.fn.report.faults l.report.faults;
+  same : g.L.Listener.tells l.listener ≡ g.L.Listener.tells l.fn.listener;
+  later : g.K.Sink.faults l.fn.out ≤ g.K.Sink.faults l.out;
+}
+
+abbrev pub decreases-parts : goal.decreases-parts
+decreases-parts g l = length l.rest

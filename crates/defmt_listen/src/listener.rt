@@ -1,0 +1,48 @@
+ghost use Rattle.std.specs.Prelude.{◌≡◌, ◌≤◌, ◌<◌, ◌++◌, ℕ, Bool, List, length, take, IfOk, OnOk, option_to_list};
+ghost use Rattle.defmt_framing.specs.Told.{Tells, events, begun};
+ghost use Rattle.defmt_framing.specs.Framing.{Framing, Stands, Hears};
+
+use dl_io::{Bytes, Memory};
+use std::alloc::Global;
+
+/// Hears a stream of frames, and tells an event of each of its parts.
+///
+/// A listener is seen as what it tells by, and as what it keeps of the bytes that it heard.
+pub trait Listener {
+    /// Something that a part tells.
+    type Event: Drop;
+
+    /// What each part tells.
+    ghost tells: { Self → Tells Self.Event };
+
+    /// What is kept of the bytes that were heard.
+    ghost framing: { Self → Framing };
+
+    /// The output line of an event.
+    ghost line: { Self.Event → List ℕ };
+
+    /// Whether an event is a fault of the recording.
+    ghost is_fault: { Self.Event → Bool };
+
+    /// Takes bytes up to and with the zero that ends the first part which tells something, and answers how many it took with
+    /// that event. Some byte is taken where there is one. On want of memory nothing is known of the listener.
+    fn feed(&mut self, bytes: &[u8]) -> Result<(usize, Option<Self::Event>), Memory>
+        ensures within { IfOk result (λ r. r.0 ≤ length bytes.now) }
+        ensures hears { IfOk result (λ r. (stream : List ℕ) → Stands (framing self.old) stream
+            → Hears (tells self.old) (framing self.new) stream (take r.0 bytes.now) r.1) }
+        ensures some { IfOk result (λ r. 0 < length bytes.now → 0 < r.0) }
+        ensures same { tells self.new ≡ tells self.old };
+
+    /// What the end of the stream tells beyond what was answered.
+    fn finish(self) -> Option<Self::Event>
+        ensures { (stream : List ℕ) → Stands (framing self) stream
+            → events (tells self) stream ≡ begun (tells self) stream ++ option_to_list result };
+
+    /// Appends the output line of an event.
+    fn add_line(alloc: Global, event: &Self::Event, out: &mut Bytes) -> Result<(), Memory>
+        ensures { OnOk result (out.new.items ≡ out.old.items ++ line event.now) };
+
+    /// Whether an event is a fault of the recording.
+    fn is_fault(event: &Self::Event) -> bool
+        ensures { result ≡ is_fault event.now };
+}

@@ -1,0 +1,88 @@
+// A whole recording is heard.
+ghost use Rattle.std.specs.Prelude.{◌≡◌, ◌≤◌, ◌<◌, ◌+◌, [], ℕ, length, take, IfOk, IfErr};
+ghost use Rattle.std.specs.Io.KnownBytes.{Consumes, IsAtEnd};
+ghost use Rattle.defmt_framing.specs.Framing.{Stands};
+ghost use Rattle.defmt_listen.specs.Heard.{HeardAll, Breaks, ReadsNo, recording_limit};
+
+use crate::fault::ListenFault;
+use crate::listener::Listener;
+use crate::part::{Report, add_told, hear_part, write_lines};
+use dl_io::{Bytes, Failed, Memory, Sink, Source};
+use std::alloc::Global;
+
+// The most bytes that are read at a time.
+const PART: usize = 65_536;
+
+const RECORDING_LIMIT: usize = 268_435_456;
+
+/// Reads the source to its end as a recording, gives its bytes to the listener, and writes the line of each event to the sink.
+/// Answers how many events are faults.
+///
+/// At most 65,536 bytes are read at a time, and the lines that they tell are written before the next ones are read. A
+/// recording has at most 268,435,456 bytes. The source, this limit and the sink take turns, and the first fault that is
+/// met is answered.
+pub fn listen<S: Source, K: Sink, L: Listener + Drop>(
+    alloc: Global,
+    src: &mut S,
+    out: &mut K,
+    listener: L,
+) -> Result<u64, ListenFault>
+    requires { Stands (L.framing listener) [] }
+    ensures heard { IfOk result (λ count. HeardAll (record { tells = L.tells listener; line = L.line; is_fault = L.is_fault })
+        (record { left = S.left src.old; left_after = S.left src.new; faults = S.faults src.old; faults_after = S.faults src.new })
+        (record { held = K.held out.old; held_after = K.held out.new; faults = K.faults out.old; faults_after = K.faults out.new })
+        count) }
+    ensures breaks { IfErr result (λ fault. Breaks (record { tells = L.tells listener; line = L.line; is_fault = L.is_fault })
+        (record { left = S.left src.old; left_after = S.left src.new; faults = S.faults src.old; faults_after = S.faults src.new })
+        (record { held = K.held out.old; held_after = K.held out.new; faults = K.faults out.old; faults_after = K.faults out.new })
+        fault) }
+    ensures source_count { S.faults src.old ≤ S.faults src.new }
+    ensures sink_count { K.faults out.old ≤ K.faults out.new }
+{
+    let mut listener = listener;
+    let mut report = Report {
+        alloc,
+        lines: Bytes::new(alloc),
+        faults: 0,
+    };
+    let mut buf = part_buffer(alloc)?;
+    let mut taken = 0usize;
+    'parts: loop {
+        let count = next_part(src, &mut buf, taken)?;
+        if count == 0 {
+            break;
+        }
+        hear_part(&mut listener, out, &mut report, &buf[..count])?;
+        taken += count;
+    }
+    add_told::<L>(&mut report, listener.finish())?;
+    write_lines(out, &mut report.lines)?;
+    Ok(report.faults)
+}
+
+fn part_buffer(alloc: Global) -> Result<Vec<u8>, Memory>
+    ensures { IfOk result (λ buf. length buf.items ≡ 65536) }
+{
+    Ok(vec![in alloc; 0u8; PART]?)
+}
+
+// Reads the next bytes, behind so many that were taken.
+fn next_part<S: Source>(src: &mut S, buf: &mut [u8], taken: usize) -> Result<usize, ListenFault>
+    requires room { 0 < length buf.old }
+    requires within { taken ≤ recording_limit }
+    ensures within { IfOk result (λ count. (count ≤ length buf.new) × (taken + count ≤ recording_limit)) }
+    ensures bytes { IfOk result (λ count. Consumes (S.left src.old) (S.left src.new) (take count buf.new)) }
+    ensures end { IfOk result (λ count. count ≡ 0 → IsAtEnd (S.left src.new)) }
+    ensures refused { IfErr result (λ fault. ReadsNo
+        (record { left = S.left src.old; left_after = S.left src.new; faults = S.faults src.old; faults_after = S.faults src.new })
+        taken fault) }
+    ensures later { S.faults src.old ≤ S.faults src.new }
+{
+    let most = buf.len().min(RECORDING_LIMIT - taken).max(1);
+    match src.read(&mut buf[..most]) {
+        Ok(0) => Ok(0),
+        Ok(_) if taken == RECORDING_LIMIT => Err(ListenFault::Long),
+        Ok(count) => Ok(count),
+        Err(Failed) => Err(ListenFault::Source),
+    }
+}

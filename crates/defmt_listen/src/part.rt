@@ -1,0 +1,106 @@
+// One part of a recording is heard.
+ghost use Rattle.std.specs.Prelude.{◌≡◌, ◌≤◌, ◌<◌, ◌+◌, ◌^◌, ◌++◌, [], ℕ, List, length, filter, flat_map, take, IfErr, OnOk, OnErr, option_to_list};
+ghost use Rattle.std.specs.Io.KnownBytes.{Appends};
+ghost use Rattle.dl_io.specs.Outside.{Rose};
+ghost use Rattle.defmt_framing.specs.Framing.{Stands};
+ghost use Rattle.defmt_listen.specs.Heard.{HeardPart, HeardSome, BreaksPart};
+
+use crate::fault::ListenFault;
+use crate::listener::Listener;
+use dl_io::{Bytes, Failed, Sink, write_all};
+use std::alloc::Global;
+
+// So many bytes of lines are gathered before they are written, unless the part ends before.
+const GATHERED: usize = 65_536;
+
+/// What is told and not yet written, and how many faults were told.
+#[derive(Drop)]
+pub struct Report {
+    pub alloc: Global,
+    pub lines: Bytes,
+    pub faults: u64,
+}
+
+/// Hears all the bytes, and writes the lines of what they tell.
+pub fn hear_part<K: Sink, L: Listener>(
+    listener: &mut L,
+    out: &mut K,
+    report: &mut Report,
+    bytes: &[u8],
+) -> Result<(), ListenFault>
+    requires empty { report.old.lines.items ≡ [] }
+    requires few { report.old.faults + length bytes.now < 2 ^ 64 }
+    ensures heard { OnOk result ((stream : List ℕ) → Stands (L.framing listener.old) stream → HeardPart
+        (record { tells = L.tells listener.old; line = L.line; is_fault = L.is_fault }) (L.framing listener.new)
+        (record { held = K.held out.old; held_after = K.held out.new; faults = K.faults out.old; faults_after = K.faults out.new })
+        stream bytes.now report.old.faults report.new.faults) }
+    ensures empty { OnOk result (report.new.lines.items ≡ []) }
+    ensures few { OnOk result (report.new.faults ≤ report.old.faults + length bytes.now) }
+    ensures some { OnErr result ((stream : List ℕ) → Stands (L.framing listener.old) stream → HeardSome
+        (record { tells = L.tells listener.old; line = L.line; is_fault = L.is_fault })
+        (record { held = K.held out.old; held_after = K.held out.new; faults = K.faults out.old; faults_after = K.faults out.new })
+        stream bytes.now) }
+    ensures fault { IfErr result (λ fault. BreaksPart (Rose (K.faults out.old) (K.faults out.new)) fault) }
+    ensures same { OnOk result (L.tells listener.new ≡ L.tells listener.old) }
+    ensures later { K.faults out.old ≤ K.faults out.new }
+{
+    let mut rest = bytes;
+    'parts: while !rest.is_empty() {
+        let (taken, told) = listener.feed(rest)?;
+        add_told::<L>(report, told)?;
+        let (_, behind) = rest.split_at(taken);
+        rest = behind;
+        write_gathered(out, &mut report.lines)?;
+    }
+    write_lines(out, &mut report.lines)?;
+    Ok(())
+}
+
+/// Adds what was told, if something was.
+pub fn add_told<L: Listener>(report: &mut Report, told: Option<L::Event>) -> Result<(), ListenFault>
+    requires { report.old.faults + 1 < 2 ^ 64 }
+    ensures lines { OnOk result (report.new.lines.items ≡ report.old.lines.items ++ flat_map L.line (option_to_list told)) }
+    ensures faults { OnOk result (report.new.faults ≡ report.old.faults + length (filter L.is_fault (option_to_list told))) }
+    ensures memory { IfErr result (λ fault. fault ≡ ListenFault.Memory) }
+{
+    if let Some(event) = told {
+        L::add_line(report.alloc, &event, &mut report.lines)?;
+        if L::is_fault(&event) {
+            report.faults += 1;
+        }
+    }
+    Ok(())
+}
+
+// Writes the lines once there are many.
+fn write_gathered<K: Sink>(out: &mut K, lines: &mut Bytes) -> Result<(), ListenFault>
+    ensures ok { OnOk result ((written : List ℕ) × Appends (K.held out.old) (K.held out.new) written
+        × (written ++ lines.new.items ≡ lines.old.items)) }
+    ensures front { OnErr result ((count : ℕ) × (count ≤ length lines.old.items)
+        × Appends (K.held out.old) (K.held out.new) (take count lines.old.items)) }
+    ensures sink { IfErr result (λ fault. (fault ≡ ListenFault.Sink) × Rose (K.faults out.old) (K.faults out.new)) }
+    ensures later { K.faults out.old ≤ K.faults out.new }
+{
+    if lines.len() < GATHERED {
+        return Ok(());
+    }
+    write_lines(out, lines)
+}
+
+/// Writes the lines, and then has none.
+pub fn write_lines<K: Sink>(out: &mut K, lines: &mut Bytes) -> Result<(), ListenFault>
+    ensures ok { OnOk result (Appends (K.held out.old) (K.held out.new) lines.old.items) }
+    ensures empty { OnOk result (lines.new.items ≡ []) }
+    ensures front { OnErr result ((count : ℕ) × (count ≤ length lines.old.items)
+        × Appends (K.held out.old) (K.held out.new) (take count lines.old.items)) }
+    ensures sink { IfErr result (λ fault. (fault ≡ ListenFault.Sink) × Rose (K.faults out.old) (K.faults out.new)) }
+    ensures later { K.faults out.old ≤ K.faults out.new }
+{
+    match write_all(out, lines.as_slice()) {
+        Ok(()) => {
+            lines.clear();
+            Ok(())
+        }
+        Err(Failed) => Err(ListenFault::Sink),
+    }
+}

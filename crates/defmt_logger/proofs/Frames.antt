@@ -1,0 +1,50 @@
+-- The statements of a script have short messages, and frames aren't empty.
+use Rattle.std.proofs.Common.{◌≡◌, ℕ, zero, suc, ◌<◌, ◌≤◌, List, [], ◌∷◌, Option, Some, None, length, take, sym, ap, ◌∙◌, subst, arith}
+use Rattle.std.specs.Prelude.{slice_get, slice_index_or}
+use Rattle.std.specs.List.{AllByRecursion}
+use Rattle.std.proofs.lemmas.Option.{same_Some}
+use Rattle.defmt_encode.specs.Carry.{frame_of, message_of, stamp_args}
+use Rattle.defmt_intern.specs.Table.{Map}
+use Rattle.defmt_logger.specs.Tape.{frame_at, frame_with, statements_of, stamp_in}
+use Rattle.defmt_script.specs.Lawful.{IsLawful, IsSound}
+use Rattle.defmt_script.specs.Script.{Script}
+use Rattle.defmt_values.specs.Plain.{Vals}
+use Rattle.defmt_values.specs.declared.value.Statement.{Statement}
+
+at_place : {X : Type 0} (P : X → Type 0) (xs : List X) (i : ℕ) (x : X) → AllByRecursion P xs → slice_get xs i ≡ Some x → P x
+at_place P [] i x all is = absurd (cc is)
+at_place P (y ∷ xs) zero x all is = subst P (same_Some y x is) all.0
+at_place P (y ∷ xs) (suc i) x all is = at_place P xs i x all.1 is
+
+at_writer : (P : List Statement → Type 0) (ws : List (List Statement)) (w : ℕ) → AllByRecursion P ws → P [] → P (slice_index_or ws w [])
+at_writer P [] w all none = none
+at_writer P (l ∷ ws) zero all none = all.0
+at_writer P (l ∷ ws) (suc w) all none = at_writer P ws w all.1 none
+
+pub sound_at : (s : Script) (w k : ℕ) (stm : Statement) → IsLawful s → slice_get (statements_of s w) k ≡ Some stm → IsSound s.table s.settings.stamp stm
+sound_at s w k stm h is =
+    let P : Statement → Type 0 = IsSound s.table s.settings.stamp in
+    at_place P (statements_of s w) k stm (at_writer (λ l. AllByRecursion P l) s.writers w h.sound tt) is
+
+pub short_at : (table : Map) (stamp : Option (ℕ × ℕ)) (n : ℕ) (stm : Statement)
+    → ((t : Map) (index : ℕ) (args : Vals) (one other : ℕ) → length (message_of t (stamp_args (Some one)) index args) ≡ length (message_of t (stamp_args (Some other)) index args))
+    → IsSound table stamp stm → length (message_of table (stamp_args (stamp_in stamp n)) stm.index stm.args) ≤ 2000
+short_at table None n stm alike h = h.short
+short_at table (Some p) n stm alike h = omega (arith, alike table stm.index stm.args n p.0, h.short)
+
+pub some_taken : (n : ℕ) (xs ys : List ℕ) (x : ℕ) → take n xs ≡ x ∷ ys → 0 < n
+some_taken zero xs ys x is = absurd (cc is)
+some_taken (suc n) xs ys x is = omega arith
+
+pub statement_there : (xs : List Statement) (k : ℕ) → k < length xs → slice_get xs k ≡ None → ⊥
+statement_there [] k lt none = absurd (omega (arith, lt))
+statement_there (x ∷ xs) zero lt none = absurd (cc none)
+statement_there (x ∷ xs) (suc k) lt none = statement_there xs k (omega (arith, lt)) none
+
+pub frame_is : (s : Script) (w k n : ℕ) (stm : Statement) (table : Map) (o : Option ℕ) → slice_get (statements_of s w) k ≡ Some stm → table ≡ s.table → o ≡ stamp_in s.settings.stamp n
+    → frame_of (message_of table (stamp_args o) stm.index stm.args) ≡ frame_at s w k n
+unfolding frame_at
+frame_is s w k n stm table o there same carried =
+    ap (λ (t : Map). frame_with t o (Some stm)) same
+    ∙ ap (λ (p : Option ℕ). frame_with s.table p (Some stm)) carried
+    ∙ ap (λ (x : Option Statement). frame_with s.table (stamp_in s.settings.stamp n) x) (sym there)

@@ -1,0 +1,4 @@
+mod Append
+mod Frames
+mod Next
+mod Room

@@ -1,0 +1,90 @@
+-- A desk on which one statement more is logged.
+use Rattle.std.proofs.Common.{◌≡◌, ℕ, zero, suc, ◌+◌, ◌*◌, ◌<◌, ◌≤◌, List, [], ◌∷◌, ◌++◌, length, length-append, refl, sym, ap, ◌∙◌, subst, arith}
+use Rattle.std.specs.Prelude.{replicate, slice_index_or, slice_set}
+use Rattle.defmt_logger.proofs.Append.{counts_append, kept_append, within_snoc}
+use Rattle.defmt_logger.proofs.Room.{tape_fits, writer_below}
+use Rattle.defmt_logger.specs.Kept.{Counts, IsClockOf, IsKept, IsWorking, Reel, SendsIn, Sheet, next_mark}
+use Rattle.defmt_logger.specs.Tape.{count, first_stamp, frame_at, marks_of, stamp_number}
+use Rattle.defmt_logger.specs.declared.mark.Mark.{Mark}
+use Rattle.defmt_script.specs.Lawful.{IsLawful as HoldsOfScripts}
+use Rattle.defmt_script.specs.Script.{Script, count_all}
+use Rattle.rtt_modes.specs.declared.fate.Fate.{Fate}
+use Rattle.rtt_modes.specs.declared.fate.Fate.TheVariants.{Whole}
+use Rattle.rtt_ring.specs.Views.{Up}
+
+-- a writer that has a statement left is one of eight
+pub writer_is : (s : Script) (tape : List Mark) (w : ℕ) → HoldsOfScripts s → marks_of w tape < count s w → w < 8
+writer_is s tape w h more = omega (arith, writer_below s.writers w (marks_of w tape) more, h.eight)
+
+-- and then the tape has room
+pub room_left : (d : Sheet) (w : ℕ) → IsKept d → HoldsOfScripts d.script → marks_of w d.tape.marks < count d.script w → 0 < d.tape.room
+room_left d w k h more =
+    let m : Mark = next_mark d.script d.tape.marks w Whole in
+    let fits : length (d.tape.marks ++ m ∷ []) ≤ count_all d.script.writers = tape_fits d.script (d.tape.marks ++ m ∷ []) (within_snoc d.script d.tape.marks m k.lawful.within more) in
+    let len : length (d.tape.marks ++ m ∷ []) ≡ length d.tape.marks + 1 = length-append d.tape.marks (m ∷ []) in
+    omega (arith, fits, len, h.few, k.room)
+
+stamp_is : (s : Script) (base step : ℕ) (ready : ℕ → Type 0) (gives : ℕ → ℕ → Type 0) (t stamp : ℕ) → IsClockOf s.settings.stamp base step ready gives → t ≤ 4096 → gives t stamp → stamp ≡ stamp_number s t
+stamp_is s base step ready gives t stamp c le given =
+    c.even.stamps t stamp le given
+    ∙ ap (λ (b : ℕ). b + step * t) c.base_is
+    ∙ ap (λ (x : ℕ). first_stamp s.settings.stamp + x * t) c.step_is
+
+pub record Next (d : Sheet) (places : List ℕ) (w : ℕ) (fate : Fate) (now : Reel) (v : Up) : Type 0 where
+  pub marks : now.marks ≡ d.tape.marks ++ next_mark d.script d.tape.marks w fate ∷ []
+  pub sends : SendsIn d.script.settings.mode d.up v (frame_at d.script w (marks_of w d.tape.marks) (stamp_number d.script (length d.tape.marks))) fate
+  pub kept : IsKept (record { script = d.script; tape = now; up = v })
+  pub counts : Counts (slice_set places w (slice_index_or places w 0 + 1)) now.marks
+
+next_by : (d : Sheet) (places : List ℕ) (w place stamp : ℕ) (fate : Fate) (now : Reel) (v : Up)
+    → IsKept d → Counts places d.tape.marks
+    → marks_of w d.tape.marks < count d.script w
+    → slice_index_or places w 0 ≡ marks_of w d.tape.marks
+    → place ≡ marks_of w d.tape.marks
+    → stamp ≡ stamp_number d.script (length d.tape.marks)
+    → now.marks ≡ d.tape.marks ++ (record { writer = w; place = place; stamp = stamp; fate = fate }) ∷ []
+    → now.room + 1 ≡ d.tape.room
+    → SendsIn d.script.settings.mode d.up v (frame_at d.script w place stamp) fate
+    → Next d places w fate now v
+next_by d places w place stamp fate now v k counts more here place_is stamp_is marks room sends =
+    let tape : List Mark = d.tape.marks in
+    let mark : ℕ → ℕ → Mark = λ p n. record { writer = w; place = p; stamp = n; fate = fate } in
+    let m : Mark = next_mark d.script tape w fate in
+    let same : mark place stamp ≡ m = ap (λ (p : ℕ). mark p stamp) place_is ∙ ap (λ (n : ℕ). mark (marks_of w tape) n) stamp_is in
+    let is : now.marks ≡ tape ++ m ∷ [] = marks ∙ ap (λ (x : Mark). tape ++ x ∷ []) same in
+    let frame : frame_at d.script w place stamp ≡ frame_at d.script w (marks_of w tape) (stamp_number d.script (length tape)) =
+    ap (λ (p : ℕ). frame_at d.script w p stamp) place_is ∙ ap (λ (n : ℕ). frame_at d.script w (marks_of w tape) n) stamp_is in
+    let sent : SendsIn d.script.settings.mode d.up v (frame_at d.script w (marks_of w tape) (stamp_number d.script (length tape))) fate =
+    subst (λ (l : List ℕ). SendsIn d.script.settings.mode d.up v l fate) frame sends in
+    record {
+      marks = is;
+      sends = sent;
+      kept = kept_append d now m v k is room refl more refl sent;
+      counts = counts_append places (slice_index_or places w 0 + 1) tape now.marks m counts is (ap (λ (n : ℕ). n + 1) here);
+    }
+
+pub next_is : (d : Sheet) (places : List ℕ) (base step : ℕ) (ready : ℕ → Type 0) (gives : ℕ → ℕ → Type 0) (message frame : List ℕ) (w t stamp : ℕ) (fate : Fate) (now : Reel) (v : Up)
+    → IsWorking d places base step ready gives message frame
+    → HoldsOfScripts d.script
+    → marks_of w d.tape.marks < count d.script w
+    → t ≡ length d.tape.marks
+    → gives t stamp
+    → now.marks ≡ d.tape.marks ++ (record { writer = w; place = slice_index_or places w 0; stamp = stamp; fate = fate }) ∷ []
+    → now.room + 1 ≡ d.tape.room
+    → SendsIn d.script.settings.mode d.up v (frame_at d.script w (slice_index_or places w 0) stamp) fate
+    → Next d places w fate now v
+next_is d places base step ready gives message frame w t stamp fate now v k h more t_is given marks room sends =
+    let here : slice_index_or places w 0 ≡ marks_of w d.tape.marks = k.counts.1 w (writer_is d.script d.tape.marks w h more) in
+    let few : t ≤ 4096 = omega (arith, t_is, k.kept.room) in
+    let now_is : stamp ≡ stamp_number d.script (length d.tape.marks) = stamp_is d.script base step ready gives t stamp k.clock few given ∙ ap (stamp_number d.script) t_is in
+    next_by d places w (slice_index_or places w 0) stamp fate now v k.kept k.counts more here here now_is marks room sends
+
+-- ---- a desk on which nothing was logged
+
+zeros : (n w : ℕ) → ◌≡◌ {A = ℕ} (slice_index_or (replicate n 0) w 0) 0
+zeros zero w = refl
+zeros (suc n) zero = refl
+zeros (suc n) (suc w) = zeros n w
+
+pub no_counts : (tape : List Mark) → tape ≡ [] → Counts (0 ∷ 0 ∷ 0 ∷ 0 ∷ 0 ∷ 0 ∷ 0 ∷ 0 ∷ []) tape
+no_counts tape none = (refl, λ w lt. zeros 8 w ∙ sym (ap (marks_of w) none))

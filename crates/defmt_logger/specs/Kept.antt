@@ -1,0 +1,95 @@
+-- What contracts see of a tape and of a desk, and what a desk keeps.
+use Rattle.std.specs.Prelude.{◌≡◌, ℕ, ◌+◌, ◌<◌, ◌≤◌, true, List, [], ◌++◌, length, Option, slice_index_or}
+use Rattle.defmt_hooks.specs.Even.{RunsEvenly}
+use Rattle.defmt_lines.specs.declared.settings.RingMode.{RingMode}
+use Rattle.defmt_lines.specs.declared.settings.RingMode.TheVariants.{Block, Skip, Trim}
+use Rattle.defmt_logger.specs.Tape.{IsLawful, Released, first_stamp, marks_of, stamp_number, stamp_step, stream_of}
+use Rattle.defmt_logger.specs.declared.mark.Mark.{Mark}
+use Rattle.defmt_script.specs.Lawful.{statements_limit}
+use Rattle.defmt_script.specs.Script.{Script}
+use Rattle.rtt_modes.specs.Fates.{ByLook, SkippedBy, TrimmedBy}
+use Rattle.rtt_modes.specs.declared.fate.Fate.{Fate}
+use Rattle.rtt_modes.specs.declared.fate.Fate.TheVariants.{Whole}
+use Rattle.rtt_ring.specs.Views.{Up, UpKept}
+
+-- a tape: its marks, and for how many more it has room
+pub record Reel : Type 0 where
+  pub marks : List Mark
+  pub room : ℕ
+
+-- a desk: its script, its tape, and the end of the ring that it writes to
+pub record Sheet : Type 0 where
+  pub script : Script
+  pub tape : Reel
+  pub up : Up
+
+-- ---- the clock
+
+-- the clock counts by the stamps of a script
+pub record IsClockOf (stamp : Option (ℕ × ℕ)) (base step : ℕ) (ready : ℕ → Type 0) (gives : ℕ → ℕ → Type 0) : Type 0 where
+  pub base_is : base ≡ first_stamp stamp
+  pub step_is : step ≡ stamp_step stamp
+  pub even : RunsEvenly base step ready gives
+
+-- ---- the modes
+
+-- in skip and trim mode the end tells how many bytes were released
+abbrev pub TellsIn : RingMode → Up → Type 0
+TellsIn Block u = Unit {0}
+TellsIn Skip u = u.tells ≡ true
+TellsIn Trim u = u.tells ≡ true
+
+-- from u to v the whole frame was sent, by at least one look
+pub record SendsAll (u v : Up) (frame : List ℕ) (fate : Fate) : Type 0 where
+  pub whole : fate ≡ Whole
+  pub sent : v.sent ≡ u.sent ++ frame
+  pub looks : u.looks + 1 ≤ v.looks
+  pub kept : UpKept u v
+
+-- what a mode makes of a frame, from u to v
+abbrev pub SendsIn : RingMode → Up → Up → List ℕ → Fate → Type 0
+SendsIn Block u v frame fate = SendsAll u v frame fate
+SendsIn Skip u v frame fate = ByLook SkippedBy u v frame fate
+SendsIn Trim u v frame fate = ByLook TrimmedBy u v frame fate
+
+-- ---- what a desk keeps
+
+-- in skip and trim mode what the looks of the tape found released is at most what the end knows
+abbrev pub Behind : RingMode → Script → List Mark → Up → Type 0
+Behind Block s tape u = Unit {0}
+Behind Skip s tape u = (u.tells ≡ true) × Released s tape u.freed
+Behind Trim s tape u = (u.tells ≡ true) × Released s tape u.freed
+
+-- one look for each mark, and in blocking mode at least one
+abbrev pub LooksIn : RingMode → ℕ → ℕ → Type 0
+LooksIn Block marks looks = marks ≤ looks
+LooksIn Skip marks looks = looks ≡ marks
+LooksIn Trim marks looks = looks ≡ marks
+
+-- The tape is lawful, the ring was sent its stream, and nothing is staged. The tape's room is for all statements that a
+-- script can have.
+pub record IsKept (d : Sheet) : Type 0 where
+  pub lawful : IsLawful d.script d.tape.marks
+  pub sent : d.up.sent ≡ stream_of d.script d.tape.marks
+  pub staged : d.up.staged ≡ []
+  pub size : d.up.size ≡ d.script.settings.ring
+  pub behind : Behind d.script.settings.mode d.script d.tape.marks d.up
+  pub looks : LooksIn d.script.settings.mode (length d.tape.marks) d.up.looks
+  pub room : length d.tape.marks + d.tape.room ≡ statements_limit
+
+-- eight numbers, how many marks each writer has
+abbrev pub Counts : List ℕ → List Mark → Type 0
+Counts xs tape = (length xs ≡ 8) × ((w : ℕ) → w < 8 → slice_index_or xs w 0 ≡ marks_of w tape)
+
+-- the next mark of a writer
+abbrev pub next_mark : Script → List Mark → ℕ → Fate → Mark
+next_mark s tape w fate = record { writer = w; place = marks_of w tape; stamp = stamp_number s (length tape); fate = fate }
+
+-- what a desk keeps of its parts: the sheet, the writers' next places, the clock's meanings, and the buffers for a
+-- message and a frame
+pub record IsWorking (d : Sheet) (places : List ℕ) (base step : ℕ) (ready : ℕ → Type 0) (gives : ℕ → ℕ → Type 0) (message frame : List ℕ) : Type 0 where
+  pub kept : IsKept d
+  pub counts : Counts places d.tape.marks
+  pub clock : IsClockOf d.script.settings.stamp base step ready gives
+  pub message_size : length message ≡ 2000
+  pub frame_size : length frame ≡ 2288

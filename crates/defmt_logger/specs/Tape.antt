@@ -1,0 +1,138 @@
+-- Tapes: a mark for each statement that was logged, in the order in which the writers acquired the logger.
+use Rattle.std.specs.Prelude.{◌≡◌, ℕ, ◌+◌, ◌*◌, ◌<◌, ◌≤◌, ◌==◌, List, [], ◌∷◌, ◌++◌, length, Option, Some, None, if◌then◌else◌, slice_get, slice_index_or}
+use Rattle.defmt_eager.specs.Line.{eager_line}
+use Rattle.defmt_encode.specs.Carry.{frame_of, message_of, stamp_args}
+use Rattle.defmt_intern.specs.Table.{Map}
+use Rattle.defmt_lines.specs.declared.settings.RingMode.{RingMode}
+use Rattle.defmt_lines.specs.declared.settings.RingMode.TheVariants.{Skip, Trim}
+use Rattle.defmt_logger.specs.declared.mark.Mark.{Mark}
+use Rattle.defmt_script.specs.Script.{Script}
+use Rattle.defmt_values.specs.declared.value.Statement.{Statement}
+use Rattle.rtt_modes.specs.Fates.{part_of}
+use Rattle.rtt_modes.specs.declared.fate.Fate.{Fate}
+use Rattle.rtt_modes.specs.declared.fate.Fate.TheVariants.{Whole, Dropped, Cut}
+
+-- the statements of a writer, none where there is no such writer
+abbrev pub statements_of : Script → ℕ → List Statement
+statements_of s w = slice_index_or s.writers w []
+
+-- how many statements a writer has
+abbrev pub count : Script → ℕ → ℕ
+count s w = length (statements_of s w)
+
+-- ---- stamps (defmt book, "Timestamps")
+
+-- the first stamp, and the step to the next; both are 0 without stamps
+abbrev pub first_stamp : Option (ℕ × ℕ) → ℕ
+first_stamp None = 0
+first_stamp (Some p) = p.0
+
+abbrev pub stamp_step : Option (ℕ × ℕ) → ℕ
+stamp_step None = 0
+stamp_step (Some p) = p.1
+
+-- the stamp of a tape's mark number t, from 0
+abbrev pub stamp_number : Script → ℕ → ℕ
+stamp_number s t = first_stamp s.settings.stamp + stamp_step s.settings.stamp * t
+
+-- the stamp that a message carries: none where there are no stamps
+abbrev pub stamp_in : Option (ℕ × ℕ) → ℕ → Option ℕ
+stamp_in None stamp = None
+stamp_in (Some p) stamp = Some stamp
+
+-- ---- frames (defmt book, "Encoding")
+
+abbrev pub frame_with : Map → Option ℕ → Option Statement → List ℕ
+frame_with table stamp None = []
+frame_with table stamp (Some stm) = frame_of (message_of table (stamp_args stamp) stm.index stm.args)
+
+-- the frame of the message of a writer's statement, with this stamp
+unfoldable pub frame_at : Script → ℕ → ℕ → ℕ → List ℕ
+frame_at s writer place stamp = frame_with s.table (stamp_in s.settings.stamp stamp) (slice_get (statements_of s writer) place)
+
+-- the frame of a mark
+abbrev pub mark_frame : Script → Mark → List ℕ
+mark_frame s m = frame_at s m.writer m.place m.stamp
+
+-- the bytes of a frame that were sent: all, none, or the first, as the mark's fate says
+abbrev pub mark_part : Script → Mark → List ℕ
+mark_part s m = part_of (mark_frame s m) m.fate
+
+-- what was sent for the marks of a tape, joined
+abbrev pub stream_of : Script → List Mark → List ℕ
+stream_of s [] = []
+stream_of s (m ∷ ms) = mark_part s m ++ stream_of s ms
+
+-- ---- lines (defmt book, the display of log frames)
+
+abbrev pub line_with : Map → Option ℕ → Option Statement → List ℕ
+line_with table stamp None = []
+line_with table stamp (Some stm) = eager_line table (stamp_args stamp) stm.index stm.args
+
+-- the printed line of a mark's statement
+unfoldable pub mark_line : Script → Mark → List ℕ
+mark_line s m = line_with s.table (stamp_in s.settings.stamp m.stamp) (slice_get (statements_of s m.writer) m.place)
+
+-- a line is printed where the frame was sent whole
+abbrev pub line_by : Fate → List ℕ → List (List ℕ)
+line_by Whole line = line ∷ []
+line_by (Dropped need room) line = []
+line_by (Cut need room) line = []
+
+-- the lines of the marks whose frames were sent whole, in order
+abbrev pub lines_of : Script → List Mark → List (List ℕ)
+lines_of s [] = []
+lines_of s (m ∷ ms) = line_by m.fate (mark_line s m) ++ lines_of s ms
+
+-- ---- which tapes are lawful
+
+-- the places of a writer's marks, in order
+abbrev pub places : ℕ → List Mark → List ℕ
+places w [] = []
+places w (m ∷ ms) = if m.writer == w then m.place ∷ places w ms else places w ms
+
+-- how many marks a writer has
+abbrev pub marks_of : ℕ → List Mark → ℕ
+marks_of w [] = 0
+marks_of w (m ∷ ms) = if m.writer == w then marks_of w ms + 1 else marks_of w ms
+
+-- the numbers from this one on, one after another
+abbrev pub Runs : ℕ → List ℕ → Type 0
+Runs from [] = Unit {0}
+Runs from (k ∷ ks) = (k ≡ from) × Runs (from + 1) ks
+
+-- Where f bytes are released, a frame behind these marks had room in the ring if its fate is Whole, and else had
+-- no more room than its fate says. Equal offsets mean an empty ring, so one byte of its size is never used
+-- (SEGGER RTT, the offsets of an up-buffer).
+abbrev pub Leaves : Script → List Mark → List ℕ → Fate → ℕ → Type 0
+Leaves s before frame Whole f = length (stream_of s before) + length frame + 1 ≤ s.settings.ring + f
+Leaves s before frame (Dropped need room) f = room + length (stream_of s before) + 1 ≤ s.settings.ring + f
+Leaves s before frame (Cut need room) f = room + length (stream_of s before) + 1 ≤ s.settings.ring + f
+
+-- the same of each mark of a tape
+abbrev pub Released : Script → List Mark → ℕ → Type 0
+Released s tape f = (before after : List Mark) (m : Mark) → tape ≡ before ++ m ∷ after → Leaves s before (mark_frame s m) m.fate f
+
+-- A frame that didn't fit behind these marks: its need is its length, the room was less, and the look that told the
+-- room found so many bytes released: none that wasn't sent, and no fewer than the marks before need.
+pub record Lost (s : Script) (before : List Mark) (frame : List ℕ) (need room : ℕ) : Type 0 where
+  pub need_is : need ≡ length frame
+  pub less : room < need
+  pub found : ℕ
+  pub found_is : found + s.settings.ring ≡ room + length (stream_of s before) + 1
+  pub within : found ≤ length (stream_of s before)
+  pub released : Released s before found
+
+-- whole frames in each mode, dropped ones in skip mode alone, and cut ones in trim mode alone
+abbrev pub FateLaw : RingMode → Script → List Mark → List ℕ → Fate → Type 0
+FateLaw mode s before frame Whole = Unit {0}
+FateLaw mode s before frame (Dropped need room) = (mode ≡ Skip) × Lost s before frame need room
+FateLaw mode s before frame (Cut need room) = (mode ≡ Trim) × Lost s before frame need room
+
+-- Each writer's marks have the places 0, 1, 2 and so on, no more than it has statements. The mark number t has the
+-- stamp number t. Each fate is one that the mode allows, by the room that was found.
+pub record IsLawful (s : Script) (tape : List Mark) : Type 0 where
+  pub order : (w : ℕ) → Runs 0 (places w tape)
+  pub within : (w : ℕ) → marks_of w tape ≤ count s w
+  pub stamps : (before after : List Mark) (m : Mark) → tape ≡ before ++ m ∷ after → m.stamp ≡ stamp_number s (length before)
+  pub fates : (before after : List Mark) (m : Mark) → tape ≡ before ++ m ∷ after → FateLaw s.settings.mode s before (mark_frame s m) m.fate

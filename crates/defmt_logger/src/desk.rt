@@ -1,0 +1,212 @@
+// The desk.
+ghost use Rattle.std.specs.Prelude.{◌≡◌, ◌^◌, ◌<◌, [], ◌∷◌, ◌++◌, IfOk, length};
+ghost use Rattle.defmt_logger.specs.Kept.{IsClockOf, IsKept, SendsIn, TellsIn, next_mark};
+ghost use Rattle.defmt_logger.specs.Tape.{count, frame_at, marks_of, stamp_number};
+ghost use Rattle.rtt_ring.specs.Views.{new_up};
+
+use crate::framing::write_frame;
+use crate::mark::Mark;
+use crate::tape::Tape;
+use defmt_hooks::Clock;
+use defmt_script::{RingMode, Script};
+use dl_io::Memory;
+use rtt_modes::{Fate, Relief, block, skip, trim};
+use rtt_ring::UpEnd;
+use std::alloc::Global;
+use std::marker::Model;
+use std::sync::Wait;
+
+// How many bytes a message and its frame have at most, and how many statements a script has at most.
+const MESSAGE_SIZE: usize = 2000;
+
+const FRAME_SIZE: usize = 2288;
+
+const STATEMENTS: usize = 4096;
+
+/// A script, the tape of those of its statements that were logged, and the end of a ring that their frames go to.
+///
+/// Between two calls the tape is lawful, what was sent is its stream, and nothing is staged.
+#[derive(Drop)]
+pub struct Desk<U: UpEnd, C: Clock> {
+    script: Script,
+    tape: Tape,
+    places: [u32; 8],
+    stamp: C,
+    message: Vec<u8>,
+    frame: Vec<u8>,
+    up: U,
+}
+
+impl<U: UpEnd, C: Clock> Model for Desk<U, C> {
+    ghost use Rattle.defmt_logger.specs.Kept.{IsWorking, Sheet};
+    ghost use Rattle.defmt_logger.specs.Codes.{coded_sheet};
+
+    ghost Value = { Sheet };
+
+    ghost coded = { coded_sheet };
+
+    ghost view = { λ d. record { script = d.script; tape = d.tape; up = U.view d.up } };
+
+    ghost invariant = { λ d. IsWorking (record { script = d.script; tape = d.tape; up = U.view d.up }) d.places (C.base d.stamp) (C.step d.stamp) (C.ready d.stamp) (C.gives d.stamp) d.message.items d.frame.items };
+}
+
+// Sends a frame in a mode. It waits in blocking mode alone.
+fn send<U: UpEnd, R: Relief, W: Wait>(
+    rt: &W,
+    up: &mut U,
+    mode: RingMode,
+    frame: &[u8],
+    relief: &mut R,
+) -> Fate
+    requires staged { (U.view up.old).staged ≡ [] }
+    requires frame { (0 < length frame.now) × (length frame.now < 2 ^ 32) }
+    requires relief { R.kept relief.old }
+    ensures sent { SendsIn mode (U.view up.old) (U.view up.new) frame.now result }
+    ensures relief { R.kept relief.new }
+{
+    match mode {
+        RingMode::Block => {
+            block(rt, up, frame, relief);
+            Fate::Whole
+        }
+        RingMode::Skip => skip(up, frame),
+        RingMode::Trim => trim(up, frame),
+    }
+}
+
+// Sends the frame of a writer's statement in the script's mode. The buffers are for its message and its frame.
+fn send_statement<U: UpEnd, R: Relief, W: Wait>(
+    rt: &W,
+    up: &mut U,
+    script: &Script,
+    writer: u8,
+    place: u32,
+    stamp: u64,
+    message: &mut [u8],
+    frame: &mut [u8],
+    relief: &mut R,
+) -> Fate
+    requires staged { (U.view up.old).staged ≡ [] }
+    requires place { place < count script.now writer }
+    requires buffers { (length message.old ≡ 2000) × (length frame.old ≡ 2288) }
+    requires relief { R.kept relief.old }
+    ensures sent { SendsIn script.now.settings.mode (U.view up.old) (U.view up.new) (frame_at script.now writer place stamp) result }
+    ensures relief { R.kept relief.new }
+{
+    let size = write_frame(script, writer, place, stamp, message, frame);
+    send(rt, up, script.mode(), &frame[..size], relief)
+}
+
+impl<U: UpEnd, C: Clock> Desk<U, C> {
+    /// Logs the next statement of a writer that has one left: its frame goes to the ring in the script's mode, and a mark
+    /// on the tape. Waits in blocking mode alone, for the reader. Takes no memory.
+    pub fn append<R: Relief, W: Wait>(&mut self, rt: &W, writer: u8, relief: &mut R) -> Fate
+        requires place { marks_of writer self.old.tape.marks < count self.old.script writer }
+        requires relief { R.kept relief.old }
+        ensures mark { self.new.tape.marks ≡ self.old.tape.marks ++ next_mark self.old.script self.old.tape.marks writer result ∷ [] }
+        ensures sent { SendsIn self.old.script.settings.mode self.old.up self.new.up (frame_at self.old.script writer (marks_of writer self.old.tape.marks) (stamp_number self.old.script (length self.old.tape.marks))) result }
+        ensures script { self.new.script ≡ self.old.script }
+        ensures split { self.new.up.split ≡ self.old.up.split }
+        ensures kept { IsKept self.new }
+        ensures relief { R.kept relief.new }
+    {
+        // So a writer that has a statement left is one of eight.
+        self.script.lawful();
+        let place = self.places[writer as usize];
+        let stamp = self.stamp.tick(self.tape.len() as u32);
+        let fate = send_statement(
+            rt,
+            &mut self.up,
+            &self.script,
+            writer,
+            place,
+            stamp,
+            &mut self.message,
+            &mut self.frame,
+            relief,
+        );
+        self.tape.push_reserved(Mark {
+            writer,
+            place,
+            stamp,
+            fate,
+        });
+        self.places[writer as usize] = place + 1;
+        fate
+    }
+
+    /// What holds of every desk.
+    pub fn lawful(&self)
+        ensures { IsKept self.now }
+    {
+        let _ = &self.tape;
+    }
+
+    /// How many statements a writer has, those that were logged among them. Takes no memory.
+    pub fn count(&self, writer: u8) -> u32
+        ensures { result ≡ count self.now.script writer }
+    {
+        self.script.count(writer)
+    }
+
+    /// How many statements of a writer were logged, which is the place of its next. The writer's number is from 0 to 7.
+    /// Takes no memory.
+    pub fn place(&self, writer: u8) -> u32
+        requires { writer < 8 }
+        ensures { result ≡ marks_of writer self.now.tape.marks }
+    {
+        self.places[writer as usize]
+    }
+}
+
+impl<U: UpEnd + Drop, C: Clock + Drop> Desk<U, C> {
+    /// A desk on which nothing was logged, with room for all that will be.
+    ///
+    /// The clock counts by the script's stamps, and by 0 and 0 without them. The end is as its split gave it and has the
+    /// script's size; in skip and trim mode it tells how many bytes were released.
+    ///
+    /// # Errors
+    /// `Memory` where there is none. Script, clock and end are then given up.
+    pub fn start(alloc: Global, script: Script, stamp: C, up: U) -> Result<Desk<U, C>, Memory>
+        requires clock { IsClockOf script.settings.stamp (C.base stamp) (C.step stamp) (C.ready stamp) (C.gives stamp) }
+        requires fresh { U.view up ≡ new_up (U.view up).split script.settings.ring (U.view up).tells }
+        requires told { TellsIn script.settings.mode (U.view up) }
+        ensures script { IfOk result (λ desk. desk.script ≡ script) }
+        ensures tape { IfOk result (λ desk. desk.tape.marks ≡ []) }
+        ensures up { IfOk result (λ desk. desk.up ≡ U.view up) }
+        ensures kept { IfOk result (λ desk. IsKept desk) }
+    {
+        let mut tape = Tape::new(alloc);
+        tape.reserve(STATEMENTS)?;
+        let message = vec![in alloc; 0u8; MESSAGE_SIZE]?;
+        let frame = vec![in alloc; 0u8; FRAME_SIZE]?;
+        Ok(Desk {
+            script,
+            tape,
+            places: [0; 8],
+            stamp,
+            message,
+            frame,
+            up,
+        })
+    }
+
+    /// The tape, the end of the ring and the script. Takes no memory.
+    pub fn close(self) -> (Tape, U, Script)
+        ensures tape { result.0 ≡ self.tape }
+        ensures up { U.view result.1 ≡ self.up }
+        ensures script { result.2 ≡ self.script }
+        ensures kept { IsKept (record { script = result.2; tape = result.0; up = U.view result.1 }) }
+    {
+        let Desk {
+            script,
+            tape,
+            places: _,
+            stamp: _,
+            message: _,
+            frame: _,
+            up,
+        } = self;
+        (tape, up, script)
+    }
+}

@@ -1,0 +1,3 @@
+mod Lengths
+mod Messages
+mod Places

@@ -1,0 +1,24 @@
+//! The macros that log a statement: each writes its message into a buffer (defmt book, "Log levels").
+//!
+//! A [`Site`] is a place in a program that logs, checked against the string table when it is made. A macro names its
+//! site, and its arguments by their types: `info!(buf, table, site, stamp; u8 x, str name)`. It expands to
+//! [`Frame::begin`], one [`put!`] for each argument and [`Frame::end`], and gives the length of the message. The form
+//! `info!(buf, table, site, stamp; all args)` puts a list of values. Only making a site takes memory.
+#![tactic(auto)]
+
+mod frame;
+mod logging;
+mod macros;
+mod putting;
+mod site;
+mod slots;
+
+pub use defmt_grammar::IntSize;
+pub use defmt_intern::Tag;
+pub use frame::Frame;
+pub use logging::log;
+pub use site::{Site, SiteFault, stamp_suits};
+pub use slots::Slots;
+
+#[cfg(test)]
+mod tests;

@@ -1,0 +1,28 @@
+// Steps of putting an argument.
+ghost use Rattle.std.specs.Prelude.{◌≡◌, ◌≤◌, ◌<◌, ◌+◌, ◌∷◌, length};
+ghost use Rattle.byteorder.specs.Endian.{little_bytes};
+ghost use Rattle.defmt_encode.specs.Out.{Wrote};
+ghost use Rattle.defmt_grammar.specs.declared.slot.Slot.{Slot as AnySlot};
+
+use defmt_encode::put_number;
+use defmt_grammar::Slot;
+
+// Puts a number for which there is room.
+#[tactic(auto, using(crate::proofs::Lengths::number_length))]
+pub fn put_fitting(buf: &mut [u8], at: usize, n: u128, width: u8) -> usize
+    requires { (2000 ≤ length buf.old) × (at + width ≤ 2000) }
+    ensures { Wrote buf.old buf.new at result (little_bytes width n) }
+{
+    match put_number(buf, at, n, width) {
+        Ok(end) => end,
+        Err(_) => unreachable!(),
+    }
+}
+
+// The slots behind the first.
+pub fn behind(slots: &[Slot]) -> &[Slot]
+    requires { 0 < length slots.now }
+    ensures { (first : AnySlot) × (slots.now ≡ first ∷ result.now) }
+{
+    &slots[1..]
+}

@@ -1,5 +1,0 @@
-use Rattle.defmt_grammar.proofs.Cuts.{strip_prefix_text}
-use Rattle.defmt_run.proofs.line.behind_text.Goals as goal
-
-pub returns : goal.returns
-returns c = strip_prefix_text c.args.front.now c.args.text.now c.strip_prefix.result c.strip_prefix.ensures.cases

@@ -1,0 +1,24 @@
+-- The source, the sink and the shelf that a session is given.
+use Rattle.std.specs.Prelude.{◌≡◌, ℕ, List, Option}
+use Rattle.std.specs.Io.KnownBytes.{Keeps}
+use Rattle.defmt_listen.specs.Streams.{Input, Output}
+
+-- the shelf: its files, where these are told, and its count of faults before the call and after it
+pub record Files : Type 0 where
+  pub files : Option (List ℕ → Option (List ℕ))
+  pub faults : ℕ
+  pub faults_after : ℕ
+
+-- the source wasn't touched
+pub record IsUnread (input : Input) : Type 0 where
+  pub left : Keeps input.left input.left_after
+  pub faults : input.faults_after ≡ input.faults
+
+-- the sink wasn't touched
+pub record IsUnwritten (output : Output) : Type 0 where
+  pub held : Keeps output.held output.held_after
+  pub faults : output.faults_after ≡ output.faults
+
+-- the shelf wasn't touched
+abbrev pub IsUntouched : Files → Type 0
+IsUntouched files = files.faults_after ≡ files.faults

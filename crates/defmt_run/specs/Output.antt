@@ -1,0 +1,37 @@
+-- The output line of each event.
+use Rattle.std.specs.Prelude.{◌==◌, ℕ, Bool, true, false, List, [], ◌∷◌, ◌++◌, codes, if◌then◌else◌}
+use Rattle.std.specs.Fmt.{decimal}
+use Rattle.defmt_intern.specs.Table.{Map}
+use Rattle.defmt_listen.specs.Heard.{Reports}
+use Rattle.defmt_decode.specs.declared.event.Event.{Event}
+use Rattle.defmt_decode.specs.declared.event.Event.TheVariants.{Line, Bad, CutFront, CutTail}
+use Rattle.defmt_decode.specs.Event.{tells}
+
+-- the name of a piece's fault
+abbrev pub fault_name : ℕ → List ℕ
+fault_name cause =
+    if cause == 1 then codes "Cobs" else if cause == 2 then codes "NoEntry" else if cause == 3 then codes "Tag"
+    else if cause == 4 then codes "Unsupported" else if cause == 5 then codes "Short" else if cause == 6 then codes "BadBool"
+    else if cause == 7 then codes "BadChar" else if cause == 8 then codes "BadText" else if cause == 9 then codes "BadVariant"
+    else if cause == 10 then codes "Deep" else if cause == 11 then codes "Trailing" else if cause == 12 then codes "Many"
+    else if cause == 13 then codes "Long" else codes "Wide"
+
+-- without its newline: the line of a statement, the number and the name of a piece's fault, how many bytes were cut off
+abbrev pub event_text : Event → List ℕ
+event_text (Line index text) = text
+event_text (Bad cause) = codes "-- E" ++ decimal cause ++ codes " " ++ fault_name cause
+event_text (CutFront bytes) = codes "-- front " ++ decimal bytes
+event_text (CutTail bytes) = codes "-- tail " ++ decimal bytes
+
+unfoldable pub event_line : Event → List ℕ
+event_line event = event_text event ++ 10 ∷ []
+
+-- all but lines are faults
+unfoldable pub is_fault : Event → Bool
+is_fault (Line index text) = false
+is_fault (Bad cause) = true
+is_fault (CutFront bytes) = true
+is_fault (CutTail bytes) = true
+
+abbrev pub reports : Map → Reports Event
+reports table = record { tells = tells table; line = event_line; is_fault = is_fault }

@@ -1,0 +1,120 @@
+// A recording is decoded by the table that a file names.
+ghost use Rattle.std.specs.Prelude.{◌≡◌, ◌≤◌, ◌<◌, [], length, IfOk, IfErr};
+ghost use Rattle.std.specs.Io.KnownBytes.{Keeps};
+ghost use Rattle.defmt_framing.specs.Framing.{Stands};
+ghost use Rattle.elf_table.specs.Names.{NamesTable};
+ghost use Rattle.defmt_run.specs.Decoding.{Decodes, Hears, IsFile, Loaded, RefusesFile, RefusesName, RefusesTable, table_limit};
+
+use crate::ear::Ear;
+use crate::outcome::Fault;
+use defmt_decode::Host;
+use defmt_intern::Table;
+use defmt_listen::{ListenFault, listen};
+use dl_io::{Bytes, ReadFault, Shelf, Sink, Source, fetch_all};
+use elf_table::{LoadFault, read_table};
+use std::alloc::Global;
+
+const TABLE_LIMIT: usize = 67_108_864;
+
+/// Prints the events of the recording that the source gives, by the table that the file of this name names.
+pub fn decode<S: Source, F: Shelf, K: Sink>(
+    alloc: Global,
+    name: &str,
+    src: &mut S,
+    shelf: &mut F,
+    out: &mut K,
+) -> Fault
+    ensures decodes { Decodes name.now
+        (record { left = S.left src.old; left_after = S.left src.new; faults = S.faults src.old; faults_after = S.faults src.new })
+        (record { files = F.files shelf.old; faults = F.faults shelf.old; faults_after = F.faults shelf.new })
+        (record { held = K.held out.old; held_after = K.held out.new; faults = K.faults out.old; faults_after = K.faults out.new })
+        result }
+    ensures source_count { S.faults src.old ≤ S.faults src.new }
+    ensures sink_count { K.faults out.old ≤ K.faults out.new }
+    ensures shelf_count { F.faults shelf.old ≤ F.faults shelf.new }
+    ensures files { F.files shelf.new ≡ F.files shelf.old }
+{
+    match load(alloc, name, shelf) {
+        Ok(host) => hear(alloc, src, out, host),
+        Err(fault) => fault,
+    }
+}
+
+// A host of the table that the file of this name names.
+fn load<F: Shelf>(alloc: Global, name: &str, shelf: &mut F) -> Result<Host, Fault>
+    ensures loaded { IfOk result (λ host. Loaded
+        (record { files = F.files shelf.old; faults = F.faults shelf.old; faults_after = F.faults shelf.new }) name.now host.table) }
+    ensures stands { IfOk result (λ host. Stands host.framing []) }
+    ensures refused { IfErr result (λ fault. RefusesTable
+        (record { files = F.files shelf.old; faults = F.faults shelf.old; faults_after = F.faults shelf.new }) name.now fault) }
+    ensures later { F.faults shelf.old ≤ F.faults shelf.new }
+    ensures files { F.files shelf.new ≡ F.files shelf.old }
+{
+    let file = match fetch(alloc, name, shelf) {
+        Ok(file) => file,
+        Err(fault) => return Err(fault),
+    };
+    match host_of(alloc, file.as_slice()) {
+        Ok(host) => Ok(host),
+        Err(fault) => Err(fault),
+    }
+}
+
+fn fetch<F: Shelf>(alloc: Global, name: &str, shelf: &mut F) -> Result<Bytes, Fault>
+    ensures fetched { IfOk result (λ file. IsFile (F.files shelf.old) name.now file.items) }
+    ensures within { IfOk result (λ file. length file.items ≤ table_limit) }
+    ensures refused { IfErr result (λ fault. RefusesName
+        (record { files = F.files shelf.old; faults = F.faults shelf.old; faults_after = F.faults shelf.new }) name.now fault) }
+    ensures later { F.faults shelf.old ≤ F.faults shelf.new }
+    ensures files { F.files shelf.new ≡ F.files shelf.old }
+{
+    match fetch_all(alloc, shelf, name, TABLE_LIMIT) {
+        Ok(file) => Ok(file),
+        Err(ReadFault::Failed) => Err(Fault::Shelf),
+        Err(ReadFault::Long { .. }) => Err(Fault::Long),
+        Err(ReadFault::Memory) => Err(Fault::Memory),
+    }
+}
+
+fn host_of(alloc: Global, file: &[u8]) -> Result<Host, Fault>
+    requires { length file.now ≤ table_limit }
+    ensures names { IfOk result (λ host. NamesTable file.now host.table) }
+    ensures stands { IfOk result (λ host. Stands host.framing []) }
+    ensures refused { IfErr result (λ fault. RefusesFile file.now fault) }
+{
+    let table = table_of(alloc, file)?;
+    Ok(Host::new(alloc, table)?)
+}
+
+fn table_of(alloc: Global, file: &[u8]) -> Result<Table, Fault>
+    requires { length file.now ≤ table_limit }
+    ensures names { IfOk result (λ table. NamesTable file.now table) }
+    ensures refused { IfErr result (λ fault. RefusesFile file.now fault) }
+{
+    match read_table(alloc, file) {
+        Ok(table) => Ok(table),
+        Err(LoadFault::Elf { cause, part, place }) => Err(Fault::Elf { cause, part, place }),
+        Err(LoadFault::Names { cause, symbol }) => Err(Fault::Names { cause, symbol }),
+        Err(LoadFault::Memory) => Err(Fault::Memory),
+    }
+}
+
+// Hears the recording, and writes the lines of its events.
+fn hear<S: Source, K: Sink>(alloc: Global, src: &mut S, out: &mut K, host: Host) -> Fault
+    requires { Stands host.framing [] }
+    ensures hears { Hears host.table
+        (record { left = S.left src.old; left_after = S.left src.new; faults = S.faults src.old; faults_after = S.faults src.new })
+        (record { held = K.held out.old; held_after = K.held out.new; faults = K.faults out.old; faults_after = K.faults out.new })
+        result }
+    ensures source_count { S.faults src.old ≤ S.faults src.new }
+    ensures sink_count { K.faults out.old ≤ K.faults out.new }
+{
+    match listen(alloc, src, out, Ear { host }) {
+        Ok(0) => Fault::Fine,
+        Ok(bad) => Fault::Events { bad },
+        Err(ListenFault::Source) => Fault::Source,
+        Err(ListenFault::Sink) => Fault::Sink,
+        Err(ListenFault::Long) => Fault::Long,
+        Err(ListenFault::Memory) => Fault::Memory,
+    }
+}

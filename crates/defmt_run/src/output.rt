@@ -1,0 +1,70 @@
+// The output lines of events.
+ghost use Rattle.std.specs.Prelude.{◌≡◌, ◌++◌, codes, OnOk};
+ghost use Rattle.std.specs.Fmt.{decimal};
+ghost use Rattle.defmt_run.specs.Output.{event_line, event_text, fault_name, is_fault};
+
+use defmt_decode::Event;
+use dl_io::{Bytes, Memory};
+use std::alloc::Global;
+
+/// Appends the output line of an event.
+#[tactic(auto, unfolding(crate::specs::Output::event_line))]
+pub fn add_line(alloc: Global, event: &Event, out: &mut Bytes) -> Result<(), Memory>
+    ensures { OnOk result (out.new.items ≡ out.old.items ++ event_line event.now) }
+{
+    match event {
+        Event::Line { text, .. } => out.extend_from_slice(text.as_str().as_bytes())?,
+        Event::Bad { cause } => add_fault(alloc, *cause, out)?,
+        Event::CutFront { bytes } => add_count(alloc, b"-- front ", *bytes, out)?,
+        Event::CutTail { bytes } => add_count(alloc, b"-- tail ", *bytes, out)?,
+    }
+    out.push(b'\n')
+}
+
+fn add_fault(alloc: Global, cause: u8, out: &mut Bytes) -> Result<(), Memory>
+    ensures { OnOk result (out.new.items ≡ out.old.items ++ (codes "-- E" ++ decimal cause ++ codes " " ++ fault_name cause)) }
+{
+    add_count(alloc, b"-- E", u64::from(cause), out)?;
+    out.push(b' ')?;
+    out.extend_from_slice(fault_name(cause).as_bytes())
+}
+
+fn add_count(alloc: Global, front: &[u8], count: u64, out: &mut Bytes) -> Result<(), Memory>
+    ensures { OnOk result (out.new.items ≡ out.old.items ++ (front.now ++ decimal count)) }
+{
+    out.extend_from_slice(front)?;
+    let digits = format!(in alloc; "{count}")?;
+    out.extend_from_slice(digits.as_str().as_bytes())
+}
+
+fn fault_name(cause: u8) -> &'static str
+    ensures { result.now ≡ fault_name cause }
+{
+    match cause {
+        1 => "Cobs",
+        2 => "NoEntry",
+        3 => "Tag",
+        4 => "Unsupported",
+        5 => "Short",
+        6 => "BadBool",
+        7 => "BadChar",
+        8 => "BadText",
+        9 => "BadVariant",
+        10 => "Deep",
+        11 => "Trailing",
+        12 => "Many",
+        13 => "Long",
+        _ => "Wide",
+    }
+}
+
+/// Whether an event is a fault of a recording.
+#[tactic(auto, unfolding(crate::specs::Output::is_fault))]
+pub fn is_fault(event: &Event) -> bool
+    ensures { result ≡ is_fault event.now }
+{
+    match event {
+        Event::Line { .. } => false,
+        Event::Bad { .. } | Event::CutFront { .. } | Event::CutTail { .. } => true,
+    }
+}

@@ -1,0 +1,4 @@
+mod Lengths
+mod ReadingLaws
+mod Settled
+mod Steadiness

@@ -1,0 +1,98 @@
+-- A script that is read line by line.
+use Rattle.std.proofs.Common.{◌≡◌, ◌+◌, inl, inr, ℕ, List, [], ◌∷◌, Option, Result, Ok, Err, refl, sym, ◌∙◌, ap, subst, arith, length}
+use Rattle.std.specs.Prelude.{◌==◌, true}
+use Rattle.std.specs.Str.Lines.{lines}
+use Rattle.std.proofs.lemmas.Bool.Decides.{nat_tests}
+use Rattle.defmt_intern.specs.Table.{Map}
+use Rattle.defmt_intern.specs.declared.entry.Tag.{Tag}
+use Rattle.defmt_lines.specs.Line.{Line, blank, ring, mode, reader, stamp, entry, statement, other, line_of}
+use Rattle.defmt_lines.specs.Verdict.{Judges}
+use Rattle.defmt_lines.specs.declared.cause.Cause.{Cause}
+use Rattle.defmt_script.specs.Answers.{Answers, GivesOnly}
+use Rattle.defmt_script.specs.Reads.{Reads, ReadsLines, Takes, TakesString, TakesStatement, admits_statement, admits_string, refusal_at, takes_arguments, takes_string}
+use Rattle.defmt_script.specs.Script.{Script, Refusal}
+use Rattle.defmt_script.specs.State.{State, closed, no_lines}
+use Rattle.defmt_script.specs.declared.fault.ScriptFault.{ScriptFault}
+use Rattle.defmt_script.specs.declared.fault.ScriptFault.TheVariants as faults
+use Rattle.defmt_spelling.specs.Names.{NameMap}
+use Rattle.defmt_spelling.specs.Spelling.{ReadsArguments}
+use Rattle.defmt_values.specs.Plain.{Vals}
+
+abbrev Answer : Type 0
+Answer = Result Script Refusal
+
+-- What the lines behind the first `number` are read as is what the text is read as.
+pub record IsReading (state : State) (number : ℕ) (rest text : List ℕ) : Type 0 where
+  pub then : (read : Answer) → ReadsLines state (number + 1) (lines rest) read → Reads text read
+
+pub begins : (state : State) (text : List ℕ) → state ≡ no_lines → IsReading state 0 text text
+begins state text is = record { then = λ read reads. subst (λ (s : State). ReadsLines s 1 (lines text) read) is reads }
+
+pub goes_on : (state : State) (number : ℕ) (rest text bytes after : List ℕ) → IsReading state number rest text → lines rest ≡ bytes ∷ lines after
+    → (more : State) → Takes state (line_of bytes) (Ok more) → IsReading more (number + 1) after text
+goes_on state number rest text bytes after reading next more takes = record {
+  then = λ read reads. reading.then read (subst (λ (ls : List (List ℕ)). ReadsLines state (number + 1) ls read) (sym next) (inl (more, takes, reads)));
+}
+
+pub refuses : (state : State) (number : ℕ) (rest text bytes after : List ℕ) → IsReading state number rest text → lines rest ≡ bytes ∷ lines after
+    → (cause : Cause) → Takes state (line_of bytes) (Err cause) → Reads text (Err (refusal_at (number + 1) cause))
+refuses state number rest text bytes after reading next cause wrong =
+    let read : Answer = Err (refusal_at (number + 1) cause) in
+    reading.then read (subst (λ (ls : List (List ℕ)). ReadsLines state (number + 1) ls read) (sym next) (inr (cause, wrong, refl)))
+
+-- no bytes are no lines
+pub ends : (state : State) (number : ℕ) (rest text : List ℕ) → IsReading state number rest text → (length rest == 0) ≡ true → (script : Script) → script ≡ (closed state).script
+    → Reads text (Ok script)
+ends state number [] text reading is script whole = reading.then (Ok script) (ap (λ (s : Script). let a : Answer = Ok s in a) whole)
+ends state number (b ∷ rest) text reading is script whole = absurd (grind (arith, nat_tests))
+
+-- ---- one answer
+
+module _ (texts : (tag : Tag) (text : List ℕ) (verdict other : Option ℕ) → Judges tag text verdict → Judges tag text other → verdict ≡ other)
+    (arguments : (names : NameMap) (t : Map) (index : ℕ) (text : List ℕ) (a b : Result Vals ℕ) → ReadsArguments names t index text a → ReadsArguments names t index text b → a ≡ b) where
+  one_string : (before : State) (name : List ℕ) (tag : Tag) (text : List ℕ) (admitted : Result (Unit {0}) Cause) (a b : Result State Cause)
+      → TakesString before name tag text admitted a → TakesString before name tag text admitted b → a ≡ b
+  one_string before name tag text (Err cause) a b p q = p ∙ sym q
+  one_string before name tag text (Ok admitted) a b p q =
+      p.2 ∙ ap (takes_string before name tag text) (texts tag text p.0 q.0 p.1 q.1) ∙ sym q.2
+
+  one_statement : (before : State) (text : List ℕ) (admitted : Result (ℕ × ℕ) Cause) (a b : Result State Cause)
+      → TakesStatement before text admitted a → TakesStatement before text admitted b → a ≡ b
+  one_statement before text (Err cause) a b p q = p ∙ sym q
+  one_statement before text (Ok place) a b p q =
+      p.2 ∙ ap (takes_arguments before place) (arguments before.script.names before.script.table place.1 text p.0 q.0 p.1 q.1) ∙ sym q.2
+
+  one_taken : (before : State) (line : Line) (a b : Result State Cause) → Takes before line a → Takes before line b → a ≡ b
+  one_taken before blank a b p q = p ∙ sym q
+  one_taken before (ring word) a b p q = p ∙ sym q
+  one_taken before (mode word) a b p q = p ∙ sym q
+  one_taken before (reader word) a b p q = p ∙ sym q
+  one_taken before (stamp base step) a b p q = p ∙ sym q
+  one_taken before (entry name tag text) a b p q = one_string before name tag text (admits_string before name) a b p q
+  one_taken before (statement writer name args) a b p q = one_statement (closed before) args (admits_statement (closed before) writer name) a b p q
+  one_taken before other a b p q = p ∙ sym q
+
+  one_of_lines : (ls : List (List ℕ)) (before : State) (number : ℕ) (read more : Answer) → ReadsLines before number ls read → ReadsLines before number ls more → read ≡ more
+  one_of_lines [] before number read more p q = p ∙ sym q
+  one_of_lines (bytes ∷ ls) before number read more (inl p) (inl q) =
+      let taken : Ok p.0 ≡ Ok q.0 = one_taken before (line_of bytes) (Ok p.0) (Ok q.0) p.1 q.1 in
+      let same : q.0 ≡ p.0 = cc taken in
+      one_of_lines ls p.0 (number + 1) read more p.2 (subst (λ (s : State). ReadsLines s (number + 1) ls more) same q.2)
+  one_of_lines (bytes ∷ ls) before number read more (inl p) (inr q) = absurd (cc (one_taken before (line_of bytes) (Ok p.0) (Err q.0) p.1 q.1))
+  one_of_lines (bytes ∷ ls) before number read more (inr p) (inl q) = absurd (cc (one_taken before (line_of bytes) (Err p.0) (Ok q.0) p.1 q.1))
+  one_of_lines (bytes ∷ ls) before number read more (inr p) (inr q) =
+      let taken : Result State Cause = Err p.0 in
+      let other : Result State Cause = Err q.0 in
+      let both : taken ≡ other = one_taken before (line_of bytes) (Err p.0) (Err q.0) p.1 q.1 in
+      let same : p.0 ≡ q.0 = cc both in
+      p.2 ∙ ap (λ (cause : Cause). let r : Answer = Err (refusal_at number cause) in r) same ∙ sym q.2
+
+  pub one_reading : (text : List ℕ) (read more : Answer) → Reads text read → Reads text more → read ≡ more
+  one_reading text read more p q = one_of_lines (lines text) no_lines 1 read more p q
+
+-- what is answered is what the text reads as
+pub decided : ((text : List ℕ) (read more : Answer) → Reads text read → Reads text more → read ≡ more) → (text : List ℕ) (result : Result Script ScriptFault) → Answers text result
+    → (read : Answer) → Reads text read → GivesOnly result read
+decided one text (Ok script) answer read reads = one text read (Ok script) reads answer
+decided one text (Err (faults.Refused line cause inner)) answer read reads = one text read (Err (record { line = line; cause = cause; inner = inner })) reads answer
+decided one text (Err faults.Memory) answer read reads = tt

@@ -1,0 +1,80 @@
+-- A script of which some lines are read.
+use Rattle.std.specs.Prelude.{◌≡◌, ◌≤◌, ◌+◌, ◌<◌, ℕ, List, [], ◌∷◌, codes, length, Option, Some, None, IsSome, false, if◌then◌else◌}
+use Rattle.std.specs.FinMap as map
+use Rattle.std.specs.List.{AllByRecursion}
+use Rattle.std.specs.Fmt.{decimal}
+use Rattle.defmt_intern.specs.Table.{Map, IsStamp}
+use Rattle.defmt_intern.specs.declared.entry.Entry.{Entry}
+use Rattle.defmt_intern.specs.declared.entry.Tag.{Tag}
+use Rattle.defmt_intern.specs.declared.entry.Tag.TheVariants as tags
+use Rattle.defmt_lines.specs.Form.{in_order, next, rank}
+use Rattle.defmt_lines.specs.Settings.{AreLawful, no_settings}
+use Rattle.defmt_lines.specs.declared.form.Form.{Form}
+use Rattle.defmt_lines.specs.declared.form.Form.TheVariants as forms
+use Rattle.defmt_lines.specs.declared.settings.Settings.{Settings}
+use Rattle.defmt_script.specs.Lawful.{HasStamp, IsSound, statements_limit}
+use Rattle.defmt_script.specs.Script.{Script, count_all}
+use Rattle.defmt_values.specs.declared.value.Statement.{Statement}
+
+-- The first form of line that may come, how many strings and statements there are, and the script so far.
+pub record State : Type 0 where
+  pub first : Form
+  pub strings : ℕ
+  pub statements : ℕ
+  pub script : Script
+
+-- the most strings: an index is left for the timestamp
+abbrev pub strings_limit : ℕ
+strings_limit = 65534
+
+abbrev pub no_statements : List (List Statement)
+no_statements = [] ∷ [] ∷ [] ∷ [] ∷ [] ∷ [] ∷ [] ∷ [] ∷ []
+
+abbrev pub empty_script : Script
+empty_script = record { settings = no_settings; table = map.empty; names = map.empty; writers = no_statements }
+
+abbrev pub no_lines : State
+no_lines = record { first = forms.Ring; strings = 0; statements = 0; script = empty_script }
+
+-- an entry of a script, which has its index for its disambiguator
+abbrev pub entry_at : ℕ → Tag → List ℕ → Entry
+entry_at index tag text = record { tag = tag; «package» = codes "script"; text = text; disambiguator = decimal index }
+
+abbrev pub stamp_entry : ℕ → Entry
+stamp_entry index = entry_at index tags.Timestamp (codes "{=u64:us}")
+
+-- the table with the timestamp's entry behind the strings, where there are stamps
+abbrev pub with_stamp_entry : Option (ℕ × ℕ) → ℕ → Map → Map
+with_stamp_entry None index table = table
+with_stamp_entry (Some p) index table = map.insert table index (stamp_entry index)
+
+-- No string comes any more: the table is whole. A first statement or the end of the text makes it so.
+abbrev pub closed : State → State
+closed s = if in_order s.first forms.Entry then record s {
+  first = forms.Statement;
+  script = record s.script { table = with_stamp_entry s.script.settings.stamp (s.strings + 1) s.script.table };
+} else s
+
+-- ---- what holds of it
+
+-- No statement was yet: the table has strings alone.
+pub record IsOpen (s : State) : Type 0 where
+  pub within : (index : ℕ) → IsSome (map.get s.script.table index) → index ≤ s.strings
+  pub no_stamp : (index : ℕ) → IsStamp s.script.table index → ⊥
+  pub no_writers : s.script.writers ≡ no_statements
+  pub none : s.statements ≡ 0
+
+pub record IsSteady (s : State) : Type 0 where
+  pub settings : AreLawful s.script.settings
+  pub not_late : rank s.first ≤ 2 → s.script.settings.late ≡ false
+  pub strings_fit : s.strings ≤ strings_limit
+  pub opened : rank s.first ≤ 4 → IsOpen s
+  pub whole : 4 < rank s.first → HasStamp s.script.settings.stamp s.script.table
+  pub eight : length s.script.writers ≡ 8
+  pub few : s.statements ≤ statements_limit
+  pub count : count_all s.script.writers ≡ s.statements
+  pub sound : AllByRecursion (λ list. AllByRecursion (IsSound s.script.table s.script.settings.stamp) list) s.script.writers
+
+-- settings of a line of this form: a reader may be late only behind its own line
+abbrev pub StaysLawful : Form → Settings → Type 0
+StaysLawful form s = AreLawful s × (rank (next form) ≤ 2 → s.late ≡ false)

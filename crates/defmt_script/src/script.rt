@@ -1,0 +1,184 @@
+//! Scripts.
+
+ghost use Rattle.std.specs.Prelude.{◌≡◌, ◌++◌, ◌∷◌, ◌<◌, ◌≤◌, [], length, slice_get, slice_index_or, OnOk, OnErr, IfSome};
+ghost use Rattle.std.specs.Option.{option_copied};
+ghost use Rattle.defmt_script.specs.Lawful.{IsLawful};
+ghost use Rattle.defmt_script.specs.State.{no_statements};
+
+use defmt_intern::Table;
+use defmt_lines::{RingMode, Settings};
+use defmt_spelling::Names;
+use defmt_values::Statement;
+use dl_io::Memory;
+use std::alloc::Global;
+use std::marker::Model;
+
+/// The statements of one writer, seen as a list.
+#[derive(Drop)]
+pub struct Statements {
+    statements: Vec<Statement>,
+}
+
+impl Model for Statements {
+    ghost use Rattle.std.specs.Prelude.{List};
+    ghost use Rattle.defmt_values.specs.declared.value.Statement.{Statement as AnyStatement};
+    ghost use Rattle.defmt_script.specs.Codes.{coded_statements};
+
+    ghost Value = { List AnyStatement };
+
+    ghost coded = { coded_statements };
+
+    ghost view = { λ s. s.statements.items };
+}
+
+impl Statements {
+    /// No statements. Takes no memory.
+    pub fn new(alloc: Global) -> Self
+        ensures { result ≡ [] }
+    {
+        Statements {
+            statements: Vec::new(alloc),
+        }
+    }
+
+    /// Puts one more statement behind the others. On `Memory` the list is unchanged.
+    pub fn push(&mut self, item: Statement) -> Result<(), Memory>
+        ensures ok { OnOk result (self.new ≡ self.old ++ item ∷ []) }
+        ensures err { OnErr result (self.new ≡ self.old) }
+    {
+        self.statements.push(item)?;
+        Ok(())
+    }
+
+    /// The statements. Takes no memory.
+    pub fn as_slice(&self) -> &[Statement]
+        ensures { result.now ≡ self.now }
+    {
+        self.statements.as_slice()
+    }
+}
+
+/// What a script says: a ring, a table of strings with their names, and the statements of the writers 0 to 7.
+///
+/// Every script is lawful: its ring and stamps are within their limits, its reader isn't late in blocking mode, its table has
+/// a timestamp exactly where it has stamps, and each of its at most 4,096 statements fits the table, is a message's, and has
+/// a message of at most 2,000 and a text of at most 65,536 bytes.
+#[derive(Drop)]
+pub struct Script {
+    settings: Settings,
+    table: Table,
+    names: Names,
+    writers: Vec<Statements>,
+}
+
+impl Model for Script {
+    ghost use Rattle.defmt_script.specs.Lawful.{IsLawful as HoldsOfScripts};
+    ghost use Rattle.defmt_script.specs.Script.{Script as Read};
+    ghost use Rattle.defmt_script.specs.Codes.{coded_script};
+
+    ghost Value = { Read };
+
+    ghost coded = { coded_script };
+
+    ghost view = { λ s. record { settings = s.settings; table = s.table; names = s.names; writers = s.writers.items } };
+
+    ghost invariant = { λ s. HoldsOfScripts (record { settings = s.settings; table = s.table; names = s.names; writers = s.writers.items }) };
+}
+
+impl Script {
+    /// A script of these parts.
+    pub(crate) fn new(
+        settings: Settings,
+        table: Table,
+        names: Names,
+        writers: Vec<Statements>,
+    ) -> Self
+        requires { IsLawful (record { settings = settings; table = table; names = names; writers = writers.items }) }
+        ensures { result ≡ record { settings = settings; table = table; names = names; writers = writers.items } }
+    {
+        Script {
+            settings,
+            table,
+            names,
+            writers,
+        }
+    }
+
+    /// What holds of every script.
+    pub fn lawful(&self)
+        ensures { IsLawful self.now }
+    {
+        let _ = &self.table;
+    }
+
+    /// The ring's size in bytes, from 16 to 65,536. Takes no memory.
+    pub fn ring(&self) -> u32
+        ensures { result ≡ self.now.settings.ring }
+    {
+        self.settings.ring
+    }
+
+    /// What a writer does where its frame doesn't fit. Takes no memory.
+    pub fn mode(&self) -> RingMode
+        ensures { result ≡ self.now.settings.mode }
+    {
+        self.settings.mode
+    }
+
+    /// Whether the reader takes nothing before the writers end. Takes no memory.
+    pub fn late(&self) -> bool
+        ensures { result ≡ self.now.settings.late }
+    {
+        self.settings.late
+    }
+
+    /// The first stamp and the step to the next, in microseconds; `None` exactly where there is no `stamp` line. Takes no
+    /// memory.
+    pub fn stamp(&self) -> Option<(u64, u64)>
+        ensures { result ≡ self.now.settings.stamp }
+    {
+        self.settings.stamp
+    }
+
+    /// The strings, with the indexes 1, 2, 3 and so on, and behind them the timestamp's entry where there are stamps. Takes
+    /// no memory.
+    pub fn table(&self) -> &Table
+        ensures { result.now ≡ self.now.table }
+    {
+        &self.table
+    }
+
+    /// The names of the strings, and the index of each. Takes no memory.
+    pub fn names(&self) -> &Names
+        ensures { result.now ≡ self.now.names }
+    {
+        &self.names
+    }
+
+    // The statements of a writer, none for a number above 7.
+    fn statements(&self, writer: u8) -> &[Statement]
+        ensures { result.now ≡ slice_index_or self.now.writers writer [] }
+    {
+        match self.writers.get(usize::from(writer)) {
+            Some(statements) => statements.as_slice(),
+            None => &[],
+        }
+    }
+
+    /// How many statements a writer has, 0 for each number above 7. Takes no memory.
+    pub fn count(&self, writer: u8) -> u32
+        ensures { result ≡ length (slice_index_or self.now.writers writer []) }
+    {
+        // So a writer has at most 4,096.
+        self.lawful();
+        self.statements(writer).len() as u32
+    }
+
+    /// The statement of a writer at a place, from 0; `None` exactly where the place isn't below the writer's count. Takes no
+    /// memory.
+    pub fn statement(&self, writer: u8, place: u32) -> Option<&Statement>
+        ensures { option_copied result ≡ slice_get (slice_index_or self.now.writers writer []) place }
+    {
+        self.statements(writer).get(place as usize)
+    }
+}

@@ -1,0 +1,71 @@
+//! The reading of a script.
+
+ghost use Rattle.std.specs.Prelude.{◌≡◌, ◌<◌, ◌^◌, ℕ, List, Result, Some, length};
+ghost use Rattle.defmt_encode.specs.Carry.{message_of, stamp_args};
+ghost use Rattle.defmt_intern.specs.Table.{Map};
+ghost use Rattle.defmt_script.specs.Answers.{Answers, GivesOnly};
+ghost use Rattle.defmt_script.specs.Reads.{Reads};
+ghost use Rattle.defmt_script.specs.Script.{Refusal, Script as Read};
+ghost use Rattle.defmt_values.specs.Plain.{Vals};
+
+use crate::fault::{LineFault, ScriptFault};
+use crate::reading::Reading;
+use crate::script::Script;
+use defmt_lines::{next_line, one_verdict, read_line};
+use std::alloc::Global;
+
+/// The script that a text spells, line by line.
+///
+/// # Errors
+/// `ScriptFault::Refused` with the first line that is refused, `ScriptFault::Memory` where memory runs out.
+pub fn read(alloc: Global, text: &[u8]) -> Result<Script, ScriptFault>
+    requires { length text.now < 2 ^ 32 }
+    // A script is answered only where the text reads as it, and a refusal only where it is that of the first refused line.
+    ensures answer { Answers text.now result }
+    // Unless memory runs out, what the text reads as is answered.
+    ensures decides { (reading : Result Read Refusal) → Reads text.now reading → GivesOnly result reading }
+{
+    one_reading();
+    read_lines(alloc, text)
+}
+
+/// A text reads as one script, or is refused at one line for one cause.
+pub fn one_reading()
+    ensures { (text : List ℕ) (reading other : Result Read Refusal) → Reads text reading → Reads text other → reading ≡ other }
+{
+    one_verdict();
+    defmt_spelling::one_reading();
+}
+
+fn read_lines(alloc: Global, text: &[u8]) -> Result<Script, ScriptFault>
+    requires { length text.now < 2 ^ 32 }
+    ensures { Answers text.now result }
+{
+    let mut reading = Reading::new(alloc)?;
+    let mut number = 0u32;
+    let mut rest = text;
+    while !rest.is_empty() {
+        let (line, after) = next_line(rest);
+        number += 1;
+        match reading.take_line(read_line(line)) {
+            Ok(()) => {}
+            Err(LineFault::Refused(cause)) => {
+                return Err(ScriptFault::Refused {
+                    line: number,
+                    cause: cause.number(),
+                    inner: cause.inner(),
+                });
+            }
+            Err(LineFault::Memory) => return Err(ScriptFault::Memory),
+        }
+        rest = after;
+    }
+    Ok(reading.finish()?)
+}
+
+/// The message of a statement has as many bytes with each stamp as with any other: where it is short with the first, it is
+/// with each.
+pub fn stamps_are_alike()
+    ensures { (table : Map) (index : ℕ) (args : Vals) (one other : ℕ)
+        → length (message_of table (stamp_args (Some one)) index args) ≡ length (message_of table (stamp_args (Some other)) index args) }
+{}

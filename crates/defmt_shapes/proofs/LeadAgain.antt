@@ -1,0 +1,280 @@
+-- What is spelled is read so, whatever follows.
+use Rattle.std.proofs.Common.{◌≡◌, ◌≢◌, ◌<◌, ℕ, Bool, true, false, cond, eqb, List, [], ◌∷◌, ◌++◌, length, refl, sym, ap, subst, ◌∙◌, arith, Option, Some, None, inl, inr, append_assoc, codes}
+use Rattle.std.specs.Char.{is_ascii_alphabetic}
+use Rattle.std.specs.Int.{IsInRange}
+use Rattle.std.specs.Str.Parse.{AllDigits}
+use Rattle.std.proofs.lemmas.Bool.{ne_eqb}
+use Rattle.std.proofs.lemmas.Str.Parse.{digit_from_value}
+use Rattle.defmt_grammar.specs.Cut.{behind, strip}
+use Rattle.defmt_grammar.proofs.Cuts.{behind_again}
+use Rattle.defmt_shapes.specs.declared.parts.Class.TheVariants.{Decimal, Hexadecimal, Word}
+use Rattle.defmt_shapes.specs.Shape.{Shape, Shapes, Items, IsNumber, IsVariant, IsName, flag_word, SpellsBytes, SpellsCharacter, SpellsQuoted, IsCallMark, SpellsShape, SpellsShapes, SpellsItems, StartsThere}
+use Rattle.defmt_shapes.specs.Shape as shapes
+use Rattle.defmt_shapes.specs.Runs.{in_class, run}
+use Rattle.defmt_shapes.specs.Escapes.{IsCharacter, IsQuotedEnd}
+use Rattle.defmt_shapes.specs.Leads.{Lead, decimal, hexadecimal, negative, flag, character, quoted, interned, bytes, empty, call, sequence, some_digits, decimal_lead, hexadecimal_lead, negative_lead, interned_lead, bytes_lead, variant_lead, flag_lead, named_lead, word_lead, plain_lead, marked_lead, quoted_lead, character_lead, IsCharacterLead, IsQuotedLead, IsLead, IsMark, Leads}
+use Rattle.defmt_shapes.proofs.RunLaws.{FailsThere, run_again, digits_pass}
+use Rattle.defmt_shapes.proofs.EscapeLaws.{behind_other, character_again, reads}
+use Rattle.defmt_shapes.proofs.LeadForms.{StopsThere, stops_behind, stops_class, letter_range, letter_no_digit, name_words, name_again, variant_again, bytes_pass, pairs_again}
+
+abbrev pub begins : Lead → List ℕ → Option (Lead × List ℕ)
+begins lead after = Some (lead, after)
+
+-- ---- the first byte decides
+
+as_marked : (c : ℕ) (cs : List ℕ) → c ≢ 34 → c ≢ 39 → IsLead (c ∷ cs) (marked_lead (c ∷ cs))
+as_marked c cs n m =
+    let o = marked_lead (c ∷ cs) in
+    subst (λ (q : Option (List ℕ)). IsQuotedLead (c ∷ cs) q o) (sym (behind_other 34 c cs n))
+    (subst (λ (q : Option (List ℕ)). IsCharacterLead (c ∷ cs) q o) (sym (behind_other 39 c cs m)) refl)
+
+-- a character that marks no other kind
+pub record IsPlainStart (c : ℕ) : Type 0 where
+  pub no_double : c ≢ 34
+  pub no_single : c ≢ 39
+  pub no_minus : c ≢ 45
+  pub no_at : c ≢ 64
+  pub no_hash : c ≢ 35
+  pub no_bracket : c ≢ 91
+
+marked_plain : (c : ℕ) (cs : List ℕ) → IsPlainStart c → marked_lead (c ∷ cs) ≡ plain_lead (c ∷ cs)
+unfolding marked_lead strip
+marked_plain c cs h = rw (behind_other 45 c cs h.no_minus, behind_other 64 c cs h.no_at, behind_other 35 c cs h.no_hash, ne_eqb c 91 h.no_bracket) refl
+
+as_plain : (c : ℕ) (cs : List ℕ) (o : Option (Lead × List ℕ)) → IsPlainStart c → plain_lead (c ∷ cs) ≡ o → IsLead (c ∷ cs) o
+as_plain c cs o h e = subst (IsLead (c ∷ cs)) (marked_plain c cs h ∙ e) (as_marked c cs h.no_double h.no_single)
+
+digit_start : (d : ℕ) → IsInRange 48 57 d → IsPlainStart d
+digit_start d h = record { no_double = λ e. omega (arith, h.0); no_single = λ e. omega (arith, h.0); no_minus = λ e. omega (arith, h.0); no_at = λ e. omega (arith, h.1); no_hash = λ e. omega (arith, h.0); no_bracket = λ e. omega (arith, h.1) }
+
+letter_start : (c : ℕ) → is_ascii_alphabetic c ≡ true → IsPlainStart c
+letter_start c h =
+    let r = letter_range c h in
+    record { no_double = λ e. omega (arith, r.0); no_single = λ e. omega (arith, r.0); no_minus = λ e. omega (arith, r.0); no_at = λ e. omega (arith, r.0); no_hash = λ e. omega (arith, r.0); no_bracket = r.1 }
+
+-- ---- numbers
+
+some_again : (make : List ℕ → Lead) (digits rest : List ℕ) → 0 < length digits → some_digits make (digits, rest) ≡ begins (make digits) rest
+some_again make digits rest h = rw (ne_eqb (length digits) 0 (λ e. omega arith)) refl
+
+decimal_again : (digits rest : List ℕ) → 0 < length digits → AllDigits 10 digits → StopsThere rest → decimal_lead (digits ++ rest) ≡ begins (decimal digits) rest
+unfolding decimal_lead
+decimal_again digits rest some all stops = rw (run_again (in_class Decimal) digits rest (digits_pass 10 digits all) (stops_class Decimal rest stops)) (some_again decimal digits rest some)
+
+hexadecimal_again : (digits rest : List ℕ) → 0 < length digits → AllDigits 16 digits → StopsThere rest → hexadecimal_lead (digits ++ rest) ≡ begins (hexadecimal digits) rest
+unfolding hexadecimal_lead
+hexadecimal_again digits rest some all stops = rw (run_again (in_class Hexadecimal) digits rest (digits_pass 16 digits all) (stops_class Hexadecimal rest stops)) (some_again hexadecimal digits rest some)
+
+negative_again : (digits rest : List ℕ) → 0 < length digits → AllDigits 10 digits → StopsThere rest → negative_lead (digits ++ rest) ≡ begins (negative digits) rest
+unfolding negative_lead
+negative_again digits rest some all stops = rw (run_again (in_class Decimal) digits rest (digits_pass 10 digits all) (stops_class Decimal rest stops)) (some_again negative digits rest some)
+
+both_none : {A : Type 0} (b : Bool) (o : Option A) → o ≡ None → cond b o None ≡ None
+both_none true o e = e
+both_none false o e = refl
+
+no_x_stop : (rest : List ℕ) → StopsThere rest → strip (codes "x") rest ≡ None
+unfolding strip
+no_x_stop [] h = refl
+no_x_stop (c ∷ cs) (inl e) = rw e refl
+no_x_stop (c ∷ cs) (inr e) = rw e refl
+
+no_x : (ds rest : List ℕ) → AllDigits 10 ds → StopsThere rest → strip (codes "x") (ds ++ rest) ≡ None
+unfolding strip
+no_x [] rest all stops = no_x_stop rest stops
+no_x (d ∷ ds) rest all stops = let r = digit_from_value d all.0 in rw (ne_eqb d 120 (λ e. omega (arith, r.1))) refl
+
+-- decimal digits don't begin with `0x`
+no_hexadecimal : (d : ℕ) (ds rest : List ℕ) → AllDigits 10 ds → StopsThere rest → strip (codes "0x") (d ∷ (ds ++ rest)) ≡ None
+unfolding strip
+no_hexadecimal d ds rest all stops = both_none (eqb d 48) (strip (codes "x") (ds ++ rest)) (no_x ds rest all stops)
+
+plain_decimal : (d : ℕ) (ds rest : List ℕ) → AllDigits 10 (d ∷ ds) → StopsThere rest → plain_lead (d ∷ (ds ++ rest)) ≡ begins (decimal (d ∷ ds)) rest
+unfolding plain_lead
+plain_decimal d ds rest all stops = rw (no_hexadecimal d ds rest all.1 stops, decimal_again (d ∷ ds) rest (omega arith) all stops) refl
+
+pub decimal_leads : (digits rest : List ℕ) (n : ℕ) → IsNumber 10 digits n → StopsThere rest → IsLead (digits ++ rest) (begins (decimal digits) rest)
+decimal_leads [] rest n h stops = absurd (omega (arith, h.some))
+decimal_leads (d ∷ ds) rest n h stops = as_plain d (ds ++ rest) (begins (decimal (d ∷ ds)) rest) (digit_start d (digit_from_value d h.all.0)) (plain_decimal d ds rest h.all stops)
+
+plain_hexadecimal : (more : List ℕ) → plain_lead (48 ∷ 120 ∷ more) ≡ hexadecimal_lead more
+unfolding plain_lead strip
+plain_hexadecimal more = refl
+
+pub hexadecimal_leads : (digits rest : List ℕ) (n : ℕ) → IsNumber 16 digits n → StopsThere rest → IsLead (48 ∷ 120 ∷ (digits ++ rest)) (begins (hexadecimal digits) rest)
+hexadecimal_leads digits rest n h stops =
+    as_plain 48 (120 ∷ (digits ++ rest)) (begins (hexadecimal digits) rest) (digit_start 48 (omega arith, omega arith))
+    (plain_hexadecimal (digits ++ rest) ∙ hexadecimal_again digits rest h.some h.all stops)
+
+marked_negative : (more : List ℕ) → marked_lead (45 ∷ more) ≡ negative_lead more
+unfolding marked_lead behind
+marked_negative more = refl
+
+pub negative_leads : (digits rest : List ℕ) (n : ℕ) → IsNumber 10 digits n → StopsThere rest → IsLead (45 ∷ (digits ++ rest)) (begins (negative digits) rest)
+negative_leads digits rest n h stops =
+    subst (IsLead (45 ∷ (digits ++ rest))) (marked_negative (digits ++ rest) ∙ negative_again digits rest h.some h.all stops)
+    (as_marked 45 (digits ++ rest) (λ e. omega arith) (λ e. omega arith))
+
+-- ---- names
+
+marked_interned : (more : List ℕ) → marked_lead (64 ∷ more) ≡ interned_lead more
+unfolding marked_lead behind
+marked_interned more = refl
+
+interned_again : (name rest : List ℕ) → IsName name → StopsThere rest → interned_lead (name ++ rest) ≡ begins (interned name) rest
+unfolding interned_lead
+interned_again name rest h stops = rw (run_again (in_class Word) name rest (name_words name h) (stops_class Word rest stops)) (rw (name_again name h) refl)
+
+pub interned_leads : (name rest : List ℕ) → IsName name → StopsThere rest → IsLead (64 ∷ (name ++ rest)) (begins (interned name) rest)
+interned_leads name rest h stops =
+    subst (IsLead (64 ∷ (name ++ rest))) (marked_interned (name ++ rest) ∙ interned_again name rest h stops)
+    (as_marked 64 (name ++ rest) (λ e. omega arith) (λ e. omega arith))
+
+marked_bytes : (more : List ℕ) → marked_lead (35 ∷ more) ≡ bytes_lead more
+unfolding marked_lead behind
+marked_bytes more = refl
+
+bytes_again : (digits rest bs : List ℕ) → SpellsBytes digits bs → StopsThere rest → bytes_lead (digits ++ rest) ≡ begins (bytes digits) rest
+unfolding bytes_lead
+bytes_again digits rest bs h stops =
+    let k = bytes_pass digits bs h in
+    rw (run_again (in_class Hexadecimal) digits rest k.0 (stops_class Hexadecimal rest stops)) (rw (pairs_again (length digits) (length bs) k.1) refl)
+
+pub bytes_leads : (digits rest bs : List ℕ) → SpellsBytes digits bs → StopsThere rest → IsLead (35 ∷ (digits ++ rest)) (begins (bytes digits) rest)
+bytes_leads digits rest bs h stops =
+    subst (IsLead (35 ∷ (digits ++ rest))) (marked_bytes (digits ++ rest) ∙ bytes_again digits rest bs h stops)
+    (as_marked 35 (digits ++ rest) (λ e. omega arith) (λ e. omega arith))
+
+marked_empty : (rest : List ℕ) → marked_lead (91 ∷ 93 ∷ rest) ≡ begins empty rest
+unfolding marked_lead behind strip
+marked_empty rest = refl
+
+pub empty_leads : (rest : List ℕ) → IsLead (91 ∷ 93 ∷ rest) (begins empty rest)
+empty_leads rest = subst (IsLead (91 ∷ 93 ∷ rest)) (marked_empty rest) (as_marked 91 (93 ∷ rest) (λ e. omega arith) (λ e. omega arith))
+
+-- what begins with a letter begins with a name
+letter_decimal : (c : ℕ) (cs : List ℕ) → is_ascii_alphabetic c ≡ true → decimal_lead (c ∷ cs) ≡ None
+unfolding decimal_lead run
+letter_decimal c cs h = rw (letter_no_digit c h) refl
+
+letter_plain : (c : ℕ) (cs : List ℕ) → is_ascii_alphabetic c ≡ true → plain_lead (c ∷ cs) ≡ word_lead (c ∷ cs)
+unfolding plain_lead strip
+letter_plain c cs h = let r = letter_range c h in rw (ne_eqb c 48 (λ e. omega (arith, r.0)), letter_decimal c cs h) refl
+
+word_again : (name rest : List ℕ) → IsName name → FailsThere (in_class Word) rest → word_lead (name ++ rest) ≡ named_lead name rest
+unfolding word_lead
+word_again name rest h fails = rw (run_again (in_class Word) name rest (name_words name h) fails) (rw (name_again name h) refl)
+
+named_leads : (name rest : List ℕ) (o : Option (Lead × List ℕ)) → IsName name → FailsThere (in_class Word) rest → named_lead name rest ≡ o → IsLead (name ++ rest) o
+named_leads name rest o h fails e =
+    let whole : h.first ∷ (h.more ++ rest) ≡ name ++ rest = ap (λ (t : List ℕ). t ++ rest) (sym h.name_is) in
+    subst (λ (t : List ℕ). IsLead t o) whole
+    (as_plain h.first (h.more ++ rest) o (letter_start h.first h.letter)
+    (letter_plain h.first (h.more ++ rest) h.letter ∙ ap word_lead whole ∙ word_again name rest h fails ∙ e))
+
+named_flag : (b : Bool) (rest : List ℕ) → StopsThere rest → named_lead (flag_word b) rest ≡ begins (flag b) rest
+unfolding named_lead flag_lead
+named_flag true rest stops = rw (stops_behind 40 rest (λ e. omega arith) (λ e. omega arith) stops, stops_behind 58 rest (λ e. omega arith) (λ e. omega arith) stops, stops_behind 91 rest (λ e. omega arith) (λ e. omega arith) stops) refl
+named_flag false rest stops = rw (stops_behind 40 rest (λ e. omega arith) (λ e. omega arith) stops, stops_behind 58 rest (λ e. omega arith) (λ e. omega arith) stops, stops_behind 91 rest (λ e. omega arith) (λ e. omega arith) stops) refl
+
+flag_name : (b : Bool) → IsName (flag_word b)
+flag_name true = record { first = 116; more = codes "rue"; name_is = refl; letter = refl; words = refl; few = omega arith }
+flag_name false = record { first = 102; more = codes "alse"; name_is = refl; letter = refl; words = refl; few = omega arith }
+
+pub flag_leads : (b : Bool) (rest : List ℕ) → StopsThere rest → IsLead (flag_word b ++ rest) (begins (flag b) rest)
+flag_leads b rest stops = named_leads (flag_word b) rest (begins (flag b) rest) (flag_name b) (stops_class Word rest stops) (named_flag b rest stops)
+
+named_call : (name after : List ℕ) → named_lead name (40 ∷ after) ≡ begins (call name None) after
+unfolding named_lead behind
+named_call name after = refl
+
+named_variant : (name more : List ℕ) → named_lead name (58 ∷ more) ≡ variant_lead name more
+unfolding named_lead behind
+named_variant name more = refl
+
+variant_leads : (name digits after : List ℕ) (v : ℕ) → IsVariant digits v → variant_lead name (digits ++ 40 ∷ after) ≡ begins (call name (Some digits)) after
+unfolding variant_lead
+variant_leads name digits after v h =
+    rw (run_again (in_class Decimal) digits (40 ∷ after) (digits_pass 10 digits h.number.all) refl)
+    (rw (variant_again digits v h, behind_again 40 after) refl)
+
+-- a name, a variant or none, and `(`
+pub call_leads : (name mark after : List ℕ) (variant : Option ℕ) → IsName name → IsCallMark mark variant → (m : Option (List ℕ)) × IsMark m variant × IsLead (name ++ (mark ++ 40 ∷ after)) (begins (call name m) after)
+call_leads name mark after None h k = (
+  None,
+  tt,
+  subst (λ (t : List ℕ). IsLead (name ++ (t ++ 40 ∷ after)) (begins (call name None) after)) (sym k)
+      (named_leads name (40 ∷ after) (begins (call name None) after) h refl (named_call name after)),
+)
+call_leads name mark after (Some v) h (digits, k, e) = (
+  Some digits,
+  k,
+  subst (λ (t : List ℕ). IsLead (name ++ (t ++ 40 ∷ after)) (begins (call name (Some digits)) after)) (sym e)
+      (named_leads name (58 ∷ (digits ++ 40 ∷ after)) (begins (call name (Some digits)) after) h refl (named_variant name (digits ++ 40 ∷ after) ∙ variant_leads name digits after v k)),
+)
+
+named_sequence : (name after : List ℕ) → named_lead name (91 ∷ after) ≡ begins (sequence name) after
+unfolding named_lead behind
+named_sequence name after = refl
+
+pub sequence_leads : (name after : List ℕ) → IsName name → IsLead (name ++ 91 ∷ after) (begins (sequence name) after)
+sequence_leads name after h = named_leads name (91 ∷ after) (begins (sequence name) after) h refl (named_sequence name after)
+
+-- ---- quotes
+
+quote_marks : (more : List ℕ) (o : Option (Lead × List ℕ)) (q : Option (List ℕ × List ℕ)) → IsQuotedEnd more q → o ≡ quoted_lead q → IsLead (34 ∷ more) o
+unfolding behind
+quote_marks more o q h e = (q, h, e)
+
+pub quoted_leads : (inside rest cs : List ℕ) → shapes.SpellsCharacters 34 inside cs → IsLead (34 ∷ (inside ++ 34 ∷ rest)) (begins (quoted inside) rest)
+quoted_leads inside rest cs h = quote_marks (inside ++ 34 ∷ rest) (begins (quoted inside) rest) (Some (inside, rest)) (record { cs = cs; spelled = h; text_is = refl }) refl
+
+single_marks : (more : List ℕ) (o : Option (Lead × List ℕ)) (p : Option (ℕ × List ℕ)) → IsCharacter 39 more p → o ≡ character_lead p → IsLead (39 ∷ more) o
+unfolding behind
+single_marks more o p h e = (p, h, e)
+
+pub character_leads : (inside rest : List ℕ) (c : ℕ) → SpellsCharacter 39 inside c → IsLead (39 ∷ (inside ++ 39 ∷ rest)) (begins (character c) rest)
+character_leads inside rest c h =
+    single_marks (inside ++ 39 ∷ rest) (begins (character c) rest) (reads c (39 ∷ rest)) (character_again 39 inside (39 ∷ rest) c (omega arith) h)
+    (rw (behind_again 39 rest) refl)
+
+-- ---- shapes
+
+pub record Begins (s : Shape) (text rest : List ℕ) : Type 0 where
+  pub lead : Lead
+  pub after : List ℕ
+  pub is_lead : IsLead text (begins lead after)
+  pub leads : Leads lead after rest s
+
+at_front : (s : Shape) (text front whole rest : List ℕ) (lead : Lead) (after : List ℕ) → text ≡ front → front ++ rest ≡ whole → IsLead whole (begins lead after) → Leads lead after rest s → Begins s (text ++ rest) rest
+at_front s text front whole rest lead after e f h k = record {
+  lead = lead;
+  after = after;
+  is_lead = subst (λ (t : List ℕ). IsLead t (begins lead after)) (sym (ap (λ (t : List ℕ). t ++ rest) e ∙ f)) h;
+  leads = k;
+}
+
+closing : (inside rest : List ℕ) (c : ℕ) → (inside ++ c ∷ []) ++ rest ≡ inside ++ c ∷ rest
+closing inside rest c = append_assoc inside (c ∷ []) rest
+
+-- what a shape's text begins with
+pub begins_with : (s : Shape) (text rest : List ℕ) → SpellsShape text s → StopsThere rest → Begins s (text ++ rest) rest
+begins_with (shapes.decimal n) text rest h stops = record { lead = decimal text; after = rest; is_lead = decimal_leads text rest n h stops; leads = (n, refl, h, refl) }
+begins_with (shapes.hexadecimal n) text rest (digits, h, e) stops = at_front (shapes.hexadecimal n) text (48 ∷ 120 ∷ digits) (48 ∷ 120 ∷ (digits ++ rest)) rest (hexadecimal digits) rest e refl (hexadecimal_leads digits rest n h stops) (n, refl, h, refl)
+begins_with (shapes.negative n) text rest (digits, h, e) stops = at_front (shapes.negative n) text (45 ∷ digits) (45 ∷ (digits ++ rest)) rest (negative digits) rest e refl (negative_leads digits rest n h stops) (n, refl, h, refl)
+begins_with (shapes.flag b) text rest e stops = at_front (shapes.flag b) text (flag_word b) (flag_word b ++ rest) rest (flag b) rest e refl (flag_leads b rest stops) (refl, refl)
+begins_with (shapes.character c) text rest (inside, h, e) stops = at_front (shapes.character c) text (39 ∷ (inside ++ 39 ∷ [])) (39 ∷ (inside ++ 39 ∷ rest)) rest (character c) rest e (ap (λ (t : List ℕ). 39 ∷ t) (closing inside rest 39)) (character_leads inside rest c h) (refl, refl)
+begins_with (shapes.quoted s) text rest (inside, h, e) stops = at_front (shapes.quoted s) text (34 ∷ (inside ++ 34 ∷ [])) (34 ∷ (inside ++ 34 ∷ rest)) rest (quoted inside) rest e (ap (λ (t : List ℕ). 34 ∷ t) (closing inside rest 34)) (quoted_leads inside rest h.0 h.1) (s, refl, h, refl)
+begins_with (shapes.interned name) text rest (h, e) stops = at_front (shapes.interned name) text (64 ∷ name) (64 ∷ (name ++ rest)) rest (interned name) rest e refl (interned_leads name rest h stops) (refl, refl)
+begins_with (shapes.bytes bs) text rest (digits, h, e) stops = at_front (shapes.bytes bs) text (35 ∷ digits) (35 ∷ (digits ++ rest)) rest (bytes digits) rest e refl (bytes_leads digits rest bs h stops) (bs, refl, h, refl)
+begins_with shapes.empty text rest e stops = at_front shapes.empty text (91 ∷ 93 ∷ []) (91 ∷ 93 ∷ rest) rest empty rest e refl (empty_leads rest) (refl, refl)
+begins_with (shapes.call name variant ss) text rest (mark, inside, h, k, spelled, e) stops =
+    let c = call_leads name mark (inside ++ 41 ∷ rest) variant h k in
+    at_front (shapes.call name variant ss) text (name ++ (mark ++ 40 ∷ (inside ++ 41 ∷ []))) (name ++ (mark ++ 40 ∷ (inside ++ 41 ∷ rest))) rest (call name c.0) (inside ++ 41 ∷ rest) e
+    (append_assoc name (mark ++ 40 ∷ (inside ++ 41 ∷ [])) rest
+    ∙ ap (λ (t : List ℕ). name ++ t) (append_assoc mark (40 ∷ (inside ++ 41 ∷ [])) rest ∙ ap (λ (t : List ℕ). mark ++ 40 ∷ t) (closing inside rest 41)))
+    c.2 (variant, ss, inside, refl, c.1, spelled, refl)
+begins_with (shapes.sequence name items) text rest (inside, h, starts, spelled, e) stops =
+    at_front (shapes.sequence name items) text (name ++ 91 ∷ (inside ++ 93 ∷ [])) (name ++ 91 ∷ (inside ++ 93 ∷ rest)) rest (sequence name) (inside ++ 93 ∷ rest) e
+    (append_assoc name (91 ∷ (inside ++ 93 ∷ [])) rest ∙ ap (λ (t : List ℕ). name ++ 91 ∷ t) (closing inside rest 93))
+    (sequence_leads name (inside ++ 93 ∷ rest) h) (items, inside, refl, starts, spelled, refl)

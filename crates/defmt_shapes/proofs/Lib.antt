@@ -1,0 +1,13 @@
+pub mod RunLaws
+pub mod NumberLaws
+pub mod EscapeLaws
+pub mod LeadForms
+pub mod LeadAgain
+pub mod LeadFound
+pub mod ShapeLaws
+pub mod ScanLaws
+pub mod LeaveLaws
+pub mod OneLaws
+pub mod ValueLaws
+pub mod OrderLaws
+pub mod MeaningLaws

@@ -1,0 +1,192 @@
+-- What a value's text begins with, on lists.
+use Rattle.std.specs.Prelude.{◌≡◌, ℕ, Bool, true, false, ◌==◌, ◌%◌, if◌then◌else◌, bytes_eq, List, [], ◌∷◌, ◌++◌, length, codes, Option, Some, None, option_map}
+use Rattle.std.specs.Borrow.{Bor}
+use Rattle.std.specs.Option.{option_copied}
+use Rattle.defmt_grammar.specs.Cut.{behind, strip}
+use Rattle.defmt_grammar.specs.Param.{has_leading_zero}
+use Rattle.defmt_shapes.specs.declared.parts.Class.TheVariants.{Decimal, Hexadecimal, Word}
+use Rattle.defmt_shapes.specs.declared.head.Head.{Head}
+use Rattle.defmt_shapes.specs.declared.head.Head.TheVariants as heads
+use Rattle.defmt_shapes.specs.declared.head.Whole.{Whole}
+use Rattle.defmt_shapes.specs.declared.head.Whole.TheVariants as wholes
+use Rattle.defmt_shapes.specs.Runs.{in_class, run, either, is_name, is_variant}
+use Rattle.defmt_shapes.specs.Escapes.{IsCharacter, IsQuotedEnd}
+use Rattle.defmt_shapes.specs.Shape.{Shape, Shapes, Items, IsNumber, IsVariant, SpellsBytes, SpellsQuoted, SpellsShapes, SpellsItems, StartsThere}
+use Rattle.defmt_shapes.specs.Shape as shapes
+
+-- a value without values inside, with its digits, its name or what stands in its quotes, or the front
+-- of one up to its first bracket
+pub data Lead : Type 0 where
+  decimal : List ℕ → Lead
+  hexadecimal : List ℕ → Lead
+  negative : List ℕ → Lead
+  flag : Bool → Lead
+  character : ℕ → Lead
+  quoted : List ℕ → Lead
+  interned : List ℕ → Lead
+  bytes : List ℕ → Lead
+  empty : Lead
+  call : List ℕ → Option (List ℕ) → Lead
+  sequence : List ℕ → Lead
+
+abbrev pub view_whole : Whole → Lead
+view_whole (wholes.Decimal digits) = decimal digits.now
+view_whole (wholes.Hexadecimal digits) = hexadecimal digits.now
+view_whole (wholes.Negative digits) = negative digits.now
+view_whole (wholes.Flag b) = flag b
+view_whole (wholes.Character c) = character c
+view_whole (wholes.Quoted inside) = quoted inside.now
+view_whole (wholes.Interned name) = interned name.now
+view_whole (wholes.Bytes digits) = bytes digits.now
+view_whole wholes.Empty = empty
+
+abbrev pub view_head : Head → Lead
+view_head (heads.Whole whole) = view_whole whole
+view_head (heads.Call name variant) = call name.now (option_copied variant)
+view_head (heads.Sequence name) = sequence name.now
+
+abbrev pub view_heads : Option (Head × Bor (List ℕ)) → Option (Lead × List ℕ)
+view_heads o = option_map (λ p. (view_head p.0, p.1.now)) o
+
+-- ---- by their first byte
+
+abbrev pub some_digits : (List ℕ → Lead) → List ℕ × List ℕ → Option (Lead × List ℕ)
+some_digits make d = if length d.0 == 0 then None else Some (make d.0, d.1)
+
+unfoldable pub decimal_lead : List ℕ → Option (Lead × List ℕ)
+decimal_lead text = some_digits decimal (run (in_class Decimal) text)
+
+-- behind `0x`
+unfoldable pub hexadecimal_lead : List ℕ → Option (Lead × List ℕ)
+hexadecimal_lead text = some_digits hexadecimal (run (in_class Hexadecimal) text)
+
+-- behind `-`
+unfoldable pub negative_lead : List ℕ → Option (Lead × List ℕ)
+negative_lead text = some_digits negative (run (in_class Decimal) text)
+
+abbrev pub name_in : List ℕ × List ℕ → Option (Lead × List ℕ)
+name_in d = if is_name d.0 then Some (interned d.0, d.1) else None
+
+-- behind `@`
+unfoldable pub interned_lead : List ℕ → Option (Lead × List ℕ)
+interned_lead text = name_in (run (in_class Word) text)
+
+abbrev pub pairs_in : List ℕ × List ℕ → Option (Lead × List ℕ)
+pairs_in d = if length d.0 % 2 == 0 then Some (bytes d.0, d.1) else None
+
+-- behind `#`
+unfoldable pub bytes_lead : List ℕ → Option (Lead × List ℕ)
+bytes_lead text = pairs_in (run (in_class Hexadecimal) text)
+
+abbrev pub variant_in : List ℕ → List ℕ × List ℕ → Option (Lead × List ℕ)
+variant_in name d = if is_variant d.0 then either (behind 40 d.1) (λ inside. Some (call name (Some d.0), inside)) None else None
+
+-- behind a name and `:`
+unfoldable pub variant_lead : List ℕ → List ℕ → Option (Lead × List ℕ)
+variant_lead name text = variant_in name (run (in_class Decimal) text)
+
+unfoldable pub flag_lead : List ℕ → List ℕ → Option (Lead × List ℕ)
+flag_lead name rest = if bytes_eq name (codes "true") then Some (flag true, rest) else (if bytes_eq name (codes "false") then Some (flag false, rest) else None)
+
+-- behind a name
+unfoldable pub named_lead : List ℕ → List ℕ → Option (Lead × List ℕ)
+named_lead name rest =
+    either (behind 40 rest) (λ inside. Some (call name None, inside))
+    (either (behind 58 rest) (variant_lead name)
+    (either (behind 91 rest) (λ inside. Some (sequence name, inside))
+    (flag_lead name rest)))
+
+abbrev pub word_in : List ℕ × List ℕ → Option (Lead × List ℕ)
+word_in d = if is_name d.0 then named_lead d.0 d.1 else None
+
+unfoldable pub word_lead : List ℕ → Option (Lead × List ℕ)
+word_lead text = word_in (run (in_class Word) text)
+
+-- the digits in front, or else a name
+abbrev pub or_word : List ℕ → Option (Lead × List ℕ) → Option (Lead × List ℕ)
+or_word text None = word_lead text
+or_word text (Some p) = Some p
+
+unfoldable pub plain_lead : List ℕ → Option (Lead × List ℕ)
+plain_lead text = either (strip (codes "0x") text) hexadecimal_lead (or_word text (decimal_lead text))
+
+-- all but what begins with a quote
+unfoldable pub marked_lead : List ℕ → Option (Lead × List ℕ)
+marked_lead text =
+    either (behind 45 text) negative_lead
+    (either (behind 64 text) interned_lead
+    (either (behind 35 text) bytes_lead
+    (either (strip (codes "[]") text) (λ rest. Some (empty, rest))
+    (plain_lead text))))
+
+abbrev pub quoted_lead : Option (List ℕ × List ℕ) → Option (Lead × List ℕ)
+quoted_lead o = option_map (λ p. (quoted p.0, p.1)) o
+
+abbrev pub character_lead : Option (ℕ × List ℕ) → Option (Lead × List ℕ)
+character_lead None = None
+character_lead (Some p) = either (behind 39 p.1) (λ rest. Some (character p.0, rest)) None
+
+abbrev pub IsCharacterLead : List ℕ → Option (List ℕ) → Option (Lead × List ℕ) → Type 0
+IsCharacterLead text None o = o ≡ marked_lead text
+IsCharacterLead text (Some inside) o = (p : Option (ℕ × List ℕ)) × IsCharacter 39 inside p × (o ≡ character_lead p)
+
+abbrev pub IsQuotedLead : List ℕ → Option (List ℕ) → Option (Lead × List ℕ) → Type 0
+IsQuotedLead text None o = IsCharacterLead text (behind 39 text) o
+IsQuotedLead text (Some inside) o = (q : Option (List ℕ × List ℕ)) × IsQuotedEnd inside q × (o ≡ quoted_lead q)
+
+-- what the text begins with, and what follows it
+abbrev pub IsLead : List ℕ → Option (Lead × List ℕ) → Type 0
+IsLead text o = IsQuotedLead text (behind 34 text) o
+
+-- ---- elements
+
+abbrev pub mark_of : List ℕ → Option (List ℕ)
+mark_of [] = None
+mark_of (d ∷ ds) = Some (d ∷ ds)
+
+abbrev pub item_in : List ℕ × List ℕ → Option (Option (List ℕ) × List ℕ)
+item_in d = if has_leading_zero d.0 then None else option_map (λ inside. (mark_of d.0, inside)) (behind 40 d.1)
+
+-- the variant in front of an element's `(`, and what follows that
+unfoldable pub item_of : List ℕ → Option (Option (List ℕ) × List ℕ)
+item_of text = item_in (run (in_class Decimal) text)
+
+abbrev pub view_item : Option (Option (Bor (List ℕ)) × Bor (List ℕ)) → Option (Option (List ℕ) × List ℕ)
+view_item o = option_map (λ p. (option_copied p.0, p.1.now)) o
+
+-- ---- what a lead says of the shape
+
+-- the variant's digits, and its number
+abbrev pub IsMark : Option (List ℕ) → Option ℕ → Type 0
+IsMark None None = Unit {0}
+IsMark None (Some v) = ⊥
+IsMark (Some digits) None = ⊥
+IsMark (Some digits) (Some v) = IsVariant digits v
+
+-- what the lead and what stands behind it, up to the rest, say of the shape
+abbrev pub Leads : Lead → List ℕ → List ℕ → Shape → Type 0
+Leads (decimal digits) after rest s = (n : ℕ) × (s ≡ shapes.decimal n) × IsNumber 10 digits n × (after ≡ rest)
+Leads (hexadecimal digits) after rest s = (n : ℕ) × (s ≡ shapes.hexadecimal n) × IsNumber 16 digits n × (after ≡ rest)
+Leads (negative digits) after rest s = (n : ℕ) × (s ≡ shapes.negative n) × IsNumber 10 digits n × (after ≡ rest)
+Leads (flag b) after rest s = (s ≡ shapes.flag b) × (after ≡ rest)
+Leads (character c) after rest s = (s ≡ shapes.character c) × (after ≡ rest)
+Leads (quoted inside) after rest s = (t : List ℕ) × (s ≡ shapes.quoted t) × SpellsQuoted inside t × (after ≡ rest)
+Leads (interned name) after rest s = (s ≡ shapes.interned name) × (after ≡ rest)
+Leads (bytes digits) after rest s = (bs : List ℕ) × (s ≡ shapes.bytes bs) × SpellsBytes digits bs × (after ≡ rest)
+Leads empty after rest s = (s ≡ shapes.empty) × (after ≡ rest)
+Leads (call name mark) after rest s = (v : Option ℕ) × (ss : Shapes) × (inside : List ℕ) × (s ≡ shapes.call name v ss) × IsMark mark v × SpellsShapes inside ss × (after ≡ inside ++ 41 ∷ rest)
+Leads (sequence name) after rest s = (items : Items) × (inside : List ℕ) × (s ≡ shapes.sequence name items) × StartsThere inside × SpellsItems inside items × (after ≡ inside ++ 93 ∷ rest)
+
+-- the lead is a whole value
+abbrev pub IsWhole : Lead → Type 0
+IsWhole (decimal digits) = Unit {0}
+IsWhole (hexadecimal digits) = Unit {0}
+IsWhole (negative digits) = Unit {0}
+IsWhole (flag b) = Unit {0}
+IsWhole (character c) = Unit {0}
+IsWhole (quoted inside) = Unit {0}
+IsWhole (interned name) = Unit {0}
+IsWhole (bytes digits) = Unit {0}
+IsWhole empty = Unit {0}
+IsWhole (call name mark) = ⊥
+IsWhole (sequence name) = ⊥

@@ -1,0 +1,110 @@
+-- Reading what stands between brackets, on lists.
+use Rattle.std.specs.Prelude.{◌≡◌, ℕ, List, [], ◌∷◌, ◌++◌, Option, Some, None, Result, Ok, Err, option_map}
+use Rattle.std.specs.Borrow.{Bor}
+use Rattle.dl_io.specs.declared.fault.Memory.{Memory}
+use Rattle.defmt_grammar.specs.Cut.{behind, skip_spaces}
+use Rattle.defmt_shapes.specs.declared.scan.Bracket.{Bracket}
+use Rattle.defmt_shapes.specs.declared.scan.Bracket.TheVariants.{Round, Square}
+use Rattle.defmt_shapes.specs.declared.scan.Place.{Place}
+use Rattle.defmt_shapes.specs.declared.scan.Place.TheVariants.{Before, After}
+use Rattle.defmt_shapes.specs.declared.scan.Step.{Step}
+use Rattle.defmt_shapes.specs.declared.scan.Step.TheVariants.{Begin, End, Open, Close}
+use Rattle.defmt_shapes.specs.Shape.{Shapes, Items, SpellsShapes, SpellsItems, EndsThere, StartsThere}
+use Rattle.defmt_shapes.specs.Runs.{either}
+use Rattle.defmt_shapes.specs.Escapes.{parts_of}
+use Rattle.defmt_shapes.specs.Leads.{Lead, call, sequence, IsLead, item_of}
+use Rattle.defmt_shapes.specs.Leads as leads
+
+-- ---- what may stand between brackets
+
+abbrev pub closing : Bracket → ℕ
+closing Round = 41
+closing Square = 93
+
+-- values, or elements, all of them or those behind one
+abbrev pub MayStand : Bracket → Place → List ℕ → Type 0
+MayStand Round Before text = (ss : Shapes) × SpellsShapes text ss
+MayStand Round After text = (ss : Shapes) × EndsThere text × SpellsShapes text ss
+MayStand Square Before text = (items : Items) × StartsThere text × SpellsItems text items
+MayStand Square After text = (items : Items) × EndsThere text × SpellsItems text items
+
+-- what the bracket that was opened before the text encloses, and what follows it
+pub record Encloses (bracket : Bracket) (text inside rest : List ℕ) : Type 0 where
+  pub stands : MayStand bracket Before inside
+  pub text_is : text ≡ inside ++ closing bracket ∷ rest
+
+-- the text up to the bracket that closes the one opened before it, and behind that
+abbrev pub IsEnclosed : Bracket → List ℕ → Option (List ℕ × List ℕ) → Type 0
+IsEnclosed bracket text None = (inside rest : List ℕ) → Encloses bracket text inside rest → ⊥
+IsEnclosed bracket text (Some p) = Encloses bracket text p.0 p.1
+
+abbrev pub FindsClosing : Bracket → List ℕ → Result (Option (Bor (List ℕ) × Bor (List ℕ))) Memory → Type 0
+FindsClosing bracket text (Ok o) = IsEnclosed bracket text (parts_of o)
+FindsClosing bracket text (Err e) = Unit {0}
+
+-- ---- one step
+
+abbrev pub step_rest : Option (Step × Bor (List ℕ)) → Option (Step × List ℕ)
+step_rest o = option_map (λ p. (p.0, p.1.now)) o
+
+abbrev pub step_of_lead : Lead → Step
+step_of_lead (leads.decimal digits) = End
+step_of_lead (leads.hexadecimal digits) = End
+step_of_lead (leads.negative digits) = End
+step_of_lead (leads.flag b) = End
+step_of_lead (leads.character c) = End
+step_of_lead (leads.quoted inside) = End
+step_of_lead (leads.interned name) = End
+step_of_lead (leads.bytes digits) = End
+step_of_lead leads.empty = End
+step_of_lead (leads.call name mark) = Open Round
+step_of_lead (leads.sequence name) = Open Square
+
+abbrev pub lead_step : Option (Lead × List ℕ) → Option (Step × List ℕ)
+lead_step o = option_map (λ p. (step_of_lead p.0, p.1)) o
+
+-- behind a value or an element
+abbrev pub after_step : Bracket → List ℕ → Option (Step × List ℕ)
+after_step bracket text = either (behind (closing bracket) text) (λ rest. Some (Close, rest)) (either (behind 32 text) (λ rest. Some (Begin, skip_spaces rest)) None)
+
+abbrev pub item_step : Option (Option (List ℕ) × List ℕ) → Option (Step × List ℕ)
+item_step o = option_map (λ p. (Open Round, p.1)) o
+
+abbrev pub IsValueStep : List ℕ → Option (Step × List ℕ) → Option (Step × List ℕ) → Type 0
+IsValueStep text None o = (l : Option (Lead × List ℕ)) × IsLead text l × (o ≡ lead_step l)
+IsValueStep text (Some p) o = o ≡ Some p
+
+-- what a text goes on with, inside this bracket at this place
+abbrev pub IsStep : Bracket → Place → List ℕ → Option (Step × List ℕ) → Type 0
+IsStep Round Before text o = IsValueStep text (after_step Round text) o
+IsStep Round After text o = o ≡ after_step Round text
+IsStep Square Before text o = o ≡ item_step (item_of text)
+IsStep Square After text o = o ≡ after_step Square text
+
+-- ---- the way so far
+
+-- what still has to follow so that the text is enclosed: each open bracket has to be closed
+abbrev pub Ends : Bracket → List ℕ → List Bracket → List ℕ → Type 0
+Ends first text [] rest = (inside : List ℕ) × Encloses first text inside rest
+Ends first text (b ∷ bs) rest = (inside after : List ℕ) → rest ≡ inside ++ closing b ∷ after → MayStand b After inside → Ends first text bs after
+
+-- the same where a value may begin
+abbrev pub Awaits : Bracket → List ℕ → Bracket → List Bracket → Place → List ℕ → Type 0
+Awaits first text b bs place rest = (inside after : List ℕ) → rest ≡ inside ++ closing b ∷ after → MayStand b place inside → Ends first text bs after
+
+-- what does follow where the text is enclosed with this behind it
+abbrev pub Leaves : List Bracket → List ℕ → List ℕ → Type 0
+Leaves [] rest end = rest ≡ end
+Leaves (b ∷ bs) rest end = (inside : List ℕ) × (after : List ℕ) × (rest ≡ inside ++ closing b ∷ after) × MayStand b After inside × Leaves bs after end
+
+pub record LeavesAt (b : Bracket) (bs : List Bracket) (place : Place) (rest end : List ℕ) : Type 0 where
+  pub inside : List ℕ
+  pub after : List ℕ
+  pub rest_is : rest ≡ inside ++ closing b ∷ after
+  pub stands : MayStand b place inside
+  pub outer : Leaves bs after end
+
+-- how far a reader has come
+pub record InBrackets (first : Bracket) (text : List ℕ) (b : Bracket) (bs : List Bracket) (place : Place) (rest : List ℕ) : Type 0 where
+  pub sound : Awaits first text b bs place rest
+  pub complete : (inside end : List ℕ) → Encloses first text inside end → LeavesAt b bs place rest end

@@ -1,0 +1,20 @@
+//! What the texts of arguments spell, without any table.
+#![tactic(auto)]
+
+mod escape;
+mod head;
+mod laws;
+mod meaning;
+mod number;
+mod parts;
+mod scan;
+mod spelling;
+
+pub use laws::{element_by_element, one_head, one_shape, value_by_value};
+pub use meaning::{bytes_of, unescape};
+pub use number::Number;
+pub use parts::skip_spaces;
+pub use spelling::{Item, Spelling, first_item, first_value};
+
+#[cfg(test)]
+mod tests;

@@ -1,0 +1,38 @@
+//! Numbers of any size.
+
+ghost use Rattle.std.specs.Prelude.{◌≤◌, Option, ℕ};
+ghost use Rattle.std.specs.Option.{option_copied};
+ghost use Rattle.defmt_shapes.specs.Shape.{IsNumber};
+ghost use Rattle.defmt_shapes.specs.Leads.{IsMark};
+ghost use Rattle.defmt_shapes.specs.Spelling.{Holds, HoldsVariant};
+
+/// A number of any size, as far as 128 bits hold it.
+#[derive(Clone, Copy, Debug, PartialEq, Eq)]
+pub enum Number {
+    /// This number, below 2 ^ 128.
+    Within(u128),
+    /// A number of 2 ^ 128 or more.
+    Above,
+}
+
+/// The number that digits of this radix stand for.
+pub(crate) fn number_of(digits: &str, radix: u32) -> Number
+    requires low { 2 ≤ radix }
+    requires high { radix ≤ 36 }
+    ensures { (n : ℕ) → IsNumber radix digits.now n → Holds result n }
+{
+    match u128::from_str_radix(digits, radix) {
+        Ok(number) => Number::Within(number),
+        Err(_) => Number::Above,
+    }
+}
+
+/// The number of a variant.
+pub(crate) fn variant_of(digits: Option<&str>) -> Option<Number>
+    ensures { (v : Option ℕ) → IsMark (option_copied digits.entry) v → HoldsVariant result v }
+{
+    match digits {
+        None => None,
+        Some(digits) => Some(number_of(digits, 10)),
+    }
+}

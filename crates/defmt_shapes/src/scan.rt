@@ -1,0 +1,137 @@
+//! What stands between brackets, however deep others stand inside.
+
+ghost use Rattle.std.specs.Prelude.{◌≡◌, ◌<◌, length, IfSome, IfOk, OnOk};
+ghost use Rattle.std.specs.Str.{IsUtf8};
+ghost use Rattle.defmt_shapes.specs.Leads.{view_head};
+ghost use Rattle.defmt_shapes.specs.Scan.{FindsClosing, IsStep, step_rest, step_of_lead, closing, after_step};
+
+use crate::head::{Head, head_of, item_of};
+use crate::parts::{behind, skip_spaces};
+use dl_io::Memory;
+use std::alloc::Global;
+
+/// An open bracket.
+#[derive(Clone, Copy)]
+pub enum Bracket {
+    /// `(`, with values inside.
+    Round,
+    /// `[`, with elements inside.
+    Square,
+}
+
+impl Bracket {
+    /// The character that closes the bracket.
+    fn closing(self) -> char
+        ensures value { result ≡ closing self }
+        ensures ascii { result < 128 }
+    {
+        match self {
+            Bracket::Round => ')',
+            Bracket::Square => ']',
+        }
+    }
+}
+
+/// Where a reader stands between two brackets.
+#[derive(Clone, Copy)]
+pub enum Place {
+    /// Before a value or an element.
+    Before,
+    /// Right behind one.
+    After,
+}
+
+/// What a text goes on with.
+#[derive(Clone, Copy)]
+pub enum Step {
+    /// Spaces: a value or an element may begin.
+    Begin,
+    /// A value without values inside: it has ended.
+    End,
+    /// The front of one up to this bracket.
+    Open(Bracket),
+    /// The closing bracket.
+    Close,
+}
+
+/// What follows a value or an element inside this bracket.
+fn after_step(bracket: Bracket, text: &str) -> Option<(Step, &str)>
+    ensures parts { step_rest result ≡ after_step bracket text.now }
+    ensures utf8 { IfSome result (λ p. IsUtf8 p.1.now) }
+{
+    if let Some(rest) = behind(text, bracket.closing()) {
+        return Some((Step::Close, rest));
+    }
+    if let Some(rest) = behind(text, ' ') {
+        return Some((Step::Begin, skip_spaces(rest)));
+    }
+    None
+}
+
+/// What a value's head makes of the place behind it.
+#[tactic(auto, using(crate::proofs::ScanLaws::whole_ends))]
+fn step_of(head: Head<'_>) -> Step
+    ensures { result ≡ step_of_lead (view_head head.entry) }
+{
+    match head {
+        Head::Whole(_) => Step::End,
+        Head::Call(_, _) => Step::Open(Bracket::Round),
+        Head::Sequence(_) => Step::Open(Bracket::Square),
+    }
+}
+
+/// What the text goes on with inside this bracket.
+fn next_step(bracket: Bracket, place: Place, text: &str) -> Option<(Step, &str)>
+    ensures parts { IsStep bracket place text.now (step_rest result) }
+    ensures utf8 { IfSome result (λ p. IsUtf8 p.1.now) }
+{
+    match (bracket, place) {
+        (Bracket::Round, Place::Before) => {
+            if let Some(step) = after_step(bracket, text) {
+                return Some(step);
+            }
+            let (head, rest) = head_of(text)?;
+            Some((step_of(head), rest))
+        }
+        (Bracket::Square, Place::Before) => {
+            let (_, rest) = item_of(text)?;
+            Some((Step::Open(Bracket::Round), rest))
+        }
+        (_, Place::After) => after_step(bracket, text),
+    }
+}
+
+/// What stands before the bracket that closes the one opened before the text, and behind it. The
+/// brackets inside that are still open stand on a stack, so the depth is limited by memory alone.
+pub fn enclosed(alloc: Global, text: &str, first: Bracket) -> Result<Option<(&str, &str)>, Memory>
+    ensures parts { FindsClosing first text.now result }
+    ensures utf8 { IfOk result (λ o. IfSome o (λ p. IsUtf8 p.0.now × IsUtf8 p.1.now)) }
+{
+    let mut outer: Vec<Bracket> = Vec::new(alloc);
+    let mut bracket = first;
+    let mut place = Place::Before;
+    let mut rest = text;
+    'steps: loop {
+        let Some((step, after)) = next_step(bracket, place, rest) else {
+            return Ok(None);
+        };
+        rest = after;
+        match step {
+            Step::Begin => place = Place::Before,
+            Step::End => place = Place::After,
+            Step::Open(inner) => {
+                outer.push(bracket)?;
+                bracket = inner;
+                place = Place::Before;
+            }
+            Step::Close => {
+                let Some(around) = outer.pop() else {
+                    let (inside, _) = text.split_at(text.len() - rest.len() - 1);
+                    return Ok(Some((inside, rest)));
+                };
+                bracket = around;
+                place = Place::After;
+            }
+        }
+    }
+}

@@ -1,0 +1,158 @@
+//! The value or element that a text begins with.
+
+ghost use Rattle.std.specs.Prelude.{◌≡◌, List, ℕ, IfOk, IfSome};
+ghost use Rattle.std.specs.Str.{IsUtf8};
+ghost use Rattle.defmt_shapes.specs.Shape.{Shape as AnyShape};
+ghost use Rattle.defmt_shapes.specs.Leads.{view_whole, Leads};
+ghost use Rattle.defmt_shapes.specs.Spelling.{Tells, ends_there, FindsValue, FindsItem};
+
+use crate::head::{Head, Whole, head_of, item_of};
+use crate::number::{Number, number_of, variant_of};
+use crate::parts::behind;
+use crate::scan::{Bracket, enclosed};
+use dl_io::Memory;
+use std::alloc::Global;
+
+/// What the text of one value says, with the parts of the text that stand inside it.
+#[derive(Clone, Copy, Debug)]
+pub enum Spelling<'a> {
+    /// Decimal digits.
+    Decimal(Number),
+    /// `0x` and hexadecimal digits.
+    Hexadecimal(Number),
+    /// `-` and decimal digits: the number without its sign.
+    Negative(Number),
+    /// `true` or `false`.
+    Flag(bool),
+    /// A character in single quotes.
+    Character(char),
+    /// What stands between double quotes, with its escapes: `unescape` gives what it means.
+    Quoted(&'a str),
+    /// The name behind `@`.
+    Interned(&'a str),
+    /// The hexadecimal digits behind `#`, two for each byte: `bytes_of` gives the bytes.
+    Bytes(&'a str),
+    /// `NAME(ARGS)` or `NAME:V(ARGS)`.
+    Call {
+        /// The name.
+        name: &'a str,
+        /// The variant.
+        variant: Option<Number>,
+        /// The values between the brackets.
+        inside: &'a str,
+    },
+    /// `[]`.
+    Empty,
+    /// `NAME[ITEMS]`.
+    Sequence {
+        /// The name.
+        name: &'a str,
+        /// The elements between the brackets, at least one.
+        inside: &'a str,
+    },
+}
+
+/// An element of a list: `(ARGS)` or `V(ARGS)`.
+#[derive(Clone, Copy, Debug)]
+pub struct Item<'a> {
+    /// The variant.
+    pub variant: Option<Number>,
+    /// The values between the brackets.
+    pub inside: &'a str,
+}
+
+/// Whether a value may end before this rest: it is empty or begins with a space.
+fn ends_there(rest: &str) -> bool
+    ensures { result ≡ ends_there rest.now }
+{
+    rest.is_empty() || behind(rest, ' ').is_some()
+}
+
+/// The spelling of a value without values inside.
+fn spelling_of(whole: Whole<'_>) -> Spelling<'_>
+    ensures { (after : List ℕ) (rest : List ℕ) (s : AnyShape) → Leads (view_whole whole.entry) after rest s → Tells result s }
+{
+    match whole {
+        Whole::Decimal(digits) => Spelling::Decimal(number_of(digits, 10)),
+        Whole::Hexadecimal(digits) => Spelling::Hexadecimal(number_of(digits, 16)),
+        Whole::Negative(digits) => Spelling::Negative(number_of(digits, 10)),
+        Whole::Flag(flag) => Spelling::Flag(flag),
+        Whole::Character(character) => Spelling::Character(character),
+        Whole::Quoted(inside) => Spelling::Quoted(inside),
+        Whole::Interned(name) => Spelling::Interned(name),
+        Whole::Bytes(digits) => Spelling::Bytes(digits),
+        Whole::Empty => Spelling::Empty,
+    }
+}
+
+/// The value that a text begins with, and what follows it: the rest is empty or begins with a space.
+/// A value's text runs to the next space outside all brackets and quotes, or to the end, and all of it
+/// is judged, with everything inside its brackets, however deep. `None` where it spells no value, as
+/// where the text is empty or begins with a space.
+///
+/// # Errors
+/// `Memory` where memory runs out.
+pub fn first_value(alloc: Global, text: &str) -> Result<Option<(Spelling<'_>, &str)>, Memory>
+    ensures value { FindsValue text.now result }
+    ensures utf8 { IfOk result (λ o. IfSome o (λ p. IsUtf8 p.1.now)) }
+{
+    let Some((head, after)) = head_of(text) else {
+        return Ok(None);
+    };
+    match head {
+        Head::Whole(whole) => {
+            if !ends_there(after) {
+                return Ok(None);
+            }
+            Ok(Some((spelling_of(whole), after)))
+        }
+        Head::Call(name, variant) => {
+            let Some((inside, rest)) = enclosed(alloc, after, Bracket::Round)? else {
+                return Ok(None);
+            };
+            if !ends_there(rest) {
+                return Ok(None);
+            }
+            let variant = variant_of(variant);
+            Ok(Some((
+                Spelling::Call {
+                    name,
+                    variant,
+                    inside,
+                },
+                rest,
+            )))
+        }
+        Head::Sequence(name) => {
+            let Some((inside, rest)) = enclosed(alloc, after, Bracket::Square)? else {
+                return Ok(None);
+            };
+            if !ends_there(rest) {
+                return Ok(None);
+            }
+            Ok(Some((Spelling::Sequence { name, inside }, rest)))
+        }
+    }
+}
+
+/// The element that a text begins with, and what follows it: the rest is empty or begins with a space.
+/// `None` where there is none, as where the text is empty or begins with a space.
+///
+/// # Errors
+/// `Memory` where memory runs out.
+pub fn first_item(alloc: Global, text: &str) -> Result<Option<(Item<'_>, &str)>, Memory>
+    ensures item { FindsItem text.now result }
+    ensures utf8 { IfOk result (λ o. IfSome o (λ p. IsUtf8 p.1.now)) }
+{
+    let Some((variant, after)) = item_of(text) else {
+        return Ok(None);
+    };
+    let Some((inside, rest)) = enclosed(alloc, after, Bracket::Round)? else {
+        return Ok(None);
+    };
+    if !ends_there(rest) {
+        return Ok(None);
+    }
+    let variant = variant_of(variant);
+    Ok(Some((Item { variant, inside }, rest)))
+}

@@ -1,0 +1,12 @@
+mod Arms
+mod Backs
+mod Exits
+mod Firsts
+mod Joins
+mod LeafLaws
+mod Loops
+mod NameLaws
+mod PrintLaws
+mod Wholes
+mod Written
+pub mod Heads

@@ -1,0 +1,12 @@
+use Rattle.std.proofs.Common.{◌∙◌, ap}
+use Rattle.std.specs.FinMap as map
+use Rattle.std.proofs.lemmas.Map.Text.{btree_map_updates_text}
+use Rattle.std.specs.Prelude.{string_bytes}
+use Rattle.defmt_spelling.proofs.NameLaws.{inserted}
+use Rattle.defmt_spelling.proofs.names.Names.put.Goals as goal
+
+pub returns-clause-ok : goal.returns-clause-ok
+returns-clause-ok c =
+    inserted c.self.inside.names.entries c.insert.new.self.entries c.args.self.now (string_bytes c.in_ok-key.key) c.args.index c.self.view_is
+    (btree_map_updates_text (string_bytes c.in_ok-key.key) c.self.inside.names c.insert.new.self _ c.in_ok-insert.ensures.updates)
+    ∙ ap (λ k. map.insert c.args.self.now k c.args.index) c.in_ok-key.ensures.ok

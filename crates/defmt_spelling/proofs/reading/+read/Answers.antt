@@ -1,0 +1,171 @@
+use Rattle.std.proofs.Common.{◌∙◌, sym}
+use Rattle.std.proofs.lemmas.Result.{err_from_is_err_and}
+use Rattle.defmt_spelling.proofs.Arms as arms
+use Rattle.defmt_spelling.proofs.Exits as exits
+use Rattle.defmt_spelling.proofs.Loops as loops
+use Rattle.std.specs.Prelude.{IfSome}
+use Rattle.std.specs.Str.{IsUtf8}
+use Rattle.std.proofs.Common.{None, subst, length}
+use Rattle.defmt_shapes.specs.Spelling.{Tells, IsValue}
+use Rattle.defmt_spelling.proofs.Firsts.{one_head, one_item}
+use Rattle.defmt_spelling.specs.Leaves.{decimal_cause, hexadecimal_cause, empty_cause}
+use Rattle.defmt_spelling.specs.Meaning.{index_of, decimal_at, hexadecimal_at, negated}
+use Rattle.defmt_values.proofs.Scans as scans
+use Rattle.defmt_values.specs.Entries.{places_of}
+use Rattle.defmt_values.specs.Plain.{int, flag, char, str, istr, bytes, seq, no_elems}
+use Rattle.defmt_values.specs.Scan.{int_cause, flag_cause, char_cause, str_cause, istr_cause, bytes_cause}
+use Rattle.defmt_values.specs.View.{plain}
+use Rattle.defmt_spelling.proofs.reading.+read.Goals as goal
+
+pub read_node-returns-in_err-check_node-clause-value : goal.read_node-returns-in_err-check_node-clause-value
+read_node-returns-in_err-check_node-clause-value t c = λ v ss m s.
+    let p = err_from_is_err_and c.from_residual.result c.from_residual.ensures.1 in
+    rw (p.1, p.2) (exits.node_kind_exit c.args.names.now c.args.table.now c.args.left c.args.weight c.args.sum c.args.slot c.args.name.now v ss _ c.in_err-check_node.ensures)
+
+pub read_node-returns-in_err-index-clause-value : goal.read_node-returns-in_err-index-clause-value
+read_node-returns-in_err-index-clause-value t c = λ v ss m s.
+    let p = err_from_is_err_and c.from_residual-in_err-index.result c.from_residual-in_err-index.ensures.1 in
+    rw (p.1, p.2) (exits.node_entry_exit c.args.names.now c.args.table.now c.args.left c.args.weight c.args.sum c.args.slot c.args.name.now v ss _ c.in_ok-check_node.ensures c.in_err-index.ensures.form)
+
+pub read_node-returns-in_err-item-clause-value : goal.read_node-returns-in_err-item-clause-value
+read_node-returns-in_err-item-clause-value t c = λ v ss m s.
+    let p = err_from_is_err_and c.from_residual-in_err-item.result c.from_residual-in_err-item.ensures.1 in
+    rw (p.1, p.2) (exits.node_item_exit c.args.names.now c.args.table.now c.args.left c.args.weight c.args.sum c.args.slot c.args.name.now v ss _ c.in_ok-index.form.now c.in_ok-check_node.ensures c.in_ok-index.ensures.form.1 (c.in_err-item.ensures.value v ss m s))
+
+pub read_node-returns-clause-value : goal.read_node-returns-clause-value
+read_node-returns-clause-value t c = λ v ss m s.
+    exits.node_end c.args.names.now c.args.table.now c.args.left c.args.weight c.args.sum c.args.slot c.args.name.now v ss c.in_ok-index.index c.in_ok-index.form.now _ _ _ c.in_ok-check_node.ensures c.in_ok-index.ensures.form (c.in_ok-item.ensures.value v ss m s)
+
+pub read_list-returns-in_err-check_list-clause-value : goal.read_list-returns-in_err-check_list-clause-value
+read_list-returns-in_err-check_list-clause-value t c = λ items n s.
+    let p = err_from_is_err_and c.from_residual.result c.from_residual.ensures.1 in
+    rw (p.1, p.2) (exits.list_kind_exit c.args.names.now c.args.table.now c.args.left c.args.weight c.args.sum c.args.slot c.args.name.now c.args.inside.now items n s _ c.in_err-check_list.ensures)
+
+pub read_list-returns-in_err-index-clause-value : goal.read_list-returns-in_err-index-clause-value
+read_list-returns-in_err-index-clause-value t c = λ items n s.
+    let p = err_from_is_err_and c.from_residual-in_err-index.result c.from_residual-in_err-index.ensures.1 in
+    rw (p.1, p.2) (exits.list_entry_exit c.args.names.now c.args.table.now c.args.left c.args.weight c.args.sum c.args.slot c.args.name.now c.args.inside.now items n s _ c.in_ok-check_list.ensures c.in_err-index.ensures.form)
+
+pub read_list-returns-in_err-items-clause-value : goal.read_list-returns-in_err-items-clause-value
+read_list-returns-in_err-items-clause-value t c = λ items n s.
+    let p = err_from_is_err_and c.from_residual-in_err-items.result c.from_residual-in_err-items.ensures.1 in
+    rw (p.1, p.2) (exits.list_items_exit c.args.names.now c.args.table.now c.args.left c.args.weight c.args.sum c.args.slot c.args.name.now c.args.inside.now items n s _ c.in_ok-index.form.now c.in_ok-check_list.ensures c.in_ok-index.ensures.form.1
+    (c.in_err-items.ensures.value (index_of c.args.names.now c.args.name.now) items (arms.form_there c.args.table.now c.args.left _ c.in_ok-index.form.now c.in_ok-index.ensures.form.1) s))
+
+pub read_list-returns-in_err-check_count-clause-value : goal.read_list-returns-in_err-check_count-clause-value
+read_list-returns-in_err-check_count-clause-value t c = λ items n s.
+    let p = err_from_is_err_and c.from_residual-in_err-check_count.result c.from_residual-in_err-check_count.ensures.1 in
+    rw (p.1, p.2) (exits.list_count_exit c.args.names.now c.args.table.now c.args.left c.args.weight c.args.sum c.args.slot c.args.name.now c.args.inside.now items n s _ c.in_ok-index.form.now c.in_ok-items.items c.in_ok-items.sum c.len.result c.in_ok-check_list.ensures c.in_ok-index.ensures.form.1
+    (c.in_ok-items.ensures.value (index_of c.args.names.now c.args.name.now) items (arms.form_there c.args.table.now c.args.left _ c.in_ok-index.form.now c.in_ok-index.ensures.form.1) s) c.len.ensures c.in_err-check_count.ensures)
+
+pub read_list-returns-clause-value : goal.read_list-returns-clause-value
+read_list-returns-clause-value t c = λ items n s.
+    exits.list_end c.args.names.now c.args.table.now c.args.left c.args.weight c.args.sum c.args.slot c.args.name.now c.args.inside.now items n s c.in_ok-index.index c.in_ok-index.form.now c.in_ok-items.items c.in_ok-items.sum c.len.result c.in_ok-check_list.ensures c.in_ok-index.ensures.form
+    (c.in_ok-items.ensures.value (index_of c.args.names.now c.args.name.now) items (arms.form_there c.args.table.now c.args.left _ c.in_ok-index.form.now c.in_ok-index.ensures.form.1) s) c.len.ensures c.in_ok-check_count.ensures
+
+pub read_value-returns-in-Decimal-clause-value : goal.read_value-returns-in-Decimal-clause-value
+read_value-returns-in-Decimal-clause-value t c = λ s told.
+    let k = subst (λ x. Tells x s) c.in-Decimal.is told in
+    arms.decimal_arm c.args.table.now c.args.left c.args.weight c.args.sum c.args.names.now c.args.slot c.paired.result s k.0 k.1 (c.paired.ensures.value (decimal_at c.args.slot k.0) (decimal_cause c.args.slot k.0) (c.decimal_value.ensures k.0 k.2))
+
+pub read_value-returns-in-Hexadecimal-clause-value : goal.read_value-returns-in-Hexadecimal-clause-value
+read_value-returns-in-Hexadecimal-clause-value t c = λ s told.
+    let k = subst (λ x. Tells x s) c.in-Hexadecimal.is told in
+    arms.hexadecimal_arm c.args.table.now c.args.left c.args.weight c.args.sum c.args.names.now c.args.slot c.paired-in-Hexadecimal.result s k.0 k.1 (c.paired-in-Hexadecimal.ensures.value (hexadecimal_at c.args.slot k.0) (hexadecimal_cause c.args.slot k.0) (c.hexadecimal_value.ensures k.0 k.2))
+
+pub read_value-returns-in-Negative-clause-value : goal.read_value-returns-in-Negative-clause-value
+read_value-returns-in-Negative-clause-value t c = λ s told.
+    let k = subst (λ x. Tells x s) c.in-Negative.is told in
+    arms.negative_arm c.args.table.now c.args.left c.args.weight c.args.sum c.args.names.now c.args.slot c.paired-in-Negative.result s k.0 k.1 (c.paired-in-Negative.ensures.value (int (negated k.0)) (int_cause c.args.slot (negated k.0)) (c.negative_value.ensures k.0 k.2))
+
+pub read_value-returns-in-Flag-clause-value : goal.read_value-returns-in-Flag-clause-value
+read_value-returns-in-Flag-clause-value t c = λ s told.
+    let k = subst (λ x. Tells x s) c.in-Flag.is told in
+    arms.flag_arm c.args.table.now c.args.left c.args.weight c.args.sum c.args.names.now c.args.slot c.paired-in-Flag.result s c.in-Flag.value k (c.paired-in-Flag.ensures.value (flag c.in-Flag.value) (flag_cause c.args.slot) c.flag_value.ensures)
+
+pub read_value-returns-in-Character-clause-value : goal.read_value-returns-in-Character-clause-value
+read_value-returns-in-Character-clause-value t c = λ s told.
+    let k = subst (λ x. Tells x s) c.in-Character.is told in
+    arms.char_arm c.args.table.now c.args.left c.args.weight c.args.sum c.args.names.now c.args.slot c.paired-in-Character.result s c.in-Character.character k (c.paired-in-Character.ensures.value (char c.in-Character.character) (char_cause c.args.slot) c.char_value.ensures)
+
+pub read_value-returns-in-Quoted-clause-value : goal.read_value-returns-in-Quoted-clause-value
+read_value-returns-in-Quoted-clause-value t c = λ s told.
+    let k = subst (λ x. Tells x s) c.in-Quoted.is told in
+    arms.str_arm c.args.table.now c.args.left c.args.weight c.args.sum c.args.names.now c.args.slot c.paired-in-Quoted.result s k.0 k.1 (c.paired-in-Quoted.ensures.value (str k.0) (str_cause c.args.slot) (c.str_value.ensures k.0 k.2))
+
+pub read_value-returns-in-Interned-clause-value : goal.read_value-returns-in-Interned-clause-value
+read_value-returns-in-Interned-clause-value t c = λ s told.
+    let k = subst (λ x. Tells x s) c.in-Interned.is told in
+    arms.istr_arm c.args.table.now c.args.left c.args.weight c.args.sum c.args.names.now c.args.slot c.paired-in-Interned.result s c.in-Interned.name.now k (c.paired-in-Interned.ensures.value (istr (index_of c.args.names.now c.in-Interned.name.now)) (istr_cause c.args.table.now c.args.slot (index_of c.args.names.now c.in-Interned.name.now)) c.istr_value.ensures)
+
+pub read_value-returns-in-Bytes-clause-value : goal.read_value-returns-in-Bytes-clause-value
+read_value-returns-in-Bytes-clause-value t c = λ s told.
+    let k = subst (λ x. Tells x s) c.in-Bytes.is told in
+    arms.bytes_arm c.args.table.now c.args.left c.args.weight c.args.sum c.args.names.now c.args.slot c.paired-in-Bytes.result s k.0 k.1 (c.paired-in-Bytes.ensures.value (bytes k.0) (bytes_cause c.args.slot (length k.0)) (c.bytes_value.ensures k.0 k.2))
+
+pub read_value-returns-in-Empty-clause-value : goal.read_value-returns-in-Empty-clause-value
+read_value-returns-in-Empty-clause-value t c = λ s told.
+    let k = subst (λ x. Tells x s) c.in-Empty.is told in
+    arms.empty_arm c.args.table.now c.args.left c.args.weight c.args.sum c.args.names.now c.args.slot c.paired-in-Empty.result s k (c.paired-in-Empty.ensures.value (seq None no_elems) (empty_cause c.args.slot) c.empty_value.ensures)
+
+pub read_front-returns-in_default-clause-value : goal.read_front-returns-in_default-clause-value
+read_front-returns-in_default-clause-value t c =
+    rw c.into-in_default.ensures (loops.front_unspelled c.args.names.now c.args.table.now c.args.left c.args.slot c.args.weight c.args.sum c.args.text.now c.skip_spaces-text.result.now c.skip_spaces-text.ensures.rest c.if-is_empty.ensures
+    (subst (λ o. IsValue c.skip_spaces-text.result.now o) c.in_default.is c.in_ok-spelling.ensures.value))
+
+pub read_inside-returns-clause-value : goal.read_inside-returns-clause-value
+read_inside-returns-clause-value t c =
+    loops.inside_gives c.args.names.now c.args.table.now c.args.left c.args.weight one_head (places_of c.args.pieces.now) c.args.sum c.args.text.now c.read_values.result c.read_values.ensures.value
+
+pub read_items-returns-in_err-item-clause-value : goal.read_items-returns-in_err-item-clause-value
+read_items-returns-in_err-item-clause-value t c = λ index items there s.
+    let p = err_from_is_err_and c.from_residual-in_err-item.result c.from_residual-in_err-item.ensures.1 in
+    let f = c.each.invariant.left index items there s in
+    let told = loops.told_item one_item c.each.rest.now c.skip_spaces.result.now f.others c.in_ok-told.field-0 c.in-Some.told c.in-Some.more c.skip_spaces.ensures.rest c.in_ok-told.ensures.item c.in-Some.is f.spelled in
+    rw (p.1, p.2) (loops.item_exit c.args.names.now c.args.table.now c.args.left c.args.weight c.args.form.now index c.args.sum items there c.each.items c.each.total c.each.rest.now f told.variant told.shapes told.more told.is _ (c.in_err-item.ensures.value told.variant told.shapes told.holds told.spelled))
+
+pub read_items-each-preserved : goal.read_items-each-preserved
+read_items-each-preserved t c = record {
+  small = c.in_ok-item.ensures.small;
+  utf8 = subst (λ o. IfSome o (λ p. IsUtf8 p.1.now)) c.in-Some.is c.in_ok-told.ensures.utf8;
+  left = λ index items there s.
+      let f = c.each.invariant.left index items there s in
+      let told = loops.told_item one_item c.each.rest.now c.skip_spaces.result.now f.others c.in_ok-told.field-0 c.in-Some.told c.in-Some.more c.skip_spaces.ensures.rest c.in_ok-told.ensures.item c.in-Some.is f.spelled in
+      let v = c.in_ok-item.ensures.value told.variant told.shapes told.holds told.spelled in
+      loops.item_done c.args.names.now c.args.table.now c.args.left c.args.weight c.args.form.now index c.args.sum items there c.each.items c.each.total c.each.rest.now f told.variant told.shapes told.more told.is c.in_ok-item.item.variant c.in_ok-item.item.args c.in_ok-item.next c.push.new.self c.in-Some.more.now v.0 v.1 v.2 c.in_ok-push.ensures.ok told.later;
+}
+
+pub read_items-each-smaller : goal.read_items-each-smaller
+read_items-each-smaller t c = loops.told_shorter c.each.rest.now c.skip_spaces.result.now c.in_ok-told.field-0 c.in-Some.told c.in-Some.more c.skip_spaces.ensures.rest c.in_ok-told.ensures.item c.in-Some.is
+
+pub read_items-returns-clause-value : goal.read_items-returns-clause-value
+read_items-returns-clause-value t c = λ index items there s.
+    let f = c.each.invariant.left index items there s in
+    loops.no_items_left c.args.names.now c.args.table.now c.args.left c.args.weight c.args.form.now index c.args.sum items there c.each.items c.each.total c.each.rest.now f
+    (loops.told_none c.each.rest.now c.skip_spaces.result.now f.others c.in_ok-told.field-0 c.skip_spaces.ensures.rest c.in_ok-told.ensures.item c.in_default.is f.spelled)
+
+pub read_values-returns-in_err-value-clause-value : goal.read_values-returns-in_err-value-clause-value
+read_values-returns-in_err-value-clause-value t c =
+    let p = err_from_is_err_and c.from_residual.result c.from_residual.ensures.1 in
+    rw (p.1, p.2) (loops.one_exit c.args.names.now c.args.table.now c.args.left c.args.weight c.args.pieces.now (places_of c.args.pieces.now) c.args.sum c.args.text.now c.each.args c.each.position c.each.slots.now c.each.total c.each.rest.now c.each.invariant.follows
+    c.in-Some.slot.now c.in-Some.others.now c.saturating_mul-weight_there.result _ c.in-Some.ensures (rw (← c.uses.ensures) c.saturating_mul-weight_there.ensures) c.in_err-value.ensures.value)
+
+pub read_values-each-preserved : goal.read_values-each-preserved
+read_values-each-preserved t c = record {
+  small = c.in_ok-value.ensures.small;
+  few = scans.few_left c.each.position c.each.slots.now c.in-Some.slot.now c.in-Some.others.now c.in-Some.ensures c.each.invariant.few;
+  utf8 = c.in_ok-value.ensures.utf8;
+  sound = loops.sound_others c.each.slots.now c.in-Some.others.now c.in-Some.slot.now c.in-Some.ensures c.each.invariant.sound;
+  follows = loops.one_done c.args.names.now c.args.table.now c.args.left c.args.weight c.args.pieces.now (places_of c.args.pieces.now) c.args.sum c.args.text.now c.each.args c.each.position c.each.slots.now c.each.total c.each.rest.now c.each.invariant.follows
+      c.in-Some.slot.now c.in-Some.others.now c.saturating_mul-weight_there.result (plain c.in_ok-value.value) c.in_ok-value.next c.in_ok-value.after.now c.push.new.self c.in-Some.ensures (rw (← c.uses.ensures) c.saturating_mul-weight_there.ensures) c.in_ok-value.ensures.value c.in_ok-push.ensures.ok;
+}
+
+pub read_values-returns-then-is_empty-clause-value : goal.read_values-returns-then-is_empty-clause-value
+read_values-returns-then-is_empty-clause-value t c =
+    loops.all_done c.args.names.now c.args.table.now c.args.left c.args.weight c.args.pieces.now (places_of c.args.pieces.now) c.args.sum c.args.text.now c.each.args c.each.position c.each.slots.now c.each.total c.each.rest.now c.each.invariant.follows
+    c.in_default.ensures (sym c.skip_spaces.ensures.rest ∙ loops.empty_is c.skip_spaces.result.now (sym c.if-is_empty.ensures))
+
+pub read_values-returns-else-is_empty-clause-value : goal.read_values-returns-else-is_empty-clause-value
+read_values-returns-else-is_empty-clause-value t c =
+    rw c.into.ensures (loops.one_too_many c.args.names.now c.args.table.now c.args.left c.args.weight c.args.pieces.now (places_of c.args.pieces.now) c.args.sum c.args.text.now c.each.args c.each.position c.each.slots.now c.each.total c.each.rest.now c.each.invariant.follows
+    c.in_default.ensures (loops.starts_is c.each.rest.now (rw (← c.skip_spaces.ensures.rest) (sym c.if-is_empty.ensures))))

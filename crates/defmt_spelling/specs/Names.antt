@@ -1,0 +1,26 @@
+-- Names of entries: a finite map from names to indexes.
+use Rattle.std.specs.Prelude.{◌==◌, ℕ, List, [], ◌∷◌, Option, Some, None, String, string_bytes, if◌then◌else◌}
+use Rattle.std.specs.Ordering.{nat_cmp}
+use Rattle.std.specs.Cmp.Lexicographic.{slice_cmp}
+use Rattle.std.specs.FinMap as map
+use Rattle.std.specs.declared.alloc.Global.{Global}
+
+-- a name is the list of its bytes, and names have the order of their bytes
+abbrev pub NameMap : Type 0
+NameMap = map.FinMap (slice_cmp nat_cmp) ℕ
+
+abbrev pub pairs : List (String Global × ℕ) → List (List ℕ × ℕ)
+pairs [] = []
+pairs (p ∷ ps) = (string_bytes p.0, p.1) ∷ pairs ps
+
+-- the map of what is kept
+abbrev pub names_of : List (String Global × ℕ) → NameMap
+names_of kept = map.from_entries (pairs kept)
+
+abbrev pub first_named : List (List ℕ × ℕ) → ℕ → Option (List ℕ)
+first_named [] index = None
+first_named (p ∷ ps) index = if p.1 == index then Some p.0 else first_named ps index
+
+-- the name of an index; of several the least, since the entries stand in the order of the names
+abbrev pub name_of : NameMap → ℕ → Option (List ℕ)
+name_of names index = first_named (map.entries names) index

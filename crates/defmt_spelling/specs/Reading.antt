@@ -1,0 +1,158 @@
+-- What the functions that read values answer.
+use Rattle.std.specs.Prelude.{◌≡◌, ◌⊎◌, ◌≤◌, ℕ, nat_lt, List, [], Option, Result, Ok, Err}
+use Rattle.std.specs.Borrow.{Bor}
+use Rattle.defmt_grammar.specs.Cut.{skip_spaces}
+use Rattle.defmt_grammar.specs.declared.piece.Piece.{Piece}
+use Rattle.defmt_grammar.specs.declared.slot.Slot.{Slot}
+use Rattle.defmt_intern.specs.Table.{Map}
+use Rattle.defmt_shapes.specs.Shape.{Shape, Shapes, SpellsShapes, HeadShape, StartsThere}
+use Rattle.defmt_spelling.specs.Meaning.{index_of, meant_val, meant_vals}
+use Rattle.defmt_spelling.specs.Names.{NameMap}
+use Rattle.defmt_spelling.specs.Spelling.{NoValue, FirstFault, ReadsArguments}
+use Rattle.defmt_spelling.specs.declared.fault.ArgFault.{ArgFault}
+use Rattle.defmt_spelling.specs.declared.fault.ArgFault.TheVariants.{Refused, Memory}
+use Rattle.defmt_spelling.specs.declared.fault.Cause.{Cause}
+use Rattle.defmt_spelling.specs.declared.fault.Cause.TheVariants as causes
+use Rattle.defmt_intern.specs.declared.parsed.Parsed.{Parsed}
+use Rattle.defmt_values.specs.Entries.{Place, places_of}
+use Rattle.defmt_values.specs.Plain.{Val, Vals, Elems}
+use Rattle.defmt_values.specs.Scan.{◌>>=◌, test, add, pick, form_at, places_in, scan_val, scan_vals}
+use Rattle.defmt_values.specs.View.{plain}
+use Rattle.defmt_values.specs.declared.value.Value.{Value}
+use Rattle.defmt_values.specs.declared.value.Item.{Item}
+
+abbrev pub cause_number : Cause → ℕ
+cause_number causes.Syntax = 1
+cause_number causes.Count = 2
+cause_number causes.Kind = 3
+cause_number causes.Range = 4
+cause_number causes.NoEntry = 5
+cause_number causes.Deep = 6
+cause_number causes.Many = 7
+
+-- ---- one value, which is known to be spelled
+
+-- a leaf that means this value, which fits; or the cause for which it doesn't
+abbrev pub GivesLeaf : Result Value ArgFault → Val → Result (Unit {0}) ℕ → Type 0
+GivesLeaf (Ok value) v cause = (plain value ≡ v) × (cause ≡ Ok tt)
+GivesLeaf (Err (Refused c)) v cause = cause ≡ Err c
+GivesLeaf (Err Memory) v cause = Unit {0}
+
+-- this value and the sum behind it, or the cause
+abbrev pub GivesValue : Result (Value × ℕ) ArgFault → Val → Result ℕ ℕ → Type 0
+GivesValue (Ok r) v scan = (plain r.0 ≡ v) × (scan ≡ Ok r.1)
+GivesValue (Err (Refused c)) v scan = scan ≡ Err c
+GivesValue (Err Memory) v scan = Unit {0}
+
+abbrev pub GivesValues : Result (Vals × ℕ) ArgFault → Vals → Result ℕ ℕ → Type 0
+GivesValues (Ok r) vs scan = (r.0 ≡ vs) × (scan ≡ Ok r.1)
+GivesValues (Err (Refused c)) vs scan = scan ≡ Err c
+GivesValues (Err Memory) vs scan = Unit {0}
+
+abbrev pub GivesElems : Result (Elems × ℕ) ArgFault → Elems → Result ℕ ℕ → Type 0
+GivesElems (Ok r) es scan = (r.0 ≡ es) × (scan ≡ Ok r.1)
+GivesElems (Err (Refused c)) es scan = scan ≡ Err c
+GivesElems (Err Memory) es scan = Unit {0}
+
+-- an element's variant and values
+abbrev pub GivesItem : Result (Item × ℕ) ArgFault → Option ℕ → Vals → Result ℕ ℕ → Type 0
+GivesItem (Ok r) variant vs scan = (r.0.variant ≡ variant) × (r.0.args ≡ vs) × (scan ≡ Ok r.1)
+GivesItem (Err (Refused c)) variant vs scan = scan ≡ Err c
+GivesItem (Err Memory) variant vs scan = Unit {0}
+
+-- the form of an entry, where a level is left for its values
+abbrev pub form_scan : Map → ℕ → ℕ → Result Parsed ℕ
+form_scan t left index = test (nat_lt 0 left) 6 >>= λ deep. form_at t index
+
+-- the sum behind the values of a form, or of its variant, with their own weight
+abbrev pub item_scan : Map → ℕ → Parsed → ℕ → ℕ → Option ℕ → Vals → Result ℕ ℕ
+item_scan t left form weight sum variant vs =
+    add weight sum >>= λ s. pick form variant >>= λ ps. scan_vals t left (places_of ps) weight s vs
+
+abbrev pub meant_inside : NameMap → Map → Parsed → Option ℕ → Shapes → Vals
+meant_inside names t form variant ss = meant_vals names t (places_in (pick form variant)) ss
+
+-- ---- values in a text
+
+-- the text spells these values of the places, which fit; their weights lead from one sum to the next
+pub record Means (names : NameMap) (t : Map) (left weight : ℕ) (places : List Place) (sum : ℕ) (text : List ℕ) (vs : Vals) (next : ℕ) : Type 0 where
+  pub shapes : Shapes
+  pub spelled : SpellsShapes text shapes
+  pub meant : meant_vals names t places shapes ≡ vs
+  pub fits : scan_vals t left places weight sum vs ≡ Ok next
+
+abbrev pub ReadsValues : NameMap → Map → ℕ → ℕ → List Place → ℕ → List ℕ → Result (Vals × ℕ) ArgFault → Type 0
+ReadsValues names t left weight places sum text (Ok r) = Means names t left weight places sum text r.0 r.1
+ReadsValues names t left weight places sum text (Err (Refused c)) = FirstFault names t left weight places sum text c
+ReadsValues names t left weight places sum text (Err Memory) = Unit {0}
+
+-- the first value of a text, what follows it, and the sum behind it
+pub record Front (names : NameMap) (t : Map) (left : ℕ) (slot : Slot) (weight sum : ℕ) (text : List ℕ) (v : Val) (next : ℕ) (rest : List ℕ) : Type 0 where
+  pub shape : Shape
+  pub head : HeadShape (skip_spaces text) shape rest
+  pub meant : meant_val names t slot shape ≡ v
+  pub fits : scan_val t left slot weight sum v ≡ Ok next
+
+-- why there is none
+abbrev pub FrontFault : NameMap → Map → ℕ → Slot → ℕ → ℕ → List ℕ → ℕ → Type 0
+FrontFault names t left slot weight sum text cause =
+    ((skip_spaces text ≡ []) × (cause ≡ 2))
+    ⊎ ((StartsThere (skip_spaces text) × NoValue (skip_spaces text) × (cause ≡ 1))
+    ⊎ ((s : Shape) × (rest : List ℕ) × HeadShape (skip_spaces text) s rest × (scan_val t left slot weight sum (meant_val names t slot s) ≡ Err cause)))
+
+abbrev pub ReadsFront : NameMap → Map → ℕ → Slot → ℕ → ℕ → List ℕ → Result (Value × ℕ × Bor (List ℕ)) ArgFault → Type 0
+ReadsFront names t left slot weight sum text (Ok r) = Front names t left slot weight sum text (plain r.0) r.1 r.2.now
+ReadsFront names t left slot weight sum text (Err (Refused c)) = FrontFault names t left slot weight sum text c
+ReadsFront names t left slot weight sum text (Err Memory) = Unit {0}
+
+-- ---- answers
+
+-- only what the text reads as, unless memory runs out
+abbrev pub Reads : NameMap → Map → ℕ → List ℕ → Result Vals ArgFault → Type 0
+Reads names t index text (Ok vs) = ReadsArguments names t index text (Ok vs)
+Reads names t index text (Err (Refused c)) = ReadsArguments names t index text (Err c)
+Reads names t index text (Err Memory) = Unit {0}
+
+-- exactly this, unless memory runs out
+abbrev pub GivesOnly : Result Vals ArgFault → Result Vals ℕ → Type 0
+GivesOnly (Ok vs) read = Ok vs ≡ read
+GivesOnly (Err (Refused c)) read = Err c ≡ read
+GivesOnly (Err Memory) read = Unit {0}
+
+abbrev pub SmallValue : {T : Type 0} → Result (T × ℕ) ArgFault → Type 0
+SmallValue (Ok r) = r.1 ≤ 8192
+SmallValue (Err e) = Unit {0}
+
+abbrev pub SmallFront : {T U : Type 0} → Result (T × ℕ × U) ArgFault → Type 0
+SmallFront (Ok r) = r.1 ≤ 8192
+SmallFront (Err e) = Unit {0}
+
+-- the index of a name of the map
+abbrev pub GivesIndex : NameMap → List ℕ → Result ℕ ArgFault → Type 0
+GivesIndex names name (Ok index) = index_of names name ≡ index
+GivesIndex names name (Err (Refused c)) = (index_of names name ≡ 65536) × (c ≡ 5)
+GivesIndex names name (Err Memory) = ⊥
+
+-- the index of a name and the form of its entry
+abbrev pub GivesForm : NameMap → Map → ℕ → List ℕ → Result (ℕ × Bor Parsed) ArgFault → Type 0
+GivesForm names t left name (Ok r) = (index_of names name ≡ r.0) × (form_scan t left (index_of names name) ≡ Ok r.1.now)
+GivesForm names t left name (Err (Refused c)) = form_scan t left (index_of names name) ≡ Err c
+GivesForm names t left name (Err Memory) = ⊥
+
+-- the pieces of a spelled variant, and its number of one byte
+abbrev pub GivesVariant : Result (List Piece) ℕ → Option ℕ → Result (Bor (List Piece) × Option ℕ) ArgFault → Type 0
+GivesVariant picked variant (Ok r) = (picked ≡ Ok r.0.now) × (r.1 ≡ variant)
+GivesVariant picked variant (Err (Refused c)) = picked ≡ Err c
+GivesVariant picked variant (Err Memory) = ⊥
+
+-- what a test answers
+abbrev pub Tests : Result (Unit {0}) ℕ → Result (Unit {0}) ArgFault → Type 0
+Tests cause (Ok done) = cause ≡ Ok tt
+Tests cause (Err (Refused c)) = cause ≡ Err c
+Tests cause (Err Memory) = ⊥
+
+-- what a sum with one more weight answers
+abbrev pub GivesSum : Result ℕ ℕ → Result ℕ ArgFault → Type 0
+GivesSum sum (Ok r) = sum ≡ Ok r
+GivesSum sum (Err (Refused c)) = sum ≡ Err c
+GivesSum sum (Err Memory) = ⊥

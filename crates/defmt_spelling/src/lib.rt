@@ -1,0 +1,16 @@
+//! The spelling of a statement's arguments as text: how it is read, and how it is written.
+#![tactic(auto)]
+
+mod fault;
+mod leaves;
+mod names;
+mod printing;
+mod reading;
+
+pub use fault::ArgFault;
+pub use names::Names;
+pub use printing::{print_args, reads_back};
+pub use reading::{one_reading, read_args};
+
+#[cfg(test)]
+mod tests;

@@ -1,0 +1,6 @@
+pub mod Again
+pub mod Forms
+pub mod Found
+pub mod Powers
+pub mod Pushes
+pub mod Scans

@@ -1,0 +1,9 @@
+use Rattle.std.proofs.Common.{◌∙◌, refl}
+use Rattle.defmt_values.proofs.Again.{passed_fits, fits_again}
+use Rattle.defmt_values.proofs.fitting.check.Goals as goal
+
+pub returns-clause-passed : goal.returns-clause-passed
+returns-clause-passed c = passed_fits c.args.table.now c.args.stm.now.index c.args.stm.now.args _ c.first_cause.ensures
+
+pub returns-clause-fits : goal.returns-clause-fits
+returns-clause-fits c = λ f. rw (c.first_cause.ensures ∙ fits_again c.args.table.now c.args.stm.now.index c.args.stm.now.args f) refl

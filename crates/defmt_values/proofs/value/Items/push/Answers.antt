@@ -1,0 +1,5 @@
+use Rattle.defmt_values.proofs.Pushes.{elems_push}
+use Rattle.defmt_values.proofs.value.Items.push.Goals as goal
+
+pub returns-clause-ok : goal.returns-clause-ok
+returns-clause-ok c = rw (c.in_ok-push.ensures.items, ← c.self.view_is) (elems_push c.self.inside.items.items c.args.item)

@@ -1,0 +1,203 @@
+-- The first cause for which values don't fit, from left to right, or the sum of the weights.
+use Rattle.std.specs.Prelude.{◌≡◌, ◌+◌, ◌-◌, ◌*◌, ◌%◌, ◌^◌, ◌==◌, ◌&&◌, ℕ, ℤ, Bool, true, false, nat_lt, nat_le, List, [], ◌∷◌, length, Option, Some, None, Result, Ok, Err, if◌then◌else◌}
+use Rattle.defmt_grammar.specs.declared.kind.Kind.TheVariants as kinds
+use Rattle.defmt_grammar.specs.declared.piece.Piece.{Piece}
+use Rattle.defmt_grammar.specs.declared.slot.Slot.{Slot}
+use Rattle.defmt_grammar.specs.declared.slot.Slot.TheVariants as slots
+use Rattle.defmt_intern.specs.Body.{body_of}
+use Rattle.defmt_intern.specs.Table.{Map}
+use Rattle.defmt_intern.specs.declared.entry.Entry.{Entry}
+use Rattle.defmt_intern.specs.declared.parsed.Parsed.{Parsed}
+use Rattle.defmt_intern.specs.declared.parsed.Parsed.TheVariants.{Unsupported, Raw, One, Variants}
+use Rattle.defmt_values.specs.Entries.{look, is_format, is_interned, variant_at, Place, places_of}
+use Rattle.defmt_values.specs.Plain.{Val, uint, int, flag, char, str, istr, bytes, bits, format, seq, Vals, no_vals, val, Elems, no_elems, elem, elems_len, elems_empty}
+use Rattle.defmt_grammar.specs.Sizes.{size_bits, is_signed}
+
+-- The causes are 2 Count, 3 Kind, 4 Range, 5 NoEntry, 6 Deep, 7 Many and 8 Unsupported.
+
+infixl 10 ◌>>=◌
+abbrev pub ◌>>=◌ : {A B : Type 0} → Result A ℕ → (A → Result B ℕ) → Result B ℕ
+(Ok x) >>= f = f x
+(Err e) >>= f = Err e
+
+abbrev pub test : Bool → ℕ → Result (Unit {0}) ℕ
+test true e = Ok tt
+test false e = Err e
+
+-- ---- values without values inside, each by its slot
+
+abbrev pub uint_cause : Slot → ℕ → Result (Unit {0}) ℕ
+uint_cause (slots.One (kinds.Uint size)) n = test (nat_lt n (2 ^ size_bits size)) 4
+uint_cause slot n = Err 3
+
+abbrev pub int_cause : Slot → ℤ → Result (Unit {0}) ℕ
+int_cause (slots.One (kinds.Int size)) n = test (is_signed (size_bits size) n) 4
+int_cause slot n = Err 3
+
+abbrev pub flag_cause : Slot → Result (Unit {0}) ℕ
+flag_cause (slots.One kinds.Bool) = Ok tt
+flag_cause slot = Err 3
+
+abbrev pub char_cause : Slot → Result (Unit {0}) ℕ
+char_cause (slots.One kinds.Char) = Ok tt
+char_cause slot = Err 3
+
+abbrev pub str_cause : Slot → Result (Unit {0}) ℕ
+str_cause (slots.One kinds.Str) = Ok tt
+str_cause slot = Err 3
+
+abbrev pub interned_of : Option Entry → Bool
+interned_of None = false
+interned_of (Some e) = is_interned e.tag
+
+abbrev pub istr_cause : Map → Slot → ℕ → Result (Unit {0}) ℕ
+istr_cause t (slots.One kinds.Istr) index = test (interned_of (look t index)) 5
+istr_cause t slot index = Err 3
+
+-- a byte array has as many bytes as its kind says
+abbrev pub bytes_cause : Slot → ℕ → Result (Unit {0}) ℕ
+bytes_cause (slots.One kinds.Bytes) count = Ok tt
+bytes_cause (slots.One (kinds.ByteArray n)) count = test (count == n) 4
+bytes_cause slot count = Err 3
+
+-- a number of bit fields has no bit outside the bytes of its window
+abbrev pub bits_cause : Slot → ℕ → Result (Unit {0}) ℕ
+bits_cause (slots.Bits first width) n = test (nat_lt n (256 ^ (first + width)) && (n % 256 ^ first == 0)) 4
+bits_cause slot n = Err 3
+
+abbrev pub node_cause : Slot → Result (Unit {0}) ℕ
+node_cause (slots.One kinds.Format) = Ok tt
+node_cause slot = Err 3
+
+abbrev pub list_cause : Slot → Result (Unit {0}) ℕ
+list_cause (slots.One kinds.FormatSlice) = Ok tt
+list_cause (slots.One (kinds.FormatArray n)) = Ok tt
+list_cause slot = Err 3
+
+abbrev pub count_cause : Slot → ℕ → Result (Unit {0}) ℕ
+count_cause (slots.One (kinds.FormatArray n)) count = test (count == n) 4
+count_cause slot count = Ok tt
+
+-- ---- the entries of Format values
+
+-- no entry of this index suits, or its text was refused, or what it stands for
+abbrev pub form_in : Bool → Parsed → Result Parsed ℕ
+form_in false parsed = Err 5
+form_in true Unsupported = Err 8
+form_in true parsed = Ok parsed
+
+abbrev pub form_of : Option Entry → Result Parsed ℕ
+form_of None = Err 5
+form_of (Some e) = form_in (is_format e.tag) (body_of e)
+
+abbrev pub form_at : Map → ℕ → Result Parsed ℕ
+form_at t index = form_of (look t index)
+
+abbrev pub there : Option (List Piece) → Result (List Piece) ℕ
+there None = Err 4
+there (Some ps) = Ok ps
+
+-- the pieces of a form, or of one of its variants
+abbrev pub pick : Parsed → Option ℕ → Result (List Piece) ℕ
+pick (One ps) None = Ok ps
+pick (Variants forms) (Some v) = there (variant_at forms v)
+pick parsed variant = Err 4
+
+-- where no pieces fit there are no places
+abbrev pub places_in : Result (List Piece) ℕ → List Place
+places_in (Ok ps) = places_of ps
+places_in (Err e) = []
+
+abbrev pub node_places : Map → ℕ → Option ℕ → List Place
+node_places t index variant = places_in (form_at t index >>= λ form. pick form variant)
+
+abbrev pub index_or : Option ℕ → ℕ
+index_or None = 0
+index_or (Some index) = index
+
+-- ---- the sum of the weights
+
+-- one more weight: the sum is at most 8,192
+abbrev pub add : ℕ → ℕ → Result ℕ ℕ
+add weight sum = if nat_le (sum + weight) 8192 then Ok (sum + weight) else Err 7
+
+-- ---- lists of Format values
+
+abbrev pub list_form : Map → Option ℕ → Result Parsed ℕ
+list_form t None = Err 5
+list_form t (Some index) = form_at t index
+
+-- a list without elements has no index
+abbrev pub no_index : Option ℕ → Result (Unit {0}) ℕ
+no_index None = Ok tt
+no_index (Some index) = Err 5
+
+-- ---- values
+
+-- after the last value no place is left
+abbrev pub end_of : List Place → ℕ → Result ℕ ℕ
+end_of [] sum = Ok sum
+end_of (p ∷ ps) sum = Err 2
+
+unfoldable mutual
+  -- One value of a slot: left levels of Format values may stand round those inside it, weight is
+  -- its own, and sum is that of the weights in front of it.
+  pub scan_val : Map → ℕ → Slot → ℕ → ℕ → Val → Result ℕ ℕ
+  scan_val t left slot weight sum (uint n) = uint_cause slot n >>= λ _. Ok sum
+  scan_val t left slot weight sum (int n) = int_cause slot n >>= λ _. Ok sum
+  scan_val t left slot weight sum (flag b) = flag_cause slot >>= λ _. Ok sum
+  scan_val t left slot weight sum (char c) = char_cause slot >>= λ _. Ok sum
+  scan_val t left slot weight sum (str s) = str_cause slot >>= λ _. Ok sum
+  scan_val t left slot weight sum (istr index) = istr_cause t slot index >>= λ _. Ok sum
+  scan_val t left slot weight sum (bytes s) = bytes_cause slot (length s) >>= λ _. Ok sum
+  scan_val t left slot weight sum (bits n) = bits_cause slot n >>= λ _. Ok sum
+  scan_val t left slot weight sum (format index variant vs) =
+      node_cause slot >>= λ _.
+      test (nat_lt 0 left) 6 >>= λ _.
+      form_at t index >>= λ form.
+      add weight sum >>= λ s.
+      pick form variant >>= λ ps.
+      scan_vals t (left - 1) (places_of ps) weight s vs
+  scan_val t left slot weight sum (seq index es) =
+      list_cause slot >>= λ _.
+      (if elems_empty es then (no_index index >>= λ _. count_cause slot 0 >>= λ _. Ok sum) else
+      (test (nat_lt 0 left) 6 >>= λ _.
+      list_form t index >>= λ form.
+      scan_elems t (left - 1) form weight sum es >>= λ s.
+      count_cause slot (elems_len es) >>= λ _.
+      Ok s))
+
+  -- the values of places, in a text that has this weight
+  pub scan_vals : Map → ℕ → List Place → ℕ → ℕ → Vals → Result ℕ ℕ
+  scan_vals t left places weight sum no_vals = end_of places sum
+  scan_vals t left [] weight sum (val v vs) = Err 2
+  scan_vals t left (p ∷ ps) weight sum (val v vs) = scan_val t left p.slot (p.uses * weight) sum v >>= λ r. scan_vals t left ps weight r vs
+
+  pub scan_elems : Map → ℕ → Parsed → ℕ → ℕ → Elems → Result ℕ ℕ
+  scan_elems t left form weight sum no_elems = Ok sum
+  scan_elems t left form weight sum (elem variant vs es) =
+      add weight sum >>= λ s.
+      pick form variant >>= λ ps.
+      scan_vals t left (places_of ps) weight s vs >>= λ r.
+      scan_elems t left form weight r es
+
+-- ---- statements
+
+-- the pieces of a statement's own entry, whatever its tag
+abbrev pub own_in : Parsed → Result (List Piece) ℕ
+own_in Unsupported = Err 8
+own_in Raw = Err 5
+own_in (One ps) = Ok ps
+own_in (Variants forms) = Err 4
+
+abbrev pub own_form : Option Entry → Result (List Piece) ℕ
+own_form None = Err 5
+own_form (Some e) = own_in (body_of e)
+
+-- the sum of the weights of a statement's values, or their first cause
+abbrev pub scan_own : Map → ℕ → Vals → Result ℕ ℕ
+scan_own t index vs = own_form (look t index) >>= λ ps. scan_vals t 16 (places_of ps) 1 0 vs
+
+-- the first cause for which a statement doesn't fit
+abbrev pub own_cause : Map → ℕ → Vals → Result (Unit {0}) ℕ
+own_cause t index vs = scan_own t index vs >>= λ sum. Ok tt

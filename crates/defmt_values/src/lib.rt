@@ -1,0 +1,11 @@
+//! Statements: the values of a format string's arguments, and whether they fit a table.
+#![tactic(auto)]
+
+mod fitting;
+mod value;
+
+pub use fitting::{check, cut, form_of, is_signed, look_up, own_form, pick, power, size_bits};
+pub use value::{Args, Item, Items, Node, Seq, Statement, Value};
+
+#[cfg(test)]
+mod tests;

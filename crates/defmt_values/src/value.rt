@@ -1,0 +1,232 @@
+//! Values of arguments, and the lists of them.
+ghost use Rattle.std.specs.Prelude.{◌≡◌, OnOk, OnErr, map};
+ghost use Rattle.std.specs.List.{slice_get};
+ghost use Rattle.std.specs.Option.{option_copied, option_map};
+ghost use Rattle.defmt_values.specs.Plain.{vals_get, no_vals, no_elems, snoc, snoc_elem, vals_len, vals_empty, elems_len, elems_empty};
+ghost use Rattle.defmt_values.specs.View.{plain, vals_of, elems_of};
+
+use defmt_grammar::Text;
+use dl_io::{Bytes, Memory};
+use std::alloc::Global;
+use std::marker::Model;
+
+/// A value of one argument (defmt book, the types that a format string names).
+#[cycle(values)]
+#[derive(Drop)]
+pub enum Value {
+    /// An unsigned number of any width.
+    Uint(u128),
+    /// A signed number of any width.
+    Int(i128),
+    /// A truth value.
+    Bool(bool),
+    /// A character.
+    Char(char),
+    /// A text that is sent whole.
+    Str(Text),
+    /// The index of an interned text.
+    Istr(u16),
+    /// Bytes, also those of a byte array.
+    Bytes(Bytes),
+    /// A number whose bits are shown in parts.
+    Bits(u128),
+    /// A value with a format string of its own.
+    Format(Node),
+    /// A list of values of one entry.
+    Seq(Seq),
+}
+
+/// What is logged: the index of an entry, and the arguments of its text.
+#[derive(Drop)]
+pub struct Statement {
+    /// The index of the entry in the table.
+    pub index: u16,
+    /// The arguments in the order of their positions.
+    pub args: Args,
+}
+
+/// A value with a format string of its own.
+#[cycle(values)]
+#[derive(Drop)]
+pub struct Node {
+    /// The index of its entry in the table.
+    pub index: u16,
+    /// The number of its variant, where the entry is an enum.
+    pub variant: Option<u8>,
+    /// The arguments of the entry's text, or of the variant's.
+    pub args: Args,
+}
+
+/// A list of values of one entry.
+#[cycle(values)]
+#[derive(Drop)]
+pub struct Seq {
+    /// The index of their entry, `None` exactly where there are none.
+    pub index: Option<u16>,
+    /// The elements in their order.
+    pub items: Items,
+}
+
+/// An element of a list.
+#[cycle(values)]
+#[derive(Drop)]
+pub struct Item {
+    /// The number of its variant, where the list's entry is an enum.
+    pub variant: Option<u8>,
+    /// The arguments of the entry's text, or of the variant's.
+    pub args: Args,
+}
+
+/// A list of values.
+#[cycle(values)]
+#[derive(Drop)]
+pub struct Args {
+    items: Vec<Value>,
+}
+
+impl Model for Args {
+    ghost use Rattle.defmt_values.specs.Plain.{Vals};
+    ghost use Rattle.defmt_values.specs.Codes.{coded_vals};
+
+    ghost Value = { Vals };
+
+    ghost coded = { coded_vals };
+
+    ghost use Rattle.std.specs.Prelude.{map};
+    ghost use Rattle.defmt_values.specs.Plain.{vals_size};
+    ghost use Rattle.defmt_values.specs.View.{plain, vals_of};
+
+    ghost view = { λ a. vals_of (map plain a.items.items) };
+
+    ghost size = { vals_size };
+
+    ghost use Rattle.defmt_values.specs.Falls.{values_fall};
+
+    ghost size_decreases = { λ a h. values_fall a.items.items };
+}
+
+/// A list of elements.
+#[cycle(values)]
+#[derive(Drop)]
+pub struct Items {
+    items: Vec<Item>,
+}
+
+impl Model for Items {
+    ghost use Rattle.defmt_values.specs.Plain.{Elems};
+    ghost use Rattle.defmt_values.specs.Codes.{coded_elems};
+
+    ghost Value = { Elems };
+
+    ghost coded = { coded_elems };
+
+    ghost use Rattle.defmt_values.specs.Plain.{elems_size};
+    ghost use Rattle.defmt_values.specs.View.{elems_of};
+
+    ghost view = { λ a. elems_of a.items.items };
+
+    ghost size = { elems_size };
+
+    ghost use Rattle.defmt_values.specs.Falls.{items_fall};
+
+    ghost size_decreases = { λ a h. items_fall a.items.items };
+}
+
+impl Args {
+    /// The empty list. It grows by this allocator. Takes no memory.
+    pub fn new(alloc: Global) -> Self
+        ensures { result ≡ no_vals }
+    {
+        Args {
+            items: Vec::new(alloc),
+        }
+    }
+
+    /// The values in their order. Takes no memory.
+    pub fn as_slice(&self) -> &[Value]
+        ensures { self.now ≡ vals_of (map plain result.now) }
+    {
+        self.items.as_slice()
+    }
+
+    /// The value of a position. Takes no memory.
+    pub fn get(&self, position: u8) -> Option<&Value>
+        ensures { option_map (λ v. plain v.now) result ≡ vals_get self.now position }
+    {
+        at(self.as_slice(), position)
+    }
+
+    /// How many values there are. Takes no memory.
+    #[tactic(auto, using(crate::proofs::Pushes::vals_count))]
+    pub fn len(&self) -> usize
+        ensures { result ≡ vals_len self.now }
+    {
+        self.items.len()
+    }
+
+    /// Whether there is none. Takes no memory.
+    #[tactic(auto, using(crate::proofs::Pushes::vals_none))]
+    pub fn is_empty(&self) -> bool
+        ensures { result ≡ vals_empty self.now }
+    {
+        self.items.is_empty()
+    }
+
+    /// Appends a value. Where memory runs out the list is unchanged.
+    pub fn push(&mut self, item: Value) -> Result<(), Memory>
+        ensures ok { OnOk result (self.new ≡ snoc self.old (plain item)) }
+        ensures err { OnErr result (self.new ≡ self.old) }
+    {
+        self.items.push(item)?;
+        Ok(())
+    }
+}
+
+fn at(values: &[Value], position: u8) -> Option<&Value>
+    ensures { option_copied result ≡ slice_get values.now position }
+{
+    values.get(usize::from(position))
+}
+
+impl Items {
+    /// The empty list. It grows by this allocator. Takes no memory.
+    pub fn new(alloc: Global) -> Self
+        ensures { result ≡ no_elems }
+    {
+        Items {
+            items: Vec::new(alloc),
+        }
+    }
+
+    /// The elements in their order. Takes no memory.
+    pub fn as_slice(&self) -> &[Item]
+        ensures { self.now ≡ elems_of result.now }
+    {
+        self.items.as_slice()
+    }
+
+    /// How many elements there are. Takes no memory.
+    #[tactic(auto, using(crate::proofs::Pushes::elems_count))]
+    pub fn len(&self) -> usize
+        ensures { result ≡ elems_len self.now }
+    {
+        self.items.len()
+    }
+
+    /// Whether there is none. Takes no memory.
+    #[tactic(auto, using(crate::proofs::Pushes::elems_none))]
+    pub fn is_empty(&self) -> bool
+        ensures { result ≡ elems_empty self.now }
+    {
+        self.items.is_empty()
+    }
+
+    /// Appends an element. Where memory runs out the list is unchanged.
+    pub fn push(&mut self, item: Item) -> Result<(), Memory>
+        ensures ok { OnOk result (self.new ≡ snoc_elem self.old item.variant item.args) }
+        ensures err { OnErr result (self.new ≡ self.old) }
+    {
+        self.items.push(item)?;
+        Ok(())
+    }
+}

@@ -1,0 +1,12 @@
+use Rattle.std.proofs.Common.{rules, ◌≡◌, ◌+◌, ◌%◌, ◌/◌, length, sym, ap, ◌∙◌, arith}
+use Rattle.rtt_ring.specs.WordRule.{lower_of}
+use Rattle.rtt_ring.proofs.WordMoves.{down_stores_rd_off}
+use Rattle.rtt_ring.proofs.word.down.WordDown.release.Goals as goal
+
+pub store-requires : goal.store-requires
+store-requires c =
+    let k = c.args.self.now.kept in
+    let e = c.deref.ensures in
+    let key : c.deref.result.now.shared.key ≡ c.args.self.now.size = ap (λ t. t.shared.key) e ∙ k.keyed in
+    let table : c.deref.result.now.shared.table_id.words ≡ (c.args.self.now.size + 7) / 8 + 2 = ap (λ t. t.shared.table_id.words) e ∙ k.words in
+    (search rules, omega arith, down_stores_rd_off _ _ _ _ _ k.is_down (c.from.ensures ∙ k.place ∙ ap (λ x. length (lower_of c.args.self.now.seat.me.0).got % x) (sym key)))

@@ -1,0 +1,8 @@
+use Rattle.std.proofs.Common.{arith}
+use Rattle.rtt_ring.proofs.WordKeeps.{lanes_from, lanes_to, mixes}
+use Rattle.rtt_ring.proofs.word.lanes.with_lanes.Goals as goal
+
+pub returns : goal.returns
+returns c =
+    let v = c.loop-i.invariant in
+    mixes _ _ _ c.loop-i.i _ c.to_le_bytes-lanes.result c.loop-i.lanes c.requires (omega arith) (lanes_to _ _ c.to_le_bytes-lanes.ensures) (lanes_from _ _ v.0 v.4 c.from_le_bytes.ensures) v.1 v.2 v.3

@@ -1,0 +1,38 @@
+//! The eight bytes of a word.
+ghost use Rattle.std.specs.Prelude.{◌≡◌, ℕ, ◌+◌, ◌<◌, ◌≤◌, ◌++◌, length, take, drop};
+ghost use Rattle.rtt_ring.specs.WordRule.{Mixes, lanes};
+
+use dl_io::Bytes;
+
+// The word with these bytes from the lane on.
+pub(crate) fn with_lanes(old: u64, lane: usize, bytes: &[u8]) -> u64
+    requires { lane + length bytes.now ≤ 8 }
+    ensures { Mixes old result lane bytes.now }
+{
+    let mut lanes = old.to_le_bytes();
+    for i in 0..bytes.len() {
+        lanes[lane + i] = bytes[i];
+    }
+    u64::from_le_bytes(lanes)
+}
+
+// Puts the bytes of a word, from the lane on, at the index `from`.
+pub(crate) fn copy_lanes(word: u64, lane: usize, buf: &mut [u8], from: usize, count: usize)
+    requires { (lane + count ≤ 8) × (from + count ≤ length buf.old) }
+    ensures { take (from + count) buf.new ≡ take from buf.old ++ take count (drop lane (lanes word)) }
+{
+    let found = word.to_le_bytes();
+    for i in 0..count {
+        buf[from + i] = found[lane + i];
+    }
+}
+
+// Puts the bytes of a word, from the lane on, behind the others.
+pub(crate) fn push_lanes(word: u64, lane: usize, count: usize, rest: &mut Bytes)
+    requires { (lane + count ≤ 8) × (count ≤ rest.old.room) }
+    ensures items { rest.new.items ≡ rest.old.items ++ take count (drop lane (lanes word)) }
+    ensures room { rest.new.room + count ≡ rest.old.room }
+{
+    let found = word.to_le_bytes();
+    rest.extend_reserved(&found[lane..lane + count]);
+}
