@@ -1,14 +1,11 @@
 -- One part of a recording, heard byte by byte.
-use Rattle.std.proofs.Common.{◌≡◌, ◌≤◌, ◌<◌, ◌+◌, ◌-◌, ℕ, List, [], ◌∷◌, ◌++◌, length, take, drop, filter, flat_map, refl, sym, ◌∙◌, ap, append_assoc, arith, length-append, length-drop, subst, Bool, true, false, nat_eq, cond}
+use Rattle.std.proofs.Common.{◌≡◌, ◌≤◌, ◌<◌, ◌+◌, ℕ, List, [], ◌∷◌, ◌++◌, length, take, drop, refl, sym, ◌∙◌, ap, append_assoc, arith, length-drop, subst, Bool, true, false, nat_eq, cond}
 use Rattle.std.specs.Prelude.{Option, Some, None, option_to_list}
 use Rattle.std.specs.Io.KnownBytes.{Appends}
-use Rattle.std.proofs.lemmas.List.{append-nil}
 use Rattle.dl_io.proofs.Streams.{appends_then, appends_none}
-use Rattle.defmt_framing.specs.Told.{Tells, begun}
+use Rattle.defmt_framing.specs.Told.{begun}
 use Rattle.defmt_framing.specs.Framing.{Framing, Stands, Hears}
-use Rattle.defmt_framing.specs.Calls.{Heard}
 use Rattle.defmt_framing.proofs.Standing.{HearsSo, hears_start, hears_more, hears_all}
-use Rattle.defmt_listen.specs.Streams.{Output}
 use Rattle.defmt_listen.specs.Heard.{Reports, lines, faults, HeardPart, HeardSome}
 use Rattle.defmt_listen.proofs.Fronts.{Front, then_front, lines-append, faults-append}
 

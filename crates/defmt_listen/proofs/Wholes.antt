@@ -1,11 +1,11 @@
 -- A whole recording, heard part by part.
-use Rattle.std.proofs.Common.{◌≡◌, ◌≤◌, ◌<◌, ◌+◌, ℕ, List, [], ◌∷◌, ◌++◌, length, take, refl, sym, ◌∙◌, ap, append_assoc, arith, length-append, subst}
+use Rattle.std.proofs.Common.{◌≡◌, ◌≤◌, ◌+◌, ℕ, List, [], ◌++◌, length, refl, sym, ◌∙◌, ap, append_assoc, arith, length-append, subst}
 use Rattle.std.specs.Prelude.{Option, Some, None, option_to_list}
 use Rattle.std.specs.Io.KnownBytes.{Appends, Consumes, IsAtEnd, Keeps}
 use Rattle.std.proofs.lemmas.List.{append-nil, nil_from_length, take_at}
 use Rattle.dl_io.specs.Outside.{Rose, Took}
 use Rattle.dl_io.proofs.Streams.{appends_then, appends_none, consumes_then, consumes_none}
-use Rattle.defmt_framing.specs.Told.{Tells, begun, events}
+use Rattle.defmt_framing.specs.Told.{begun, events}
 use Rattle.defmt_framing.specs.Framing.{Framing, Stands}
 use Rattle.defmt_listen.specs.Streams.{Input, Output}
 use Rattle.defmt_listen.specs.Heard.{Reports, lines, faults, recording_limit, HeardAll, HeardBegun, HeardTooMuch, HeardFront, HeardPart, HeardSome, Breaks, BreaksPart, ReadsNo}

@@ -1,5 +1,5 @@
 -- What is heard in a recording, and what is written of it.
-use Rattle.std.specs.Prelude.{◌≡◌, ◌≤◌, ◌+◌, ℕ, Bool, List, [], ◌++◌, length, take, filter, flat_map}
+use Rattle.std.specs.Prelude.{◌≡◌, ◌≤◌, ◌+◌, ℕ, Bool, List, ◌++◌, length, take, filter, flat_map}
 use Rattle.std.specs.Io.KnownBytes.{Consumes, IsAtEnd, Keeps}
 use Rattle.dl_io.specs.Outside.{Rose, Took}
 use Rattle.defmt_framing.specs.Told.{Tells, events, begun}

@@ -1,5 +1,5 @@
 -- What a session answers is what its told inputs come to.
-use Rattle.std.proofs.Common.{◌≡◌, ◌≢◌, ◌⊎◌, inl, inr, ◌<◌, ◌≤◌, ◌++◌, ℕ, zero, suc, List, [], ◌∷◌, Option, Some, None, Ok, Err, refl, sym, subst, ap, ◌∙◌, arith, length, length-append}
+use Rattle.std.proofs.Common.{◌≡◌, ◌≢◌, inl, inr, ◌<◌, ◌≤◌, ◌++◌, ℕ, zero, suc, List, [], Option, Some, None, Ok, Err, refl, sym, subst, ap, ◌∙◌, arith, length, length-append}
 use Rattle.std.specs.Prelude.{Result, nat_lt}
 use Rattle.std.specs.Io.KnownBytes.{Consumes, IsAtEnd}
 use Rattle.std.proofs.lemmas.Bool.{cond-false, cond-true, lt-ltb, le-ltb}
@@ -19,7 +19,7 @@ use Rattle.defmt_script.specs.Reads.{Reads}
 use Rattle.defmt_script.specs.Script.{Refusal, Script as Read}
 use Rattle.defmt_run.specs.Decoding.{Decodes, DecodingComesTo, Hears, IsFile, Loaded, ReadingComesTo, RefusesFile, RefusesName, fault_of_count, fault_of_recording, table_limit}
 use Rattle.defmt_run.specs.Output.{reports}
-use Rattle.defmt_run.specs.Running.{GaveWhole, RunningComesTo, Runs, fault_of_read, script_limit}
+use Rattle.defmt_run.specs.Running.{GaveWhole, RunningComesTo, Runs, fault_of_read}
 use Rattle.defmt_run.specs.Job.{Job, decoding, job_view}
 use Rattle.defmt_run.specs.Session.{Answers, OrFails}
 use Rattle.defmt_run.specs.declared.job.Job.{Job as Kept}

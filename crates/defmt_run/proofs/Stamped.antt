@@ -1,11 +1,11 @@
 -- The stamps of a script: each fits the timestamp's entry, its text is short, and all take as many bytes.
-use Rattle.std.proofs.Common.{◌≡◌, ◌⊎◌, inl, inr, ◌≤◌, ◌<◌, ◌+◌, ◌-◌, ◌*◌, ◌/◌, ◌%◌, ◌^◌, ℕ, zero, suc, List, [], ◌∷◌, ◌++◌, length, refl, sym, ◌∙◌, ap, subst, arith, length-append, false}
-use Rattle.std.specs.Prelude.{Option, Some, None, codes, replicate, nat_lt, Result, Ok, Err}
+use Rattle.std.proofs.Common.{◌≡◌, inl, inr, ◌≤◌, ◌<◌, ◌+◌, ◌-◌, ◌*◌, ◌/◌, ◌%◌, ◌^◌, ℕ, zero, suc, List, [], ◌∷◌, ◌++◌, length, refl, sym, ◌∙◌, ap, subst, arith, length-append, false}
+use Rattle.std.specs.Prelude.{Option, Some, None, codes, replicate, nat_lt}
 use Rattle.std.specs.Int.{bytes_low_first}
 use Rattle.std.specs.List.{slice_get}
 use Rattle.std.specs.FinMap as map
 use Rattle.std.proofs.lemmas.Bool.{cond-true, lt-ltb}
-use Rattle.std.proofs.lemmas.List.{append-nil, length-replicate}
+use Rattle.std.proofs.lemmas.List.{append-nil}
 use Rattle.std.proofs.Math.Nat.{mul-le-mul_left}
 use Rattle.std.specs.Option.{ForSome}
 use Rattle.byteorder.specs.Endian.{little_bytes}
@@ -27,7 +27,7 @@ use Rattle.defmt_hints.specs.Digits.{zero_filled, number_text}
 use Rattle.defmt_hints.specs.Printed.{fraction_text, printed_uint}
 use Rattle.defmt_hints.proofs.DigitsLaws.{length_zero_filled}
 use Rattle.defmt_intern.specs.Body.{body_of, one_body, pieces_of}
-use Rattle.defmt_intern.specs.Table.{Map, IsLawful, IsStamp}
+use Rattle.defmt_intern.specs.Table.{Map, IsLawful}
 use Rattle.defmt_intern.specs.declared.entry.Entry.{Entry}
 use Rattle.defmt_intern.specs.declared.entry.Tag.{Tag}
 use Rattle.defmt_intern.specs.declared.entry.Tag.TheVariants.{Timestamp}
@@ -39,7 +39,7 @@ use Rattle.defmt_values.specs.Fits.{Fits, FitsStamp, FitsVals}
 use Rattle.defmt_values.specs.Plain.{Vals, no_vals, uint, val}
 use Rattle.defmt_values.specs.Scan.{own_form, own_in}
 use Rattle.defmt_values.specs.declared.value.Statement.{Statement}
-use Rattle.defmt_eager.specs.Line.{IsWide, stamp_at, stamp_text}
+use Rattle.defmt_eager.specs.Line.{stamp_at, stamp_text}
 use Rattle.defmt_eager.specs.Show.{eager_text, own_pieces, pieces_in, pieces_text, show_val, shows}
 use Rattle.defmt_eager.proofs.Stamps.{stamp_is}
 use Rattle.defmt_encode.specs.Carry.{bytes_val, bytes_vals, message_of, own_slots, stamp_args, stamp_slots}

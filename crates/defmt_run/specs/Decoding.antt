@@ -1,5 +1,5 @@
 -- A recording is decoded by the table that a file names.
-use Rattle.std.specs.Prelude.{◌≡◌, ◌⊎◌, ◌<◌, ◌≤◌, ◌+◌, ℕ, zero, suc, nat_lt, List, length, Option, Some, None, Result, Ok, Err, if◌then◌else◌}
+use Rattle.std.specs.Prelude.{◌≡◌, ◌⊎◌, ◌<◌, ◌≤◌, ℕ, zero, suc, nat_lt, List, length, Option, Some, None, Result, Ok, Err, if◌then◌else◌}
 use Rattle.dl_io.specs.Outside.{HasFile, Lacks, Rose}
 use Rattle.defmt_intern.specs.Table.{Map}
 use Rattle.elf_section.specs.Checks.{Refused}

@@ -1,11 +1,9 @@
-use Rattle.std.proofs.Common.{◌≡◌, ◌≤◌, ◌<◌, ◌+◌, ◌++◌, ℕ, List, [], length, take, drop, refl, sym, ◌∙◌, ap, subst, arith, rules, length-append, length-take, length-drop}
+use Rattle.std.proofs.Common.{◌≡◌, ◌≤◌, ◌+◌, ◌++◌, ℕ, List, length, take, drop, refl, sym, ◌∙◌, ap, subst, arith, length-take}
 use Rattle.std.proofs.lemmas.List.{take_at}
-use Rattle.std.specs.Prelude.{Option, Some, None, option_to_list}
+use Rattle.std.specs.Prelude.{option_to_list}
 use Rattle.defmt_framing.specs.Told.{events, begun}
 use Rattle.defmt_framing.specs.Framing.{Stands}
-use Rattle.defmt_listen.specs.Streams.{Input, Output}
-use Rattle.defmt_listen.specs.Heard.{Reports, HeardAll, HeardPart, HeardSome, HeardFront, Breaks, lines}
-use Rattle.defmt_listen.specs.declared.fault.ListenFault.{ListenFault}
+use Rattle.defmt_listen.specs.Heard.{Reports, HeardPart, HeardSome, HeardFront, Breaks, lines}
 use Rattle.defmt_listen.specs.declared.fault.ListenFault.TheVariants.{Memory}
 use Rattle.defmt_listen.proofs.Fronts.{if_err}
 use Rattle.defmt_listen.proofs.Wholes.{Listening, start, more, no_more, part, whole, last_front, no_last, untouched, breaks_memory, breaks_sink, breaks_part, breaks_read}

@@ -1,4 +1,4 @@
-use Rattle.std.proofs.Common.{◌≡◌, ◌≤◌, ◌+◌, ◌-◌, [], length}
+use Rattle.std.proofs.Common.{◌≡◌, ◌≤◌, ◌-◌, [], length}
 use Rattle.defmt_listen.specs.Heard.{recording_limit}
 use Rattle.defmt_listen.proofs.Wholes.{Listening}
 use Rattle.defmt_listen.proofs.listening.listen.Given as goal

@@ -1,10 +1,9 @@
-use Rattle.std.proofs.Common.{◌≡◌, ◌≤◌, ◌<◌, ◌+◌, ℕ, List, [], length, take, drop, refl, sym, ◌∙◌, ap, subst, arith, rules}
+use Rattle.std.proofs.Common.{take, refl, sym, ◌∙◌, subst, arith}
 use Rattle.std.proofs.lemmas.Bool.{eqb-true}
-use Rattle.std.specs.Prelude.{Option, Some, None, option_to_list}
-use Rattle.defmt_framing.specs.Framing.{Stands, Hears}
-use Rattle.defmt_listen.specs.Heard.{Reports, HeardPart, HeardSome, BreaksPart, lines, faults}
+use Rattle.defmt_framing.specs.Framing.{Hears}
+use Rattle.defmt_listen.specs.Heard.{Reports}
 use Rattle.defmt_listen.proofs.Fronts.{on_err}
-use Rattle.defmt_listen.proofs.Hearing.{Hearing, start, more, writes, stops, stands_still, ends, one_event, some_left}
+use Rattle.defmt_listen.proofs.Hearing.{start, more, writes, stops, stands_still, ends, one_event, some_left}
 use Rattle.defmt_listen.proofs.part.hear_part.Goals as goal
 
 pub parts-init : goal.parts-init

@@ -1,7 +1,6 @@
-use Rattle.std.proofs.Common.{◌≡◌, ◌++◌, ◌∙◌, [], List, ap, length, refl, subst, sym, take}
+use Rattle.std.proofs.Common.{◌≡◌, ◌++◌, ◌∙◌, [], List, ap, refl, subst, sym, take}
 use Rattle.std.specs.Prelude.{option_to_list}
 use Rattle.std.proofs.lemmas.Bool.{eqb-true}
-use Rattle.defmt_framing.specs.Told.{begun}
 use Rattle.defmt_framing.specs.Framing.{Hears}
 use Rattle.defmt_framing.proofs.Standing.{HearsSo, hears_all, hears_more, hears_start}
 use Rattle.defmt_intern.specs.Table.{Map}

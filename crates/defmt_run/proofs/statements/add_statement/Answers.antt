@@ -1,5 +1,5 @@
-use Rattle.std.proofs.Common.{sym, subst}
-use Rattle.defmt_intern.specs.Table.{IsLawful, Map}
+use Rattle.std.proofs.Common.{subst}
+use Rattle.defmt_intern.specs.Table.{IsLawful}
 use Rattle.defmt_run.proofs.Stamped.{message_fits, prints_so}
 use Rattle.defmt_run.proofs.statements.add_statement.Goals as goal
 

@@ -1,4 +1,4 @@
-use Rattle.std.proofs.Common.{◌≡◌, ◌≤◌, ◌<◌, ◌+◌, ◌++◌, ℕ, List, length, take, get_or, flat_map, [], refl, sym, ◌∙◌, ap, arith, length-append}
+use Rattle.std.proofs.Common.{◌≡◌, ◌<◌, ◌+◌, ◌++◌, ℕ, List, length, take, get_or, flat_map, [], sym, ◌∙◌, ap, arith, length-append}
 use Rattle.std.proofs.lemmas.List.{take_all}
 use Rattle.defmt_values.specs.declared.value.Statement.{Statement}
 use Rattle.defmt_run.specs.Commands.{all_statements, bytes_of, sent_from}

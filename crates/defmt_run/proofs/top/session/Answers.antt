@@ -1,7 +1,7 @@
-use Rattle.std.proofs.Common.{refl, sym, subst, ◌∙◌, ◌≡◌, List, ℕ, Option, Some, ap}
+use Rattle.std.proofs.Common.{refl, ◌≡◌, ap}
 use Rattle.dl_io.specs.Outside.{Rose}
 use Rattle.defmt_run.specs.Decoding.{DecodingComesTo}
-use Rattle.defmt_run.specs.Job.{decoding, job_view}
+use Rattle.defmt_run.specs.Job.{job_view}
 use Rattle.defmt_run.specs.Running.{RunningComesTo}
 use Rattle.defmt_run.specs.declared.outcome.Fault.{Fault}
 use Rattle.defmt_run.proofs.Deciding.{answered, asked_name, decode_comes, decode_one, decoded, or_fails, run_comes, run_one}
