@@ -1,4 +1,5 @@
 mod Append
+mod Counted
 mod Frames
 mod Next
 mod Room

@@ -1,16 +1,28 @@
-//! The logger of a device: a desk that writes the statements of a script to a ring, and a tape with a mark for each.
+//! The logger of a device: a desk that writes the statements of a script to a ring, a tape with a mark for each, and the lock
+//! and the pens by which threads share the desk.
 //!
 //! A [`Desk`] takes the next statement of one of eight writers, writes its frame to the ring in the script's mode, and
 //! puts a [`Mark`] on its [`Tape`]: which statement it was, its stamp, and whether its frame was sent whole, dropped or cut.
+//!
+//! A [`Logger`] has a desk behind a lock. It gives a [`Pen`] to each writer, and only a pen can log. When all [`Pens`] are
+//! back, `close` gives the tape, and each writer has as many marks on it as its pen tells.
 #![tactic(auto)]
 
+mod books;
 mod desk;
 mod framing;
+mod locked;
+mod logger;
 mod mark;
+mod pen;
 mod tape;
 
+pub use books::{Books, Eight, Seat, W0, W1, W2, W3, W4, W5, W6, W7, Writer};
 pub use desk::Desk;
+pub use locked::Naming;
+pub use logger::Logger;
 pub use mark::Mark;
+pub use pen::{Pen, Pens};
 pub use tape::Tape;
 
 #[cfg(test)]

@@ -1,15 +1,19 @@
-// Scripts on a desk over a plain ring.
-ghost use Rattle.std.specs.Prelude.{◌≡◌, ◌<◌, ⊤};
+// Scripts on a desk and on a logger, over a plain ring.
+ghost use Rattle.std.specs.Prelude.{◌≡◌, ◌<◌, true, ⊤};
 ghost use Rattle.defmt_logger.specs.Kept.{IsClockOf};
+ghost use Rattle.rtt_ring.specs.PlainView.{up_of};
+ghost use Rattle.rtt_ring.specs.Views.{new_up};
 
-use crate::{Desk, Mark, Tape};
+use crate::{Books, Desk, Eight, Logger, Mark, Naming, Pen, Seat, Tape};
 use defmt_hooks::{Clock, Stamp};
 use defmt_script::{Script, read};
 use dl_io::Bytes;
 use rtt_modes::{Fate, Relief};
 use rtt_ring::{PlainRing, UpEnd};
 use std::alloc::Global;
+use std::marker::Brand;
 use std::sync::Wait;
+use std::sync::ledger::{Blank, Ledger};
 use std::test::Fail;
 
 // Waits for nobody.
@@ -172,6 +176,105 @@ fn block_mode_stamps_the_statements_of_two_writers(rt: HostRuntime) -> Result<()
     assert_eq!(rt;
         sent.as_slice(),
         [0, 1, 0xe8, 3, 0x72, 0x7f, 0, 0, 1, 0xe2, 4, 0x72, 0x7f, 0].as_slice()
+    );
+    Ok(())
+}
+
+// Logs the next statement of a pen, where it has one left.
+fn log_by<B: Books, K: Naming, U: UpEnd, C: Clock, S: Seat<B, L>, L: Ledger, W: Wait>(
+    rt: &W,
+    logger: &Logger<B, K, U, C>,
+    pen: &mut Pen<S, L, K>,
+) {
+    if pen.place() < pen.total() {
+        logger.log(rt, pen, &mut NoRelief);
+    }
+}
+
+// Logs a statement of the writer 1, all two of the writer 0, and closes the logger.
+fn log_by_pens<
+    L0: Ledger,
+    L1: Ledger,
+    L2: Ledger,
+    L3: Ledger,
+    L4: Ledger,
+    L5: Ledger,
+    L6: Ledger,
+    L7: Ledger,
+    K: Naming,
+    C: Clock + Drop,
+    W: Wait,
+>(
+    rt: &W,
+    alloc: Global,
+    blank0: Blank,
+    blank1: Blank,
+    blank2: Blank,
+    blank3: Blank,
+    blank4: Blank,
+    blank5: Blank,
+    blank6: Blank,
+    blank7: Blank,
+    script: Script,
+    clock: C,
+    ring: PlainRing,
+) -> Result<Tape, Fail>
+    requires clock { IsClockOf script.settings.stamp (C.base clock) (C.step clock) (C.ready clock) (C.gives clock) }
+    requires fresh { up_of ring ≡ new_up (up_of ring).split script.settings.ring true }
+    requires names { (K.script ≡ script) × (K.split ≡ (up_of ring).split) }
+    requires l0 { (blank0.name ≡ L0.name) × (blank0.parts ≡ L0.parts) × (blank0.parts ≡ 1) }
+    requires l1 { (blank1.name ≡ L1.name) × (blank1.parts ≡ L1.parts) × (blank1.parts ≡ 1) }
+    requires l2 { (blank2.name ≡ L2.name) × (blank2.parts ≡ L2.parts) × (blank2.parts ≡ 1) }
+    requires l3 { (blank3.name ≡ L3.name) × (blank3.parts ≡ L3.parts) × (blank3.parts ≡ 1) }
+    requires l4 { (blank4.name ≡ L4.name) × (blank4.parts ≡ L4.parts) × (blank4.parts ≡ 1) }
+    requires l5 { (blank5.name ≡ L5.name) × (blank5.parts ≡ L5.parts) × (blank5.parts ≡ 1) }
+    requires l6 { (blank6.name ≡ L6.name) × (blank6.parts ≡ L6.parts) × (blank6.parts ≡ 1) }
+    requires l7 { (blank7.name ≡ L7.name) × (blank7.parts ≡ L7.parts) × (blank7.parts ≡ 1) }
+{
+    let (logger, mut pens) = Logger::<
+        Eight<L0, L1, L2, L3, L4, L5, L6, L7>,
+        K,
+        PlainRing,
+        C,
+    >::start(
+        alloc, blank0, blank1, blank2, blank3, blank4, blank5, blank6, blank7, script, clock, ring,
+    )?;
+    log_by(rt, &logger, &mut pens.p1);
+    for _ in 0..3 {
+        log_by(rt, &logger, &mut pens.p0);
+    }
+    let (tape, _, _) = logger.close(pens);
+    Ok(tape)
+}
+
+#[test]
+fn pens_log_the_statements_of_their_writers(rt: HostRuntime) -> Result<(), Fail> {
+    let script = read(rt.alloc(), b"s hi defmt_info hello\nw 0 hi\nw 1 hi\nw 0 hi")?;
+    let None = script.stamp() else {
+        return Err(Fail::new("stamps"));
+    };
+    let Ok(ring) = PlainRing::split(rt.alloc(), script.ring()) else {
+        return Err(Fail::new("no ring"));
+    };
+    let tape = log_by_pens::<Brand, Brand, Brand, Brand, Brand, Brand, Brand, Brand, Brand, _, _>(
+        &rt,
+        rt.alloc(),
+        Blank::new(1),
+        Blank::new(1),
+        Blank::new(1),
+        Blank::new(1),
+        Blank::new(1),
+        Blank::new(1),
+        Blank::new(1),
+        Blank::new(1),
+        script,
+        Stamp::new(0, 0, |_: u32| 0u64),
+        ring,
+    )?;
+    let whole = Fate::Whole;
+    assert_eq!(rt;
+        tape.as_slice(),
+        [mark(1, 0, whole), mark(0, 0, whole), mark(0, 1, whole)].as_slice()
     );
     Ok(())
 }
