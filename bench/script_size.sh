@@ -1,42 +1,57 @@
 #!/bin/sh
-# Counts the instructions that `defmtl run` takes for scripts of growing size, with as many statements as strings.
+# Counts the instructions of `defmtl print` for scripts of growing size, up to the greatest that is read.
 #
-#   bench/script_size.sh        at the repository's top, once ./defmtl has built the program; needs valgrind
+#   bench/script_size.sh        at the repository's top, once ./defmtl has built the program; needs valgrind and GNU time
 #
-# A script twice as long has a ratio of about 2: names are found in a tree. A walk over all strings for each line would make it 4.
+# Three forms of scripts: as many statements as strings; as many strings as a script may have; statements with long texts. A script twice
+# as long has a ratio of about 2: names are found in a tree. A walk over all strings for each line would make it 4.
 
-top=$(cd "$(dirname "$0")/.." && pwd) || exit 1
-program=$top/crates/defmt_cli/out/defmt_cli
-[ -x "$program" ] || { echo "there is no $program: run ./defmtl once"; exit 1; }
-command -v valgrind > /dev/null || { echo "there is no valgrind"; exit 1; }
-work=$(mktemp -d) || exit 1
-trap 'rm -rf "$work"' EXIT
+. "$(dirname "$0")/common.sh"
+need valgrind time
 
-write_script() {
+# Each statement is of another string.
+pairs() {
     awk -v count="$1" 'BEGIN {
         for (i = 0; i < count; i++) printf "s name%05d defmt_info text number %05d\n", i, i
         for (i = 0; i < count; i++) printf "w 0 name%05d\n", (i * 7919) % count
     }'
 }
 
-last=
-printf '%8s %10s %14s %12s %6s\n' strings bytes instructions "a line" ratio
-for count in 1000 2000 4000; do
-    write_script "$count" > "$work/script"
-    valgrind --tool=callgrind --callgrind-out-file=/dev/null "$program" run < "$work/script" > "$work/out" 2> "$work/log"
-    status=$?
-    lines=$(wc -l < "$work/out")
-    [ "$status" = 0 ] && [ "$lines" = "$count" ] || { echo "the run of $count strings ended with status $status and $lines lines"; exit 1; }
-    counted=$(sed -n 's/.*Collected : \([0-9]*\).*/\1/p' "$work/log")
-    [ -n "$counted" ] || { echo "valgrind counted nothing"; exit 1; }
-    awk -v count="$count" -v bytes="$(wc -c < "$work/script")" -v counted="$counted" -v last="$last" 'BEGIN {
-        printf "%8d %10d %14d %12d %6s\n", count, bytes, counted, counted / (2 * count), last == "" ? "" : sprintf("%.2f", counted / last)
+# COUNT strings of 64 bytes a line, and one statement.
+strings() {
+    awk -v count="$1" 'BEGIN {
+        for (i = 0; i < count; i++) printf "s name%05d defmt_info text number %05d of this long table\n", i, i
+        print "w 0 name00000"
     }'
-    first=${first:-$counted}
-    last=$counted
-done
-awk -v first="$first" -v last="$last" 'BEGIN {
-    ratio = last / first
-    printf "script_size: a script four times as long takes %.2f times the instructions, %s\n", ratio, ratio < 5 ? "passed" : "failed"
-    exit ratio < 5 ? 0 : 1
-}'
+}
+
+# COUNT statements, each with a text that fills its line up to 1,023 bytes and a newline.
+texts() {
+    awk -v count="$1" 'BEGIN {
+        print "s say defmt_info {=str}"
+        letters = "abcdefghijklmnopqrstuvwxyz"
+        while (length(letters) < 1011) letters = letters letters
+        for (i = 0; i < count; i++) printf "w %d say \"%s\"\n", i % 8, substr(letters, 1 + i % 8, 1011)
+    }'
+}
+
+# rows FORM COUNT..: a row for each size, and the ratio of each to the one before it
+rows() {
+    form=$1 before=
+    shift
+    for count; do
+        "$form" "$count" > "$work/script"
+        ran=$(measured 3 1 "$work/script" print) && instructions=$(counted print < "$work/script") || exit 1
+        bytes=$(wc -c < "$work/script")
+        last=$(ratio "$before" "$instructions")
+        printf '%-8s %7d %9d %14d %8d %7s %8s %8s\n' "$form" "$count" "$bytes" "$instructions" $((instructions / bytes)) "${before:+$last}" $ran
+        before=$instructions
+    done
+    judge "$form: the ratio of the last to the one before it" "$last" 2.2
+}
+
+printf '%-8s %7s %9s %14s %8s %7s %8s %8s\n' form count bytes instructions "a byte" ratio seconds KiB
+rows pairs 1000 2000 4000
+rows strings 32700 65500
+rows texts 2047 4095
+exit "$worst"

@@ -9,34 +9,22 @@ use std::rt::Env;
 use std::{env, io};
 
 fn main(rt: HostRuntime) -> ExitCode {
-    let status = match words_of(&rt) {
-        Ok(words) => run(&rt, words.as_slice()),
+    let words = match words_of(&rt) {
+        Ok(words) => words,
         Err(error) if error.kind() == io::ErrorKind::OutOfMemory => {
             tell(&rt, b"memory");
-            Fault::Memory.status()
+            return ExitCode::from(Fault::Memory.status());
         }
         // Words that aren't text ask for nothing.
-        Err(_) => run(&rt, &[]),
+        Err(_) => Vec::new(rt.alloc()),
     };
-    ExitCode::from(status)
-}
-
-fn words_of(rt: &(impl Env + AllocGlobal)) -> io::Result<Vec<String>> {
-    let mut words = Vec::new(rt.alloc());
-    for word in env::args(rt)? {
-        words.push(word)?;
-    }
-    Ok(words)
-}
-
-// Does what the words ask for, and answers the status.
-fn run(rt: &HostRuntime, words: &[String]) -> u8 {
     let mut source = StdSource::new(rt.reader());
-    let mut sink = StdSink::new(io::writer(rt));
-    let mut shelf = DirShelf::new(rt);
+    let mut sink = StdSink::new(io::writer(&rt));
+    let mut shelf = DirShelf::new(&rt);
     let outcome = session(
+        &rt,
         rt.alloc(),
-        words,
+        words.as_slice(),
         &mut source,
         &mut shelf,
         &mut sink,
@@ -45,9 +33,17 @@ fn run(rt: &HostRuntime, words: &[String]) -> u8 {
     if outcome.status != 0
         && let Ok(text) = outcome.say(rt.alloc())
     {
-        tell(rt, text.as_str().as_bytes());
+        tell(&rt, text.as_str().as_bytes());
     }
-    outcome.status
+    ExitCode::from(outcome.status)
+}
+
+fn words_of(rt: &(impl Env + AllocGlobal)) -> io::Result<Vec<String>> {
+    let mut words = Vec::new(rt.alloc());
+    for word in env::args(rt)? {
+        words.push(word)?;
+    }
+    Ok(words)
 }
 
 // Writes a text and a newline to the standard error. What can't be written there is lost.

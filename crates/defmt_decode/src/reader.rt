@@ -7,7 +7,7 @@ ghost use Rattle.defmt_encode.specs.Heard.{IsHeard};
 
 use crate::event::Event;
 use defmt_eager::{EagerFault, line};
-use defmt_encode::{Heard, ReadCause, read_message};
+use defmt_encode::{Heard, ReadCause};
 use defmt_framing::{Teller, decode_piece};
 use defmt_intern::Table;
 use dl_io::Memory;
@@ -44,12 +44,14 @@ impl Refusal {
     }
 }
 
-// Reads pieces by a table. The buffer is for what they stand for as codes.
+// Reads pieces by a table. The buffer is for what they stand for as codes, and what is heard in them is
+// kept, so that its lists needn't be made anew for each.
 #[derive(Drop)]
 pub(crate) struct Reader {
     alloc: Global,
     table: Table,
     buffer: Vec<u8>,
+    heard: Heard,
 }
 
 impl Model for Reader {
@@ -74,6 +76,7 @@ impl Reader {
             alloc,
             table,
             buffer: vec![in alloc; 0u8; LONGEST]?,
+            heard: Heard::new(alloc),
         })
     }
 }
@@ -86,7 +89,10 @@ impl Teller for Reader {
 
     fn piece(&mut self, piece: &[u8]) -> Result<Event, Memory> {
         match decode_piece(piece, &mut self.buffer) {
-            Some(count) => event_of_message(self.alloc, &self.table, &self.buffer[..count]),
+            Some(count) => {
+                let bytes = &self.buffer[..count];
+                event_of_message(self.alloc, &self.table, bytes, &mut self.heard)
+            }
             None => Ok(Refusal::Cobs.event()),
         }
     }
@@ -106,12 +112,17 @@ impl Teller for Reader {
 
 // What the bytes that a code stands for tell.
 #[tactic(auto, using(crate::proofs::Deciding::heard_read))]
-fn event_of_message(alloc: Global, table: &Table, bytes: &[u8]) -> Result<Event, Memory>
+fn event_of_message(
+    alloc: Global,
+    table: &Table,
+    bytes: &[u8],
+    heard: &mut Heard,
+) -> Result<Event, Memory>
     requires { length bytes.now < 2 ^ 32 }
     ensures { IfOk result (λ event. event ≡ of_read table.now (read_of table.now bytes.now)) }
 {
-    match read_message(alloc, table, bytes) {
-        Ok(heard) => event_of_heard(alloc, table, bytes, &heard),
+    match heard.hear(alloc, table, bytes) {
+        Ok(()) => event_of_heard(alloc, table, bytes, heard),
         Err(ReadCause::Bad { cause }) => Ok(Event::Bad { cause }),
         Err(ReadCause::Memory) => Err(Memory),
     }

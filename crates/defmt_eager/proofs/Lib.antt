@@ -1,4 +1,5 @@
 pub mod Appends
 pub mod Bits
+pub mod Bounds
 pub mod Lengths
 pub mod Stamps

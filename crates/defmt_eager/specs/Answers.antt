@@ -49,3 +49,8 @@ abbrev pub least_bytes : Hint → ℕ
 least_bytes (hints.Radix base alt width) = width + 2
 least_bytes hints.Ascii = 1
 least_bytes hint = 2
+
+-- more bytes than a number, a truth value or a character has under a hint: 300, and the zeros of a width
+abbrev pub most_bytes : Hint → ℕ
+most_bytes (hints.Radix base alt width) = 300 + width
+most_bytes hint = 300

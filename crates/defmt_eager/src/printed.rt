@@ -1,5 +1,5 @@
 //! The printed line of a statement.
-ghost use Rattle.std.specs.Prelude.{◌≡◌, ◌≤◌, ℕ, length, Option, IfSome};
+ghost use Rattle.std.specs.Prelude.{◌≡◌, ◌≤◌, [], ℕ, length, Option, IfOk, IfSome};
 ghost use Rattle.std.specs.Option.{option_map, ForSome};
 ghost use Rattle.defmt_eager.specs.Answers.{Shows, GivesFront, GivesLine};
 ghost use Rattle.defmt_eager.specs.Line.{level_text, level_at, stamp_at, stamp_text, stamp_space};
@@ -8,7 +8,7 @@ ghost use Rattle.defmt_values.specs.Fits.{Fits, FitsStamp, IsLogged};
 
 use crate::eager::{EagerFault, LIMIT};
 use crate::values::push_statement;
-use defmt_grammar::Text;
+use defmt_grammar::{Memory, Text};
 use defmt_intern::{Table, Tag};
 use defmt_values::{Args, Statement, look_up};
 use std::alloc::Global;
@@ -73,6 +73,13 @@ fn stamp_space(at: Option<u16>) -> &'static str
     }
 }
 
+// An empty text with room for most lines.
+fn roomy(alloc: Global) -> Result<Text, Memory>
+    ensures { IfOk result (λ text. text ≡ []) }
+{
+    Ok(Text::from_string(String::with_capacity(alloc, 96)?))
+}
+
 // What stands in front of the text of a statement of this level.
 fn front_of(
     alloc: Global,
@@ -84,7 +91,7 @@ fn front_of(
     requires { ForSome level (λ l. length l.now ≡ 5) }
     ensures { GivesFront result table.now at stamp.now (option_map (λ l. l.now) level.entry) }
 {
-    let mut out = Text::new(alloc);
+    let mut out = roomy(alloc)?;
     push_stamp(table, &mut out, at, stamp)?;
     let Some(level) = level else {
         return Ok(Text::new(alloc));

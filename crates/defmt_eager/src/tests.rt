@@ -3,7 +3,7 @@ ghost use Rattle.std.specs.Prelude.{◌≡◌, OnOk};
 ghost use Rattle.defmt_values.specs.Entries.{is_logged};
 ghost use Rattle.defmt_values.specs.Fits.{IsLogged};
 
-use crate::{EagerFault, line, stamp_at, text_of};
+use crate::{EagerFault, is_wide, line, stamp_at, text_of};
 use defmt_grammar::Text;
 use defmt_intern::{Entry, Table, Tag};
 use defmt_values::{Args, Item, Items, Node, Seq, Statement, Value, check, look_up};
@@ -92,6 +92,14 @@ fn text_for(alloc: Global, table: &Table, args: Args) -> Result<Result<Text, Eag
     let stm = Statement { index: 1, args };
     check(table, &stm)?;
     Ok(text_of(alloc, table, &stm))
+}
+
+// Whether the text of a statement of the first entry with these bytes is too long.
+fn wide_for(alloc: Global, table: &Table, bytes: &[u8]) -> Result<bool, Fail> {
+    let args = one(alloc, bytes_of(alloc, bytes)?)?;
+    let stm = Statement { index: 1, args };
+    check(table, &stm)?;
+    Ok(is_wide(alloc, table, &stm)?)
 }
 
 // The text of one value in a format string.
@@ -217,6 +225,9 @@ fn texts_of_too_many_bytes_are_wide(rt: HostRuntime) -> Result<(), Fail> {
         text_for(alloc, &table, more)?.err(),
         Some(EagerFault::Wide)
     );
+    assert_eq!(rt; wide_for(alloc, &table, &[1])?, false);
+    assert_eq!(rt; wide_for(alloc, &table, &[1; 255])?, false);
+    assert_eq!(rt; wide_for(alloc, &table, &[1; 256])?, true);
     let bare = add(alloc, &mut table, Tag::Println, "bare")?;
     add(alloc, &mut table, Tag::Timestamp, "{=[u8]:#0255b}")?;
     let stm = Statement {

@@ -39,7 +39,7 @@ fn node_pieces(table: &Table, index: u16, variant: Option<u8>) -> &[Piece]
 }
 
 /// The pieces of the text of a statement.
-fn own_pieces(table: &Table, index: u16) -> &[Piece]
+pub fn own_pieces(table: &Table, index: u16) -> &[Piece]
     ensures { result.now ≡ own_pieces table.now index }
 {
     match own_form(table, index) {

@@ -10,6 +10,7 @@ pub mod Joins
 pub mod Laws
 pub mod MetBack
 pub mod MetFound
+pub mod Most
 pub mod Numbers
 pub mod Puts
 pub mod ReadsBack

@@ -1,8 +1,9 @@
 -- Numbers of some bytes.
-use Rattle.std.proofs.Common.{◌≡◌, ◌<◌, ◌≤◌, ◌^◌, ◌+◌, ◌-◌, ◌*◌, ◌/◌, ◌%◌, ℕ, zero, suc, Bool, true, false, nat_le, List, [], ◌∷◌, ◌++◌, length, get_or, take, drop, Ok, Err, refl, sym, ap, ◌∙◌, subst, arith, lit<, lit≤, length-append, pow-add}
-use Rattle.std.proofs.Math.Nat.{pow-le-pow_right, pow-succ', mul-le-mul_right, div-div-eq-div-mul}
+use Rattle.std.proofs.Common.{◌≡◌, ◌<◌, ◌≤◌, ◌^◌, ◌+◌, ◌*◌, ◌/◌, ◌%◌, ℕ, zero, suc, Bool, true, false, nat_le, List, [], ◌∷◌, ◌++◌, length, get_or, take, drop, Ok, Err, refl, sym, ap, ◌∙◌, subst, arith, lit<, lit≤, length-append, pow-add}
+use Rattle.std.proofs.Math.ListN.{set}
+use Rattle.std.proofs.Math.Nat.{pow-le-pow_right, pow-suc, pow-succ', mul-le-mul_right, div-div-eq-div-mul, div-one}
 use Rattle.std.proofs.lemmas.Bool.{le-leb, leb-true, leb-false, lt-leb}
-use Rattle.std.proofs.lemmas.List.{drop_at, take-append-drop, length-take-le}
+use Rattle.std.proofs.lemmas.List.{take_all, take_more_set, drop_at, take-append-drop, length-take-le}
 use Rattle.std.proofs.Math.Seq.{take-append_seam, drop-append_seam}
 use Rattle.std.specs.Str.{is_utf8, IsUtf8}
 use Rattle.std.proofs.lemmas.Str.{IsUtf8-from_is_utf8, is_utf8-from_IsUtf8}
@@ -33,9 +34,38 @@ little_shift i (suc k) n = ap (λ b. b ∷ bytes_low_first (suc (suc i)) k n) (b
 pub little_more : (k n : ℕ) → little_bytes (suc k) n ≡ n % 256 ∷ little_bytes k (n / 256)
 little_more k n = ap (λ bs. n % 256 ∷ bs) (little_shift 0 k n)
 
-pub little_step : (width n : ℕ) → 0 < width → little_bytes width n ≡ n % 256 ∷ little_bytes (width - 1) (n / 256)
-little_step zero n h = absurd (omega arith)
-little_step (suc k) n h = let e : k ≡ suc k - 1 = omega arith in little_more k n ∙ ap (λ m. n % 256 ∷ little_bytes m (n / 256)) e
+low_snoc : (i k n : ℕ) → bytes_low_first i (suc k) n ≡ bytes_low_first i k n ++ byte_at (i + k) n ∷ []
+low_snoc i zero n = let e : i ≡ i + 0 = omega arith in ap (λ m. byte_at m n ∷ []) e
+low_snoc i (suc k) n =
+    let e : suc i + k ≡ i + suc k = omega arith in
+    ap (λ bs. byte_at i n ∷ bs) (low_snoc (suc i) k n ∙ ap (λ m. bytes_low_first (suc i) k n ++ byte_at m n ∷ []) e)
+
+byte_is : (k n : ℕ) → byte_at k n ≡ n / 256 ^ k % 256
+byte_is zero n = ap (λ m. m % 256) (sym (div-one n))
+byte_is (suc k) n = refl
+
+little_snoc : (k n : ℕ) → little_bytes (suc k) n ≡ little_bytes k n ++ n / 256 ^ k % 256 ∷ []
+little_snoc k n =
+    let place : 0 + k ≡ k = omega arith in
+    low_snoc 0 k n ∙ ap (λ m. bytes_low_first 0 k n ++ byte_at m n ∷ []) place ∙ ap (λ m. bytes_low_first 0 k n ++ m ∷ []) (byte_is k n)
+
+-- the lowest bytes that a loop has written, and what is left of the number
+pub record Written (bytes : List ℕ) (i n left : ℕ) : Type 0 where
+  pub done : take i bytes ≡ little_bytes i n
+  pub left_is : left ≡ n / 256 ^ i
+
+pub written_more : (bytes : List ℕ) (i n left : ℕ) → i < length bytes → Written bytes i n left → Written (set bytes i (left % 256)) (i + 1) n (left / 256)
+written_more bytes i n left h w =
+    let next : i + 1 ≡ suc i = omega arith in
+    let power : 256 ^ i * 256 ≡ 256 ^ (i + 1) = sym (pow-suc 256 i) ∙ ap (λ m. 256 ^ m) (sym next) in
+    record {
+      done = take_more_set bytes i (left % 256) h ∙ ap (λ l. l ++ left % 256 ∷ []) w.done
+          ∙ ap (λ m. little_bytes i n ++ m % 256 ∷ []) w.left_is ∙ sym (little_snoc i n) ∙ ap (λ m. little_bytes m n) (sym next);
+      left_is = ap (λ m. m / 256) w.left_is ∙ div-div-eq-div-mul n (256 ^ i) 256 ∙ ap (λ m. n / m) power;
+    }
+
+pub written_all : (bytes : List ℕ) (i n left size : ℕ) → length bytes ≡ i → i ≡ size → Written bytes i n left → bytes ≡ little_bytes size n
+written_all bytes i n left size h e w = sym (take_all i bytes (omega (arith, h))) ∙ w.done ∙ ap (λ m. little_bytes m n) e
 
 -- ---- a number in front of bytes
 

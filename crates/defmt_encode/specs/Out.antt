@@ -1,12 +1,17 @@
 -- What is put into a buffer of which 2,000 bytes are used.
 use Rattle.std.specs.Prelude.{◌≡◌, ◌≤◌, ◌<◌, ◌+◌, ℕ, List, ◌++◌, length, take, drop, Result, Ok, Err}
+use Rattle.defmt_grammar.specs.declared.slot.Slot.{Slot}
+use Rattle.defmt_intern.specs.Table.{Map}
+use Rattle.defmt_values.specs.Plain.{Val, Vals}
+use Rattle.defmt_encode.specs.Carry.{bytes_val, bytes_vals}
 use Rattle.defmt_encode.specs.declared.put.Long.{Long}
 
--- the bytes stand behind the first `at`, up to the place n
+-- the bytes stand behind the first `at`, up to the place n, and what lies behind them is as before
 pub record Wrote (old new : List ℕ) (at n : ℕ) (bytes : List ℕ) : Type 0 where
   pub end_is : n ≡ at + length bytes
   pub fits : n ≤ 2000
   pub front : take n new ≡ take at old ++ bytes
+  pub behind : drop n new ≡ drop n old
 
 -- the bytes stand behind the first `at`, or don't fit
 abbrev pub Puts : List ℕ → List ℕ → ℕ → Result ℕ Long → List ℕ → Type 0
@@ -24,3 +29,11 @@ pub record Begins (old new : List ℕ) (n : ℕ) (message : List ℕ) : Type 0 w
 abbrev pub Writes : List ℕ → List ℕ → Result ℕ Long → List ℕ → Type 0
 Writes old new (Ok n) message = Begins old new n message
 Writes old new (Err e) message = (2000 < length message) × (new ≡ old)
+
+-- whatever its slot, a value has at most so many bytes
+abbrev pub HasAtMost : Val → ℕ → Type 0
+HasAtMost v n = (t : Map) (slot : Slot) → length (bytes_val t slot v) ≤ n
+
+-- the same of values one after another
+abbrev pub HaveAtMost : Vals → ℕ → Type 0
+HaveAtMost vs n = (t : Map) (slots : List Slot) → length (bytes_vals t slots vs) ≤ n

@@ -79,6 +79,21 @@ ReadsMessage (Ok heard) expected = Ok (heard.stamp, heard.stm.index, heard.stm.a
 ReadsMessage (Err (Bad c)) expected = Err c ≡ expected
 ReadsMessage (Err Memory) expected = Unit {0}
 
+-- the values that stand in a list afterwards, with what else was answered
+abbrev pub with_vals : Vals → Result (ℕ × Bor (List ℕ)) Fault → Result (Vals × ℕ × Bor (List ℕ)) Fault
+with_vals vs (Ok r) = Ok (vs, r.0, r.1)
+with_vals vs (Err e) = Err e
+
+-- the same of a stamp
+abbrev pub with_stamp : Vals → Result (Bor (List ℕ)) Fault → Result (Vals × Bor (List ℕ)) Fault
+with_stamp vs (Ok rest) = Ok (vs, rest)
+with_stamp vs (Err e) = Err e
+
+-- what a message says that was read into this place
+abbrev pub told : {E : Type 0} → Heard → Result (Unit {0}) E → Result Heard E
+told heard (Ok done) = Ok heard
+told heard (Err e) = Err e
+
 abbrev pub SumSmall : {T : Type 0} → Result (T × ℕ × Bor (List ℕ)) Fault → Type 0
 SumSmall (Ok r) = r.1 ≤ 8192
 SumSmall (Err e) = Unit {0}

@@ -1,5 +1,6 @@
 //! Fields of a message read from the front of bytes.
-ghost use Rattle.std.specs.Prelude.{◌≡◌, ◌≤◌, ◌<◌, ◌^◌, IfOk};
+ghost use Rattle.std.specs.Prelude.{◌≡◌, ◌≤◌, ◌<◌, ◌^◌, length, IfOk};
+ghost use Rattle.byteorder.specs.Endian.{little_number};
 ghost use Rattle.defmt_encode.specs.Read.{number_at, signed_at, chunk_at, flag_of, char_of, text_of, bytes_at, text_at};
 ghost use Rattle.defmt_encode.specs.Reads.{pair_now, chunks_now, now_of, ReadsChunk, ReadsBuffer};
 
@@ -21,6 +22,20 @@ pub fn chunk(bytes: &[u8], count: usize) -> Result<(&[u8], &[u8]), Cause>
     }
 }
 
+// The number in the first bytes.
+fn low_first(bytes: &[u8], width: usize) -> u128
+    requires { (0 < width) × (width ≤ 16) × (width ≤ length bytes.now) }
+    ensures { result ≡ little_number width bytes.now }
+{
+    match width {
+        1 => u128::from(bytes[0]),
+        2 => u128::from(LittleEndian::read_u16(bytes)),
+        4 => u128::from(LittleEndian::read_u32(bytes)),
+        8 => u128::from(LittleEndian::read_u64(bytes)),
+        _ => LittleEndian::read_uint128(bytes, width),
+    }
+}
+
 // A number of so many bytes, and those behind it.
 pub fn number(bytes: &[u8], width: u8) -> Result<(u128, &[u8]), Cause>
     requires { width ≤ 16 }
@@ -35,7 +50,7 @@ pub fn number(bytes: &[u8], width: u8) -> Result<(u128, &[u8]), Cause>
     if width == 0 {
         return Ok((0, rest));
     }
-    Ok((LittleEndian::read_uint128(bytes, width), rest))
+    Ok((low_first(bytes, width), rest))
 }
 
 // A signed number of so many bytes, in two's complement.

@@ -9,6 +9,7 @@ use rzcobs_core::encode;
 ///
 /// The message has at most 2,000 bytes, and the buffer at least 2,288. What lies behind the frame
 /// is left as it was. Takes no memory.
+#[inline(never)]
 pub fn frame(message: &[u8], out: &mut [u8]) -> usize
     requires message { length message.now ≤ 2000 }
     requires room { 2288 ≤ length out.old }

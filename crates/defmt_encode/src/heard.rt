@@ -5,12 +5,13 @@ ghost use Rattle.defmt_values.specs.Plain.{Vals};
 ghost use Rattle.defmt_encode.specs.Heard.{IsHeard};
 ghost use Rattle.defmt_encode.specs.Met.{IsMet};
 ghost use Rattle.defmt_encode.specs.Read.{one_in, logged_of, stamp_form, stamp_at, all_zero, is_padding, message_at};
-ghost use Rattle.defmt_encode.specs.Reads.{now_of, ReadsStamp, ReadsMessage, Answers, GivesOnly, RefusesOnly, answered};
+ghost use Rattle.defmt_encode.specs.Reads.{now_of, ReadsStamp, ReadsMessage, Answers, GivesOnly, RefusesOnly, answered, told, with_stamp};
+ghost use Rattle.defmt_encode.specs.declared.heard.Heard.{Heard as AnyHeard};
 ghost use Rattle.defmt_encode.specs.Stamp.{stamp_of};
 
 use crate::cause::{Cause, Fault};
 use crate::field::index;
-use crate::read::{read_args, suited};
+use crate::read::{read_into, suited};
 use crate::writing::stamp_index;
 use defmt_grammar::Pieces;
 use defmt_intern::{Parsed, Table, Tag};
@@ -94,15 +95,23 @@ fn stamp_form(table: &Table, index: u16) -> Result<&Pieces, Cause>
     }
 }
 
-fn read_stamp<'b>(alloc: Global, table: &Table, bytes: &'b [u8]) -> Result<(Args, &'b [u8]), Fault>
-    ensures { ReadsStamp result (stamp_at table.now (stamp_of table.now) bytes.now) }
+fn read_stamp<'b>(
+    alloc: Global,
+    table: &Table,
+    bytes: &'b [u8],
+    stamp: &mut Args,
+) -> Result<&'b [u8], Fault>
+    ensures { ReadsStamp (with_stamp stamp.new result) (stamp_at table.now (stamp_of table.now) bytes.now) }
 {
     match stamp_index(table) {
-        None => Ok((Args::new(alloc), bytes)),
+        None => {
+            stamp.clear();
+            Ok(bytes)
+        }
         Some(index) => {
             let pieces = stamp_form(table, index)?;
-            let (args, _, rest) = read_args(alloc, table, pieces, 16, 1, 0, bytes)?;
-            Ok((args, rest))
+            let (_, rest) = read_into(alloc, table, pieces, 16, 1, 0, bytes, stamp)?;
+            Ok(rest)
         }
     }
 }
@@ -122,29 +131,67 @@ fn is_padding(bytes: &[u8]) -> bool
     bytes.len() <= 6 && all_zero(bytes)
 }
 
-fn read_whole(alloc: Global, table: &Table, bytes: &[u8]) -> Result<Heard, Fault>
-    ensures { ReadsMessage result (message_at table.now bytes.now) }
+fn read_whole(alloc: Global, table: &Table, bytes: &[u8], heard: &mut Heard) -> Result<(), Fault>
+    ensures { ReadsMessage (told heard.new result) (message_at table.now bytes.now) }
 {
     let (index, rest) = index(bytes)?;
     let pieces = logged(table, index)?;
-    let (stamp, rest) = read_stamp(alloc, table, rest)?;
-    let (args, _, rest) = read_args(alloc, table, pieces, 16, 1, 0, rest)?;
+    let rest = read_stamp(alloc, table, rest, &mut heard.stamp)?;
+    let (_, rest) = read_into(alloc, table, pieces, 16, 1, 0, rest, &mut heard.stm.args)?;
     if !is_padding(rest) {
         return Err(Fault::Bad(Cause::Trailing));
     }
-    Ok(Heard {
-        stamp,
-        stm: Statement { index, args },
-    })
+    heard.stm.index = index;
+    Ok(())
 }
 
 // The answer, with the cause by its number.
-fn answered(read: Result<Heard, Fault>) -> Result<Heard, ReadCause>
-    ensures { result ≡ answered read }
+fn answered(read: Result<(), Fault>) -> Result<(), ReadCause>
+    ensures { (heard : AnyHeard) → told heard result ≡ answered (told heard read) }
 {
     match read {
-        Ok(heard) => Ok(heard),
+        Ok(()) => Ok(()),
         Err(fault) => Err(ReadCause::from(fault)),
+    }
+}
+
+impl Heard {
+    ghost use Rattle.std.specs.Prelude.{◌≡◌, ◌<◌, ◌^◌, ℕ, length};
+    ghost use Rattle.defmt_values.specs.Plain.{Vals, no_vals};
+    ghost use Rattle.defmt_encode.specs.Heard.{IsHeard};
+    ghost use Rattle.defmt_encode.specs.Met.{IsMet};
+    ghost use Rattle.defmt_encode.specs.Reads.{Answers, GivesOnly, RefusesOnly, told};
+
+    /// No stamp, and a statement of the index 0 without arguments. Takes no memory.
+    pub fn new(alloc: Global) -> Self
+        ensures stamp { result.stamp ≡ no_vals }
+        ensures index { result.stm.index ≡ 0 }
+        ensures args { result.stm.args ≡ no_vals }
+    {
+        Heard {
+            stamp: Args::new(alloc),
+            stm: Statement {
+                index: 0,
+                args: Args::new(alloc),
+            },
+        }
+    }
+
+    /// Hears a message as `read_message` reads it, in place of what was heard before. The lists of the arguments
+    /// keep the room that they had, so that one `Heard` for many messages takes less memory than one for each.
+    ///
+    /// # Errors
+    /// Those of `read_message`. What is heard then is of no use.
+    #[inline(never)]
+    pub fn hear(&mut self, alloc: Global, table: &Table, bytes: &[u8]) -> Result<(), ReadCause>
+        requires { length bytes.now < 2 ^ 32 }
+        // A statement is answered only where it is heard, and a cause only where it is met.
+        ensures answer { Answers table.now bytes.now (told self.new result) }
+        // Unless memory runs out, what is heard is answered, and the cause that is met.
+        ensures heard { (stamp : Vals) (index : ℕ) (vs : Vals) → IsHeard table.now bytes.now stamp index vs → GivesOnly (told self.new result) stamp index vs }
+        ensures met { (number : ℕ) → IsMet table.now bytes.now number → RefusesOnly (told self.new result) number }
+    {
+        answered(read_whole(alloc, table, bytes, self))
     }
 }
 
@@ -164,5 +211,7 @@ pub fn read_message(alloc: Global, table: &Table, bytes: &[u8]) -> Result<Heard,
     ensures heard { (stamp : Vals) (index : ℕ) (vs : Vals) → IsHeard table.now bytes.now stamp index vs → GivesOnly result stamp index vs }
     ensures met { (number : ℕ) → IsMet table.now bytes.now number → RefusesOnly result number }
 {
-    answered(read_whole(alloc, table, bytes))
+    let mut heard = Heard::new(alloc);
+    heard.hear(alloc, table, bytes)?;
+    Ok(heard)
 }

@@ -20,7 +20,7 @@ pub fn put(out: &mut [u8], at: usize, byte: u8) -> Result<usize, Long>
     Ok(at + 1)
 }
 
-/// Puts bytes behind the first `at` of a message. The buffer has at least 2,000 bytes, of
+/// Puts bytes behind the first `at` of a message, and leaves what lies behind them as it was. The buffer has at least 2,000 bytes, of
 /// which `at` are put. Answers how many are put then, or `Long` where these would be more than 2,000. Takes no memory.
 pub fn put_bytes(out: &mut [u8], at: usize, bytes: &[u8]) -> Result<usize, Long>
     requires { (2000 ≤ length out.old) × (at ≤ 2000) }
@@ -34,16 +34,29 @@ pub fn put_bytes(out: &mut [u8], at: usize, bytes: &[u8]) -> Result<usize, Long>
     Ok(end)
 }
 
+// Writes the lowest bytes of a number, the lowest first.
+fn write_low_first(bytes: &mut [u8], n: u128)
+    ensures { bytes.new ≡ little_bytes (length bytes.old) n }
+{
+    let mut left = n;
+    for byte in bytes.iter_mut() {
+        *byte = (left % 256) as u8;
+        left /= 256;
+    }
+}
+
 /// Puts the lowest `width` bytes of a number behind the first `at` of a message, the lowest first. The buffer has at least 2,000 bytes, of
 /// which `at` are put. Answers how many are put then, or `Long` where these would be more than 2,000. Takes no memory.
-#[tactic(auto, using(crate::proofs::Numbers::little_step))]
+#[tactic(auto, using(crate::proofs::Numbers::length_little))]
 pub fn put_number(out: &mut [u8], at: usize, n: u128, width: u8) -> Result<usize, Long>
     requires { (2000 ≤ length out.old) × (at ≤ 2000) }
     ensures { Puts out.old out.new at result (little_bytes width n) }
 {
-    if width == 0 {
-        return Ok(at);
+    let width = usize::from(width);
+    if width > 2000 - at {
+        return Err(Long);
     }
-    let at = put(out, at, (n % 256) as u8)?;
-    put_number(out, at, n / 256, width - 1)
+    let end = at + width;
+    write_low_first(&mut out[at..end], n);
+    Ok(end)
 }

@@ -3,7 +3,7 @@ ghost use Rattle.std.specs.Prelude.{◌≡◌, ◌≤◌, ◌<◌, ◌+◌, ◌^
 ghost use Rattle.defmt_grammar.specs.Slots.{IsSound};
 ghost use Rattle.defmt_values.specs.Entries.{look, is_format, is_interned, places_of};
 ghost use Rattle.defmt_encode.specs.Read.{suited, interned_of, istr_at, form_in, form_of, add, variant_of, uint_at, int_at, flag_at, char_at, str_at, slice_at, array_at, window_at, each_at, elem_at, elems_at, node_at, list_at, some_at, slot_at, value_at, below};
-ghost use Rattle.defmt_encode.specs.Reads.{now_of, variant_now, ReadsVal, ReadsVals, ReadsElem, ReadsElems, SumSmall};
+ghost use Rattle.defmt_encode.specs.Reads.{now_of, variant_now, ReadsVal, ReadsVals, ReadsElem, ReadsElems, SumSmall, with_vals};
 
 use crate::cause::{Cause, Fault};
 use crate::field::{
@@ -345,9 +345,9 @@ fn read_list<'b>(
     ))
 }
 
-// The values of a text's arguments, in a text that has this weight.
+// The values of a text's arguments, in a text that has this weight, read into a list in place of what it had.
 #[cycle(read)]
-pub fn read_args<'b>(
+pub fn read_into<'b>(
     alloc: Global,
     table: &Table,
     pieces: &Pieces,
@@ -355,13 +355,14 @@ pub fn read_args<'b>(
     weight: u128,
     sum: u128,
     bytes: &'b [u8],
-) -> Result<(Args, u128, &'b [u8]), Fault>
+    args: &mut Args,
+) -> Result<(u128, &'b [u8]), Fault>
     requires weight { weight ≤ 8192 }
     requires sum { sum ≤ 8192 }
-    ensures value { ReadsVals result (each_at (value_at table.now left) (places_of pieces.now) weight sum bytes.now) }
-    ensures small { SumSmall result }
+    ensures value { ReadsVals (with_vals args.new result) (each_at (value_at table.now left) (places_of pieces.now) weight sum bytes.now) }
+    ensures small { SumSmall (with_vals args.new result) }
 {
-    let mut args = Args::new(alloc);
+    args.clear();
     let mut slots = pieces.slots();
     let mut position = 0u8;
     let mut total = sum;
@@ -383,7 +384,28 @@ pub fn read_args<'b>(
         total = after_sum;
         rest = after;
     }
-    Ok((args, total, rest))
+    Ok((total, rest))
+}
+
+// The same in a list of their own.
+#[cycle(read)]
+fn read_args<'b>(
+    alloc: Global,
+    table: &Table,
+    pieces: &Pieces,
+    left: u8,
+    weight: u128,
+    sum: u128,
+    bytes: &'b [u8],
+) -> Result<(Args, u128, &'b [u8]), Fault>
+    requires weight { weight ≤ 8192 }
+    requires sum { sum ≤ 8192 }
+    ensures value { ReadsVals result (each_at (value_at table.now left) (places_of pieces.now) weight sum bytes.now) }
+    ensures small { SumSmall result }
+{
+    let mut args = Args::new(alloc);
+    let (sum, rest) = read_into(alloc, table, pieces, left, weight, sum, bytes, &mut args)?;
+    Ok((args, sum, rest))
 }
 
 // The elements of a list, which are pushed one by one.

@@ -124,16 +124,19 @@ fn a_word_is_its_index_and_at_most_six_zeros(rt: HostRuntime) -> Result<(), Fail
     Ok(())
 }
 
+// The frame of a statement with one argument, of a table with one string.
+fn framed(alloc: Global, text: &str, value: Value) -> Result<Vec<u8>, Fail> {
+    let table = table_of(alloc, text)?;
+    let message = message_of(alloc, &table, None, 1, one(alloc, value)?)?;
+    frame_of(alloc, &message)
+}
+
 #[test]
 fn numbers_and_bit_fields_are_framed(rt: HostRuntime) -> Result<(), Fail> {
     let alloc = rt.alloc();
-    let table = table_of(alloc, "{=u8:#04x} {0=u8:b}")?;
-    let message = message_of(alloc, &table, None, 1, one(alloc, Value::Uint(10))?)?;
-    let frame = frame_of(alloc, &message)?;
+    let frame = framed(alloc, "{=u8:#04x} {0=u8:b}", Value::Uint(10))?;
     assert_eq!(rt; frame.as_slice(), [0, 1, 0x0a, 0x7a, 0].as_slice());
-    let table = table_of(alloc, "{0=0..4} {0=8..12:#b}")?;
-    let message = message_of(alloc, &table, None, 1, one(alloc, Value::Bits(0x0a05))?)?;
-    let frame = frame_of(alloc, &message)?;
+    let frame = framed(alloc, "{0=0..4} {0=8..12:#b}", Value::Bits(0x0a05))?;
     assert_eq!(rt; frame.as_slice(), [0, 1, 5, 0x0a, 0x72, 0].as_slice());
     Ok(())
 }
@@ -141,11 +144,8 @@ fn numbers_and_bit_fields_are_framed(rt: HostRuntime) -> Result<(), Fail> {
 #[test]
 fn a_long_text_is_framed(rt: HostRuntime) -> Result<(), Fail> {
     let alloc = rt.alloc();
-    let table = table_of(alloc, "{=str}")?;
     let text = text_of(alloc, "abcdefghijklmnopqrstuvwxyzabcdefgh")?;
-    let message = message_of(alloc, &table, None, 1, one(alloc, Value::Str(text))?)?;
-    assert_eq!(rt; message.len(), 40);
-    let frame = frame_of(alloc, &message)?;
+    let frame = framed(alloc, "{=str}", Value::Str(text))?;
     assert_eq!(rt; frame.len(), 40);
     assert!(rt; frame.starts_with(&[0, 1, 0x22, 0x61, 0x3a]));
     assert!(rt; frame.ends_with(&[0x9a, 0]));
@@ -264,24 +264,16 @@ fn lists_are_counted_up_to_the_limit(rt: HostRuntime) -> Result<(), Fail> {
 #[test]
 fn fields_are_refused_with_their_causes(rt: HostRuntime) -> Result<(), Fail> {
     let alloc = rt.alloc();
-    assert_eq!(rt; cause_for(alloc, "hello", &[2, 0])?, Some(2));
-    assert_eq!(rt; cause_for(alloc, "{=f32}", &[1, 0])?, Some(4));
-    assert_eq!(rt;
-        cause_for(alloc, "{=u128}", &[1, 0, 0, 0, 0, 0, 0])?,
-        Some(5)
-    );
-    assert_eq!(rt;
-        cause_for(alloc, "{=bool}", &[1, 0, 2, 0, 0, 0, 0])?,
-        Some(6)
-    );
-    assert_eq!(rt;
-        cause_for(alloc, "{=char}", &[1, 0, 0, 0xd8, 0, 0, 0])?,
-        Some(7)
-    );
-    assert_eq!(rt;
-        cause_for(alloc, "{=str}", &[1, 0, 1, 0, 0, 0, 0xff])?,
-        Some(8)
-    );
+    for (text, bytes, number) in [
+        ("hello", [2u8, 0].as_slice(), 2u8),
+        ("{=f32}", [1, 0].as_slice(), 4),
+        ("{=u128}", [1, 0, 0, 0, 0, 0, 0].as_slice(), 5),
+        ("{=bool}", [1, 0, 2, 0, 0, 0, 0].as_slice(), 6),
+        ("{=char}", [1, 0, 0, 0xd8, 0, 0, 0].as_slice(), 7),
+        ("{=str}", [1, 0, 1, 0, 0, 0, 0xff].as_slice(), 8),
+    ] {
+        assert_eq!(rt; cause_for(alloc, text, bytes)?, Some(number));
+    }
     Ok(())
 }
 
@@ -293,16 +285,19 @@ fn entries_are_refused_with_their_causes(rt: HostRuntime) -> Result<(), Fail> {
     add(alloc, &mut table, Tag::Prim, "{=?}")?;
     let other = text_of(alloc, "defmt_bitflags")?;
     add(alloc, &mut table, Tag::Other(other), "")?;
-    assert_eq!(rt; cause(alloc, &table, &[2, 0])?, Some(3));
-    assert_eq!(rt; cause(alloc, &table, &[4, 0])?, Some(4));
-    assert_eq!(rt; cause(alloc, &table, &[1, 0, 1, 0])?, Some(3));
-    assert_eq!(rt; cause(alloc, &table, &[1, 0, 2, 0, 1])?, None);
-    assert_eq!(rt; cause(alloc, &table, &[1, 0, 2, 0, 2, 0, 0])?, Some(9));
-    let mut deep = vec![in alloc; 1u8, 0]?;
-    for _ in 0..17 {
-        deep.push(3)?;
-        deep.push(0)?;
+    let deep = [
+        1u8, 0, 3, 0, 3, 0, 3, 0, 3, 0, 3, 0, 3, 0, 3, 0, 3, 0, 3, 0, 3, 0, 3, 0, 3, 0, 3, 0, 3, 0,
+        3, 0, 3, 0, 3, 0,
+    ];
+    for (bytes, expected) in [
+        ([2u8, 0].as_slice(), Some(3u8)),
+        ([4, 0].as_slice(), Some(4)),
+        ([1, 0, 1, 0].as_slice(), Some(3)),
+        ([1, 0, 2, 0, 1].as_slice(), None),
+        ([1, 0, 2, 0, 2, 0, 0].as_slice(), Some(9)),
+        (deep.as_slice(), Some(10)),
+    ] {
+        assert_eq!(rt; cause(alloc, &table, bytes)?, expected);
     }
-    assert_eq!(rt; cause(alloc, &table, &deep)?, Some(10));
     Ok(())
 }

@@ -2,7 +2,7 @@
 ghost use Rattle.std.specs.Prelude.{◌≡◌, ◌≤◌, ◌++◌, ◌/◌, ◌^◌, [], length, ℕ};
 ghost use Rattle.byteorder.specs.Endian.{little_bytes};
 ghost use Rattle.defmt_encode.specs.Carry.{size_bytes, uint_width, int_width, flag_byte, length_bytes, window_width, window_first, variant_byte, count_bytes, index_bytes, node_slots, own_slots, stamp_slots, stamp_args, bytes_val, bytes_vals, bytes_elems, message_of};
-ghost use Rattle.defmt_encode.specs.Out.{Puts, Writes};
+ghost use Rattle.defmt_encode.specs.Out.{HasAtMost, HaveAtMost, Puts, Writes};
 ghost use Rattle.defmt_encode.specs.Stamp.{stamp_of};
 ghost use Rattle.defmt_values.specs.Scan.{index_or};
 ghost use Rattle.defmt_values.specs.View.{plain};
@@ -11,6 +11,9 @@ use crate::put::{Long, put, put_bytes, put_number};
 use defmt_grammar::{IntSize, Kind, Slot};
 use defmt_intern::Table;
 use defmt_values::{Args, Item, Items, Statement, Value, cut, form_of, own_form, pick, power};
+
+// With at most so many bytes of arguments a message is short, with any stamp.
+const SHORT: usize = 2000 - 18;
 
 /// How many bytes an integer of a size has. Native integers have four. Takes no memory.
 pub fn size_bytes(size: IntSize) -> u8
@@ -313,6 +316,36 @@ fn put_stamp(table: &Table, stamp: Option<u64>, out: &mut [u8], at: usize) -> Re
     }
 }
 
+// The most bytes that a value has in a message, whatever its slot: more than a whole message may have where values stand
+// in it, or where the slot alone tells.
+fn most_bytes(value: &Value) -> usize
+    ensures { result ≤ 2000 → HasAtMost (plain value.now) result }
+{
+    match value {
+        Value::Bool(_) => 1,
+        Value::Istr(_) => 2,
+        Value::Char(_) => 4,
+        Value::Uint(_) => 16,
+        Value::Int(_) => 16,
+        Value::Str(text) => text.len().saturating_add(4),
+        Value::Bytes(bytes) => bytes.len().saturating_add(4),
+        Value::Bits(_) | Value::Format(_) | Value::Seq(_) => 2001,
+    }
+}
+
+// The same of values one after another.
+fn most_of(args: &Args) -> usize
+    ensures { result ≤ 2000 → HaveAtMost args.now result }
+{
+    let mut values = args.as_slice();
+    let mut most = 0usize;
+    'each: while let Some((value, more)) = cut(values) {
+        most = most.saturating_add(most_bytes(value));
+        values = more;
+    }
+    most
+}
+
 fn put_message(
     table: &Table,
     stamp: Option<u64>,
@@ -325,6 +358,23 @@ fn put_message(
     let at = put_number(out, 0, u128::from(stm.index), 2)?;
     let at = put_stamp(table, stamp, out, at)?;
     put_args(table, own_slots(table, stm.index), &stm.args, out, at)
+}
+
+// The same through a buffer of its own, so that a message that is too long leaves the buffer as it was.
+#[inline(never)]
+fn message_by_copy(
+    table: &Table,
+    stamp: Option<u64>,
+    stm: &Statement,
+    out: &mut [u8],
+) -> Result<usize, Long>
+    requires { 2000 ≤ length out.old }
+    ensures { Writes out.old out.new result (message_of table.now (stamp_args stamp) stm.now.index stm.now.args) }
+{
+    let mut whole = [0u8; 2000];
+    let count = put_message(table, stamp, stm, &mut whole)?;
+    out[..count].copy_from_slice(&whole[..count]);
+    Ok(count)
 }
 
 /// Writes the message of a statement to the front of a buffer, and answers how many bytes it has
@@ -346,8 +396,8 @@ pub fn message(
     requires { 2000 ≤ length out.old }
     ensures { Writes out.old out.new result (message_of table.now (stamp_args stamp) stm.now.index stm.now.args) }
 {
-    let mut whole = [0u8; 2000];
-    let count = put_message(table, stamp, stm, &mut whole)?;
-    out[..count].copy_from_slice(&whole[..count]);
-    Ok(count)
+    if most_of(&stm.args) <= SHORT {
+        return put_message(table, stamp, stm, out);
+    }
+    message_by_copy(table, stamp, stm, out)
 }

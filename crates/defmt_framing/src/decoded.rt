@@ -17,6 +17,7 @@ pub fn decoded_is()
 /// The buffer has at least seven times as many bytes as the piece. `None` comes exactly where no
 /// sequence of blocks is the piece. The buffer may hold anything then, and behind what was
 /// written. Takes no memory.
+#[inline(never)]
 pub fn decode_piece(piece: &[u8], out: &mut [u8]) -> Option<usize>
     requires { 7 * length piece.now ≤ length out.old }
     ensures decoded { decoded piece.now ≡ option_map (λ count. take count out.new) result }

@@ -33,7 +33,7 @@ some_first [] h = absurd (omega arith)
 some_first (d ∷ []) h = tt
 some_first (d ∷ e ∷ ds) h = h
 
-above_zero : (n : ℕ) → eqb n 0 ≡ false → 0 < n
+pub above_zero : (n : ℕ) → eqb n 0 ≡ false → 0 < n
 above_zero n e = grind (arith, nat_tests)
 
 pub no_zero : (n : ℕ) → 0 < n → eqb n 0 ≡ false

@@ -40,21 +40,23 @@ zeros_and_one k w g =
     ∙ ap (λ (i : ℕ). set (replicate k 48 ++ 48 ∷ w) i g) (sym (length-replicate k 48))
     ∙ set-append_seam (replicate k 48) 48 w g
 
-digit_before : (base rest : ℕ) (upper : Bool) (w : List ℕ) → 2 ≤ base → 0 < rest → map (digit_glyph upper) (digits_of base rest) ++ w ≡ map (digit_glyph upper) (digits_of base (rest / base)) ++ digit_glyph upper (rest % base) ∷ w
+pub digit_before : (base rest : ℕ) (upper : Bool) (w : List ℕ) → 2 ≤ base → 0 < rest → map (digit_glyph upper) (digits_of base rest) ++ w ≡ map (digit_glyph upper) (digits_of base (rest / base)) ++ digit_glyph upper (rest % base) ∷ w
 digit_before base rest upper w two some =
     ap (λ (t : List ℕ). map (digit_glyph upper) t ++ w) (digits_of_step base rest two some)
     ∙ ap (λ (t : List ℕ). t ++ w) (map_push (digit_glyph upper) (digits_of base (rest / base)) (rest % base))
     ∙ append_assoc (map (digit_glyph upper) (digits_of base (rest / base))) (digit_glyph upper (rest % base) ∷ []) w
 
-pub filled_more : (base value : ℕ) (upper : Bool) (rest start : ℕ) (buffer : List ℕ) (g : ℕ) → Filled base value upper rest start buffer → 2 ≤ base → 0 < rest → g ≡ digit_glyph upper (rest % base) → Filled base value upper (rest / base) (start - 1) (set buffer (start - 1) g)
-filled_more base value upper rest start buffer g h two some e =
+pub filled_more : (base value : ℕ) (upper : Bool) (rest start : ℕ) (buffer : List ℕ) (g higher : ℕ) → Filled base value upper rest start buffer → 2 ≤ base → 0 < rest → higher ≡ rest / base → g ≡ digit_glyph upper (rest % base) → Filled base value upper higher (start - 1) (set buffer (start - 1) g)
+filled_more base value upper rest start buffer g higher h two some q e =
     let back : start ≡ start - 1 + 1 = omega (arith, h.room) in
     record {
       written = g ∷ h.written;
       buffer_is = ap (λ (t : List ℕ). set t (start - 1) g) (h.buffer_is ∙ ap (λ (n : ℕ). replicate n 48 ++ h.written) back) ∙ zeros_and_one (start - 1) h.written g;
-      digits_are = h.digits_are ∙ digit_before base rest upper h.written two some ∙ ap (λ (x : ℕ). map (digit_glyph upper) (digits_of base (rest / base)) ++ x ∷ h.written) (sym e);
+      digits_are = h.digits_are ∙ digit_before base rest upper h.written two some
+          ∙ ap (λ (x : ℕ). map (digit_glyph upper) (digits_of base (rest / base)) ++ x ∷ h.written) (sym e)
+          ∙ ap (λ (n : ℕ). map (digit_glyph upper) (digits_of base n) ++ g ∷ h.written) (sym q);
       places = omega (arith, h.places, h.room);
-      room = omega (arith, h.room, length-digits_of_step base rest two some);
+      room = omega (arith, h.room, length-digits_of_step base rest two some, ap (λ (n : ℕ). length (digits_of base n)) q);
     }
 
 drop_zeros : (m s : ℕ) (w : List ℕ) → m ≤ s → drop m (replicate s 48 ++ w) ≡ replicate (s - m) 48 ++ w

@@ -1,4 +1,5 @@
 pub mod AppendsLaws
+pub mod Decimals
 pub mod DigitsLaws
 pub mod FillLaws
 pub mod RunLaws

@@ -1,6 +1,6 @@
 -- The printed text of a value under a hint, case by case: the display hints of the defmt book, with the texts of Rust's
 -- formatting. A text is the list of its UTF-8 bytes.
-use Rattle.std.specs.Prelude.{◌<◌, ◌-◌, ◌/◌, ◌%◌, ◌^◌, ℕ, suc, ℤ, pos, negsuc, Bool, true, false, List, [], ◌∷◌, ◌++◌, length, map, codes, encode_utf8, if◌then◌else◌}
+use Rattle.std.specs.Prelude.{◌-◌, ◌/◌, ◌%◌, ◌^◌, ℕ, suc, ℤ, pos, negsuc, Bool, true, false, List, [], ◌∷◌, ◌++◌, length, map, codes, encode_utf8, if◌then◌else◌}
 use Rattle.std.specs.List.{flat_map}
 use Rattle.defmt_grammar.specs.declared.hint.Base.{Base}
 use Rattle.defmt_grammar.specs.declared.hint.Base.TheVariants.{Hex, HexUpper, Binary, Octal}

@@ -1,6 +1,6 @@
 //! Digits of numbers.
 
-ghost use Rattle.std.specs.Prelude.{◌≡◌, ◌<◌, ◌≤◌, ◌^◌, ℕ, List, Bool, length};
+ghost use Rattle.std.specs.Prelude.{◌≡◌, ◌<◌, ◌≤◌, ◌/◌, ◌%◌, ◌^◌, ℕ, List, Bool, length};
 ghost use Rattle.std.specs.Fmt.{digit_glyph};
 ghost use Rattle.std.specs.Str.{IsUtf8};
 ghost use Rattle.defmt_hints.specs.Appends.{Appends};
@@ -44,11 +44,26 @@ fn glyph(digit: u8, upper: bool) -> u8
     }
 }
 
+/// The quotient and the remainder of a division, in 64 bits wherever they hold the number.
+pub fn divided(number: u128, by: u64) -> (u128, u64)
+    requires { 0 < by }
+    ensures quotient { result.0 ≡ number / by }
+    ensures remainder { result.1 ≡ number % by }
+    ensures small { result.1 < by }
+{
+    if number <= u64::MAX as u128 {
+        let low = number as u64;
+        return ((low / by) as u128, low % by);
+    }
+    let wide = by as u128;
+    (number / wide, (number % wide) as u64)
+}
+
 /// Appends the digits of a value in a base, with zeros in front up to a width.
 pub fn push_digits(
     out: &mut Text,
     value: u128,
-    base: u128,
+    base: u64,
     upper: bool,
     width: u8,
 ) -> Result<(), Memory>
@@ -60,9 +75,10 @@ pub fn push_digits(
     let mut start = ROOM;
     let mut rest = value;
     'digits: while rest != 0 {
+        let (higher, digit) = divided(rest, base);
         start -= 1;
-        buffer[start] = glyph((rest % base) as u8, upper);
-        rest /= base;
+        buffer[start] = glyph(digit as u8, upper);
+        rest = higher;
     }
     // The digit of 0 is one of the zeros that fill the buffer.
     let first = start.min(ROOM - usize::from(width.max(1)));

@@ -5,17 +5,19 @@ ghost use Rattle.defmt_hints.specs.Appends.{Appends};
 ghost use Rattle.defmt_grammar.specs.Sizes.{size_bits, IsSigned};
 ghost use Rattle.defmt_hints.specs.Printed.{twos_complement, base_number, base_prefix, is_upper, prefix_text, radix_text, fraction_text, decimal_text, signed_text, printed_uint, printed_int};
 
-use crate::digits::{push, push_digits};
+use crate::digits::{divided, push, push_digits};
 use defmt_grammar::{Base, Hint, IntSize, Memory, Text};
+use itoa::Buffer;
 
 /// Appends the decimal digits of a value.
 pub fn push_decimal(out: &mut Text, value: u128) -> Result<(), Memory>
     ensures { Appends result out.old out.new (decimal_text value) }
 {
-    push_digits(out, value, 10, false, 0)
+    let mut buffer = Buffer::new();
+    push(out, buffer.format(value))
 }
 
-fn base_number(base: Base) -> u128
+fn base_number(base: Base) -> u64
     ensures { result ≡ base_number base }
 {
     match base {
@@ -65,13 +67,14 @@ pub fn push_radix(
 }
 
 /// Appends a value divided by a unit, with so many digits after the point.
-fn push_fraction(out: &mut Text, value: u128, unit: u128, places: u8) -> Result<(), Memory>
+fn push_fraction(out: &mut Text, value: u128, unit: u64, places: u8) -> Result<(), Memory>
     requires { 0 < unit }
     ensures { Appends result out.old out.new (fraction_text unit places value) }
 {
-    push_decimal(out, value / unit)?;
+    let (units, parts) = divided(value, unit);
+    push_decimal(out, units)?;
     push(out, ".")?;
-    push_digits(out, value % unit, 10, false, places)
+    push_digits(out, parts as u128, 10, false, places)
 }
 
 /// Appends an unsigned number under a display hint of the defmt book: in decimal, in the hint's base as Rust prints it,

@@ -1,6 +1,6 @@
 //! The string table.
 
-ghost use Rattle.std.specs.Prelude.{◌≡◌, ◌≤◌, ℕ, length, OnOk, OnErr, IfOk, IsSome, MatchOption, option_map};
+ghost use Rattle.std.specs.Prelude.{◌≡◌, ◌≤◌, ℕ, length, OnOk, OnErr, IfOk, IsSome, MatchOption, None, Some, option_map};
 ghost use Rattle.std.specs.Option.{option_copied};
 ghost use Rattle.std.specs.FinMap as map;
 ghost use Rattle.defmt_intern.specs.Body.{body_of};
@@ -146,6 +146,17 @@ impl Table {
     {
         match self.entries.get(&index) {
             Some(kept) => Some(&kept.parsed),
+            None => None,
+        }
+    }
+
+    /// The entry at an index, and what its text stands for. Takes no memory.
+    pub fn look(&self, index: u16) -> Option<(&Entry, &Parsed)>
+        ensures { MatchOption result (map.get self.now index ≡ None)
+            (λ p. (map.get self.now index ≡ Some p.0.now) × (p.1.now ≡ body_of p.0.now)) }
+    {
+        match self.entries.get(&index) {
+            Some(kept) => Some((&kept.entry, &kept.parsed)),
             None => None,
         }
     }

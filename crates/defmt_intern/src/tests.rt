@@ -1,5 +1,4 @@
-ghost use Rattle.std.specs.Prelude.{◌≤◌, length};
-
+//! Tables, what their texts stand for, and symbol names.
 use super::*;
 use crate::entry::copy_of;
 use defmt_grammar::{Kind, Piece, Text};
@@ -58,66 +57,77 @@ fn body_text(alloc: Global, parsed: Option<&Parsed>) -> Result<String, Fail> {
     }
 }
 
-#[test]
-fn entries_are_put_behind_the_greatest_index(rt: HostRuntime) -> Result<(), Fail> {
-    let alloc = rt.alloc();
-    let mut table = Table::new(alloc);
-    assert_eq!(rt; table.len(), 0);
-    assert_eq!(rt; table.add(entry_of(alloc, Tag::Info, "hello")?), Ok(1));
-    assert_eq!(rt; table.add(entry_of(alloc, Tag::Warn, "b")?), Ok(2));
-    assert_eq!(rt;
-        table.insert(65535, entry_of(alloc, Tag::Info, "c")?),
-        Ok(())
-    );
-    assert_eq!(rt;
-        table.add(entry_of(alloc, Tag::Info, "d")?),
-        Err(TableFault::Refused { cause: 1 })
-    );
-    assert_eq!(rt; table.len(), 3);
-    assert_eq!(rt; table.get(2).map(|entry| entry.text.as_str()), Some("b"));
-    assert_eq!(rt; table.get(3).is_none(), true);
-    Ok(())
+/// Puts an entry at an index, or behind the others where there is none, and answers where it is.
+fn put(table: &mut Table, index: Option<u16>, entry: Entry) -> Result<u16, TableFault> {
+    let Some(index) = index else {
+        return table.add(entry);
+    };
+    table.insert(index, entry)?;
+    Ok(index)
 }
 
 #[test]
-fn refusals_leave_the_table(rt: HostRuntime) -> Result<(), Fail> {
+fn entries_are_put_behind_the_greatest_index_and_refusals_leave_the_table(
+    rt: HostRuntime,
+) -> Result<(), Fail> {
     let alloc = rt.alloc();
     let mut table = Table::new(alloc);
-    assert_eq!(rt;
-        table.insert(1, entry_of(alloc, Tag::Info, "first")?),
-        Ok(())
-    );
-    assert_eq!(rt;
-        table.insert(1, entry_of(alloc, Tag::Info, "second")?),
-        Err(TableFault::Refused { cause: 2 })
-    );
-    let mut long = entry_of(alloc, Tag::Info, "")?;
-    long.text = long_text(alloc, 4097)?;
-    assert_eq!(rt;
-        table.insert(1, long),
-        Err(TableFault::Refused { cause: 2 })
-    );
-    let mut long = entry_of(alloc, Tag::Timestamp, "")?;
-    long.text = long_text(alloc, 4097)?;
-    assert_eq!(rt; table.add(long), Err(TableFault::Refused { cause: 4 }));
-    let mut full = entry_of(alloc, Tag::Info, "")?;
-    full.text = long_text(alloc, 4096)?;
-    assert_eq!(rt; table.add(full), Ok(2));
-    assert_eq!(rt; table.stamp(), None);
-    assert_eq!(rt;
-        table.insert(9, entry_of(alloc, Tag::Timestamp, "{=u64:us}")?),
-        Ok(())
-    );
-    assert_eq!(rt; table.stamp(), Some(9));
-    assert_eq!(rt;
-        table.add(entry_of(alloc, Tag::Timestamp, "{=u64}")?),
-        Err(TableFault::Refused { cause: 5 })
-    );
+    for (index, tag, len, want, stamp) in [
+        (None, "defmt_info", 5, Ok(1), None),
+        (
+            Some(1),
+            "defmt_info",
+            6,
+            Err(TableFault::Refused { cause: 2 }),
+            None,
+        ),
+        (
+            Some(1),
+            "defmt_info",
+            4097,
+            Err(TableFault::Refused { cause: 2 }),
+            None,
+        ),
+        (
+            None,
+            "defmt_timestamp",
+            4097,
+            Err(TableFault::Refused { cause: 4 }),
+            None,
+        ),
+        (None, "defmt_warn", 4096, Ok(2), None),
+        (Some(9), "defmt_timestamp", 8, Ok(9), Some(9)),
+        (
+            None,
+            "defmt_timestamp",
+            5,
+            Err(TableFault::Refused { cause: 5 }),
+            Some(9),
+        ),
+        (Some(65535), "defmt_info", 1, Ok(65535), Some(9)),
+        (
+            None,
+            "defmt_info",
+            1,
+            Err(TableFault::Refused { cause: 1 }),
+            Some(9),
+        ),
+    ] {
+        let mut entry = entry_of(alloc, Tag::of_name(alloc, tag)?, "")?;
+        entry.text = long_text(alloc, len)?;
+        let answer = put(&mut table, index, entry);
+        assert_eq!(rt;
+            (answer, table.stamp()),
+            (want, stamp),
+            "{tag} of {len} bytes"
+        );
+    }
+    assert_eq!(rt; table.len(), 4);
     assert_eq!(rt;
         table.get(1).map(|entry| entry.text.as_str()),
-        Some("first")
+        Some("aaaaa")
     );
-    assert_eq!(rt; table.len(), 3);
+    assert_eq!(rt; table.get(3).is_none(), true);
     Ok(())
 }
 
@@ -125,31 +135,21 @@ fn refusals_leave_the_table(rt: HostRuntime) -> Result<(), Fail> {
 fn texts_are_parsed_by_their_tags(rt: HostRuntime) -> Result<(), Fail> {
     let alloc = rt.alloc();
     let mut table = Table::new(alloc);
-    table.add(entry_of(alloc, Tag::Info, "n {=u8:q}")?)?;
-    table.add(entry_of(alloc, Tag::Interned, "{=u9}")?)?;
-    table.add(entry_of(alloc, Tag::Prim, "None|Some({=?})")?)?;
-    table.add(entry_of(alloc, Tag::Info, "a|b")?)?;
-    table.add(entry_of(alloc, Tag::Other(copy_of(alloc, "defmt_bitflags")?), "x")?)?;
-    table.add(entry_of(alloc, Tag::Info, "{=f32}")?)?;
-    table.add(entry_of(alloc, Tag::Write, "a|{=u9}")?)?;
-    table.add(entry_of(alloc, Tag::Derived, "||")?)?;
-    table.add(entry_of(alloc, Tag::Derived, "Pt {{ x: {=?} }}")?)?;
-    assert_eq!(rt; body_text(alloc, table.parsed(0))?.as_str(), "nothing");
-    assert_eq!(rt; body_text(alloc, table.parsed(1))?.as_str(), "n <uint>");
-    assert_eq!(rt; body_text(alloc, table.parsed(2))?.as_str(), "raw");
-    assert_eq!(rt;
-        body_text(alloc, table.parsed(3))?.as_str(),
-        "|None|Some(<format>)"
-    );
-    assert_eq!(rt; body_text(alloc, table.parsed(4))?.as_str(), "a|b");
-    assert_eq!(rt; body_text(alloc, table.parsed(5))?.as_str(), "unsupported");
-    assert_eq!(rt; body_text(alloc, table.parsed(6))?.as_str(), "unsupported");
-    assert_eq!(rt; body_text(alloc, table.parsed(7))?.as_str(), "unsupported");
-    assert_eq!(rt; body_text(alloc, table.parsed(8))?.as_str(), "|||");
-    assert_eq!(rt;
-        body_text(alloc, table.parsed(9))?.as_str(),
-        "Pt { x: <format> }"
-    );
+    assert_eq!(rt; body_text(alloc, table.parsed(1))?.as_str(), "nothing");
+    for (tag, text, want) in [
+        ("defmt_info", "n {=u8:q}", "n <uint>"),
+        ("defmt_str", "{=u9}", "raw"),
+        ("defmt_prim", "None|Some({=?})", "|None|Some(<format>)"),
+        ("defmt_info", "a|b", "a|b"),
+        ("defmt_bitflags", "x", "unsupported"),
+        ("defmt_info", "{=f32}", "unsupported"),
+        ("defmt_write", "a|{=u9}", "unsupported"),
+        ("defmt_derived", "||", "|||"),
+        ("defmt_derived", "Pt {{ x: {=?} }}", "Pt { x: <format> }"),
+    ] {
+        let index = table.add(entry_of(alloc, Tag::of_name(alloc, tag)?, text)?)?;
+        assert_eq!(rt; body_text(alloc, table.parsed(index))?.as_str(), want);
+    }
     Ok(())
 }
 
@@ -172,9 +172,9 @@ fn count_of_variants(alloc: Global, bars: usize) -> Result<usize, Fail> {
 #[test]
 fn more_than_255_variants_are_unsupported(rt: HostRuntime) -> Result<(), Fail> {
     let alloc = rt.alloc();
-    assert_eq!(rt; count_of_variants(alloc, 1)?, 2);
-    assert_eq!(rt; count_of_variants(alloc, 254)?, 255);
-    assert_eq!(rt; count_of_variants(alloc, 255)?, 0);
+    for (bars, count) in [(1, 2), (254, 255), (255, 0)] {
+        assert_eq!(rt; count_of_variants(alloc, bars)?, count);
+    }
     Ok(())
 }
 
@@ -235,33 +235,34 @@ fn fault_of(alloc: Global, name: &[u8]) -> Option<NameFault> {
 #[test]
 fn what_is_no_name_is_refused(rt: HostRuntime) {
     let alloc = rt.alloc();
-    assert_eq!(rt; fault_of(alloc, b"{"), Some(NameFault::Json));
-    assert_eq!(rt; fault_of(alloc, b"[]"), Some(NameFault::Json));
-    assert_eq!(rt; fault_of(alloc, b"{}{}"), Some(NameFault::Json));
-    assert_eq!(rt; fault_of(alloc, b"{\"a\":\"\xff\"}"), Some(NameFault::Json));
-    assert_eq!(rt;
-        fault_of(alloc, b"{\"tag\":\"defmt_info\"}"),
-        Some(NameFault::Key {
-            key: NameKey::Package
-        })
-    );
-    assert_eq!(rt;
-        fault_of(alloc, b"{\"package\":\"p\",\"tag\":7}"),
-        Some(NameFault::Key { key: NameKey::Tag })
-    );
-    assert_eq!(rt;
-        fault_of(alloc, b"{\"package\":\"p\",\"tag\":\"t\"}"),
-        Some(NameFault::Key { key: NameKey::Data })
-    );
-    assert_eq!(rt;
-        fault_of(
-            alloc,
-            b"{\"package\":\"p\",\"tag\":\"t\",\"data\":\"\",\"disambiguator\":null}"
+    for (name, fault) in [
+        (b"{".as_slice(), NameFault::Json),
+        (b"[]", NameFault::Json),
+        (b"{}{}", NameFault::Json),
+        (b"{\"a\":\"\xff\"}", NameFault::Json),
+        (
+            b"{\"tag\":\"defmt_info\"}",
+            NameFault::Key {
+                key: NameKey::Package,
+            },
         ),
-        Some(NameFault::Key {
-            key: NameKey::Disambiguator
-        })
-    );
+        (
+            b"{\"package\":\"p\",\"tag\":7}",
+            NameFault::Key { key: NameKey::Tag },
+        ),
+        (
+            b"{\"package\":\"p\",\"tag\":\"t\"}",
+            NameFault::Key { key: NameKey::Data },
+        ),
+        (
+            b"{\"package\":\"p\",\"tag\":\"t\",\"data\":\"\",\"disambiguator\":null}",
+            NameFault::Key {
+                key: NameKey::Disambiguator,
+            },
+        ),
+    ] {
+        assert_eq!(rt; fault_of(alloc, name), Some(fault));
+    }
 }
 
 #[test]

@@ -1,3 +1,4 @@
 mod LineCuts
 mod Numbers
 mod Verdicts
+mod Spaces

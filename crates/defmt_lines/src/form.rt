@@ -55,17 +55,17 @@ impl Form {
     }
 }
 
-/// The form that a line's first word gives it.
+/// The form that a line's first word gives it. Most lines are statements, so that word is looked for first.
 pub fn form_of(word: &str) -> Option<Form>
     ensures { result ≡ form_of word.now }
 {
     match word {
+        "w" => Some(Form::Statement),
+        "s" => Some(Form::Entry),
         "ring" => Some(Form::Ring),
         "mode" => Some(Form::Mode),
         "reader" => Some(Form::Reader),
         "stamp" => Some(Form::Stamp),
-        "s" => Some(Form::Entry),
-        "w" => Some(Form::Statement),
         _ => None,
     }
 }

@@ -77,7 +77,12 @@ fn by_form(form: Form, rest: &str) -> Option<Line<'_>>
 fn cut(text: &str) -> Option<(&str, &str)>
     ensures { parts_of result ≡ cut 32 text.now }
 {
-    text.split_once(' ')
+    for (i, byte) in text.as_bytes().iter().enumerate() {
+        if *byte == b' ' {
+            return Some((&text[..i], &text[i + 1..]));
+        }
+    }
+    None
 }
 
 // The text, where it is one field.

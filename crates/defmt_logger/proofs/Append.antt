@@ -111,7 +111,7 @@ leaves_more s before frame Whole f g h l = omega (arith, h, l)
 leaves_more s before frame (Dropped need room) f g h l = omega (arith, h, l)
 leaves_more s before frame (Cut need room) f g h l = omega (arith, h, l)
 
-released_more : (s : Script) (tape : List Mark) (f g : ℕ) → f ≤ g → Released s tape f → Released s tape g
+pub released_more : (s : Script) (tape : List Mark) (f g : ℕ) → f ≤ g → Released s tape f → Released s tape g
 released_more s tape f g h r = λ before after m e. leaves_more s before (mark_frame s m) m.fate f g h (r before after m e)
 
 seen_by : (s : Script) (tape : List Mark) (u v : Up) (left : ℕ) → u.sent ≡ stream_of s tape → u.size ≡ s.settings.ring → Released s tape u.freed → u.freed ≤ v.freed

@@ -1,5 +1,5 @@
--- The statements of a script have short messages, and frames aren't empty.
-use Rattle.std.proofs.Common.{◌≡◌, ℕ, zero, suc, ◌<◌, ◌≤◌, List, [], ◌∷◌, Option, Some, None, length, take, sym, ap, ◌∙◌, subst, arith}
+-- A writer's statements are sound, and frames aren't empty.
+use Rattle.std.proofs.Common.{◌≡◌, ℕ, zero, suc, ◌<◌, List, [], ◌∷◌, Option, Some, None, length, take, sym, ap, ◌∙◌, subst, arith}
 use Rattle.std.specs.Prelude.{slice_get, slice_index_or}
 use Rattle.std.specs.List.{AllByRecursion}
 use Rattle.std.proofs.lemmas.Option.{same_Some}
@@ -8,7 +8,6 @@ use Rattle.defmt_intern.specs.Table.{Map}
 use Rattle.defmt_logger.specs.Tape.{frame_at, frame_with, statements_of, stamp_in}
 use Rattle.defmt_script.specs.Lawful.{IsLawful, IsSound}
 use Rattle.defmt_script.specs.Script.{Script}
-use Rattle.defmt_values.specs.Plain.{Vals}
 use Rattle.defmt_values.specs.declared.value.Statement.{Statement}
 
 at_place : {X : Type 0} (P : X → Type 0) (xs : List X) (i : ℕ) (x : X) → AllByRecursion P xs → slice_get xs i ≡ Some x → P x
@@ -25,12 +24,6 @@ pub sound_at : (s : Script) (w k : ℕ) (stm : Statement) → IsLawful s → sli
 sound_at s w k stm h is =
     let P : Statement → Type 0 = IsSound s.table s.settings.stamp in
     at_place P (statements_of s w) k stm (at_writer (λ l. AllByRecursion P l) s.writers w h.sound tt) is
-
-pub short_at : (table : Map) (stamp : Option (ℕ × ℕ)) (n : ℕ) (stm : Statement)
-    → ((t : Map) (index : ℕ) (args : Vals) (one other : ℕ) → length (message_of t (stamp_args (Some one)) index args) ≡ length (message_of t (stamp_args (Some other)) index args))
-    → IsSound table stamp stm → length (message_of table (stamp_args (stamp_in stamp n)) stm.index stm.args) ≤ 2000
-short_at table None n stm alike h = h.short
-short_at table (Some p) n stm alike h = omega (arith, alike table stm.index stm.args n p.0, h.short)
 
 pub some_taken : (n : ℕ) (xs ys : List ℕ) (x : ℕ) → take n xs ≡ x ∷ ys → 0 < n
 some_taken zero xs ys x is = absurd (cc is)

@@ -1,5 +1,5 @@
-mod Append
+pub mod Append
 mod Counted
-mod Frames
+pub mod Frames
 mod Next
-mod Room
+pub mod Room

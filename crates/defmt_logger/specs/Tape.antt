@@ -6,6 +6,7 @@ use Rattle.defmt_intern.specs.Table.{Map}
 use Rattle.defmt_lines.specs.declared.settings.RingMode.{RingMode}
 use Rattle.defmt_lines.specs.declared.settings.RingMode.TheVariants.{Skip, Trim}
 use Rattle.defmt_logger.specs.declared.mark.Mark.{Mark}
+use Rattle.defmt_script.specs.Lawful.{stamp_in as carried}
 use Rattle.defmt_script.specs.Script.{Script}
 use Rattle.defmt_values.specs.declared.value.Statement.{Statement}
 use Rattle.rtt_modes.specs.Fates.{part_of}
@@ -37,8 +38,7 @@ stamp_number s t = first_stamp s.settings.stamp + stamp_step s.settings.stamp * 
 
 -- the stamp that a message carries: none where there are no stamps
 abbrev pub stamp_in : Option (ℕ × ℕ) → ℕ → Option ℕ
-stamp_in None stamp = None
-stamp_in (Some p) stamp = Some stamp
+stamp_in stamp n = carried stamp n
 
 -- ---- frames (defmt book, "Encoding")
 

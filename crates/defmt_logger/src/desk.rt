@@ -134,40 +134,16 @@ impl<U: UpEnd, C: Clock> Desk<U, C> {
         self.places[writer as usize] = place + 1;
         fate
     }
-
-    /// What holds of every desk.
-    pub fn lawful(&self)
-        ensures { IsKept self.now }
-    {
-        let _ = &self.tape;
-    }
-
-    /// How many statements a writer has, those that were logged among them. Takes no memory.
-    pub fn count(&self, writer: u8) -> u32
-        ensures { result ≡ count self.now.script writer }
-    {
-        self.script.count(writer)
-    }
-
-    /// How many statements of a writer were logged, which is the place of its next. The writer's number is from 0 to 7.
-    /// Takes no memory.
-    pub fn place(&self, writer: u8) -> u32
-        requires { writer < 8 }
-        ensures { result ≡ marks_of writer self.now.tape.marks }
-    {
-        self.places[writer as usize]
-    }
 }
 
 impl<U: UpEnd + Drop, C: Clock + Drop> Desk<U, C> {
-    /// A desk on which nothing was logged, with room for all that will be.
-    ///
-    /// The clock counts by the script's stamps, and by 0 and 0 without them. The end is as its split gave it and has the
-    /// script's size; in skip and trim mode it tells how many bytes were released.
-    ///
-    /// # Errors
-    /// `Memory` where there is none. Script, clock and end are then given up.
-    pub fn start(alloc: Global, script: Script, stamp: C, up: U) -> Result<Desk<U, C>, Memory>
+    // A desk on which nothing was logged, with room for all that will be.
+    pub(crate) fn start(
+        alloc: Global,
+        script: Script,
+        stamp: C,
+        up: U,
+    ) -> Result<Desk<U, C>, Memory>
         requires clock { IsClockOf script.settings.stamp (C.base stamp) (C.step stamp) (C.ready stamp) (C.gives stamp) }
         requires fresh { U.view up ≡ new_up (U.view up).split script.settings.ring (U.view up).tells }
         requires told { TellsIn script.settings.mode (U.view up) }
@@ -191,8 +167,8 @@ impl<U: UpEnd + Drop, C: Clock + Drop> Desk<U, C> {
         })
     }
 
-    /// The tape, the end of the ring and the script. Takes no memory.
-    pub fn close(self) -> (Tape, U, Script)
+    // The tape, the end of the ring and the script.
+    pub(crate) fn close(self) -> (Tape, U, Script)
         ensures tape { result.0 ≡ self.tape }
         ensures up { U.view result.1 ≡ self.up }
         ensures script { result.2 ≡ self.script }

@@ -5,7 +5,7 @@ ghost use Rattle.defmt_logger.specs.Tape.{count, frame_at, stamp_in};
 
 use defmt_encode::{frame, message};
 use defmt_intern::Table;
-use defmt_script::{Script, stamps_are_alike};
+use defmt_script::Script;
 use defmt_values::Statement;
 
 // Writes the frame of a statement's message to the front of a buffer, and answers how many bytes it has. The other buffer
@@ -55,7 +55,6 @@ pub fn write_frame(
     ensures size { result ≤ 2288 }
 {
     script.lawful();
-    stamps_are_alike();
     let carried = carried_stamp(script, stamp);
     match script.statement(writer, place) {
         Some(statement) => {

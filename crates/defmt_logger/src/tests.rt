@@ -1,10 +1,10 @@
-// Scripts on a desk and on a logger, over a plain ring.
-ghost use Rattle.std.specs.Prelude.{◌≡◌, ◌<◌, true, ⊤};
+// A logger over a plain ring, on one thread.
+ghost use Rattle.std.specs.Prelude.{◌≡◌, true, ⊤};
 ghost use Rattle.defmt_logger.specs.Kept.{IsClockOf};
 ghost use Rattle.rtt_ring.specs.PlainView.{up_of};
 ghost use Rattle.rtt_ring.specs.Views.{new_up};
 
-use crate::{Books, Desk, Eight, Logger, Mark, Naming, Pen, Seat, Tape};
+use crate::{Books, Eight, Logger, Mark, Naming, Pen, Seat, Tape};
 use defmt_hooks::{Clock, Stamp};
 use defmt_script::{Script, read};
 use dl_io::Bytes;
@@ -26,160 +26,6 @@ impl Relief for NoRelief {
     fn ease(&mut self) {}
 }
 
-// Logs the next statement of a writer, where it has one left.
-fn log_next<U: UpEnd, C: Clock, W: Wait>(rt: &W, desk: &mut Desk<U, C>, writer: u8)
-    requires { writer < 8 }
-{
-    if desk.place(writer) < desk.count(writer) {
-        desk.append(rt, writer, &mut NoRelief);
-    }
-}
-
-// Logs the next statements of these writers at a desk over a new ring of the script's size. Gives the tape and what was sent.
-fn log_in_order<C: Clock + Drop, W: Wait>(
-    rt: &W,
-    alloc: Global,
-    script: Script,
-    clock: C,
-    writers: &[u8],
-) -> Result<(Tape, Bytes), Fail>
-    requires { IsClockOf script.settings.stamp (C.base clock) (C.step clock) (C.ready clock) (C.gives clock) }
-{
-    let Ok(ring) = PlainRing::split(alloc, script.ring()) else {
-        return Err(Fail::new("no ring"));
-    };
-    let mut desk = Desk::start(alloc, script, clock, ring)?;
-    for writer in writers {
-        log_next(rt, &mut desk, *writer % 8);
-    }
-    let (tape, ring, _) = desk.close();
-    let mut rest = Bytes::new(alloc);
-    ring.settle(&mut rest)?;
-    Ok((tape, rest))
-}
-
-// The mark of a statement, without a stamp.
-fn mark(writer: u8, place: u32, fate: Fate) -> Mark {
-    Mark {
-        writer,
-        place,
-        stamp: 0,
-        fate,
-    }
-}
-
-#[test]
-fn skip_mode_drops_frames_that_do_not_fit(rt: HostRuntime) -> Result<(), Fail> {
-    let script = read(
-        rt.alloc(),
-        b"ring 16\nmode skip\nreader late\ns hi defmt_info hello\nw 0 hi\nw 0 hi\nw 0 hi\nw 0 hi\nw 0 hi",
-    )?;
-    let None = script.stamp() else {
-        return Err(Fail::new("stamps"));
-    };
-    let (tape, sent) = log_in_order(
-        &rt,
-        rt.alloc(),
-        script,
-        Stamp::new(0, 0, |_: u32| 0u64),
-        &[0, 0, 0, 0, 0],
-    )?;
-    let lost = Fate::Dropped { need: 4, room: 3 };
-    let whole = Fate::Whole;
-    assert_eq!(rt;
-        tape.as_slice(),
-        [
-            mark(0, 0, whole),
-            mark(0, 1, whole),
-            mark(0, 2, whole),
-            mark(0, 3, lost),
-            mark(0, 4, lost)
-        ]
-        .as_slice()
-    );
-    assert_eq!(rt; tape.spare(), 4091);
-    assert_eq!(rt;
-        sent.as_slice(),
-        [0, 1, 0x7e, 0, 0, 1, 0x7e, 0, 0, 1, 0x7e, 0].as_slice()
-    );
-    Ok(())
-}
-
-#[test]
-fn trim_mode_cuts_frames_that_do_not_fit(rt: HostRuntime) -> Result<(), Fail> {
-    let script = read(
-        rt.alloc(),
-        b"ring 16\nmode trim\nreader late\ns hi defmt_info hello\nw 0 hi\nw 1 hi\nw 0 hi\nw 0 hi\nw 0 hi",
-    )?;
-    let None = script.stamp() else {
-        return Err(Fail::new("stamps"));
-    };
-    let (tape, sent) = log_in_order(
-        &rt,
-        rt.alloc(),
-        script,
-        Stamp::new(0, 0, |_: u32| 0u64),
-        &[0, 1, 0, 0, 0],
-    )?;
-    let cut = Fate::Cut { need: 4, room: 3 };
-    let lost = Fate::Cut { need: 4, room: 0 };
-    let whole = Fate::Whole;
-    assert_eq!(rt;
-        tape.as_slice(),
-        [
-            mark(0, 0, whole),
-            mark(1, 0, whole),
-            mark(0, 1, whole),
-            mark(0, 2, cut),
-            mark(0, 3, lost)
-        ]
-        .as_slice()
-    );
-    assert_eq!(rt;
-        sent.as_slice(),
-        [0, 1, 0x7e, 0, 0, 1, 0x7e, 0, 0, 1, 0x7e, 0, 0, 1, 0x7e].as_slice()
-    );
-    Ok(())
-}
-
-#[test]
-fn block_mode_stamps_the_statements_of_two_writers(rt: HostRuntime) -> Result<(), Fail> {
-    let script = read(
-        rt.alloc(),
-        b"stamp 1000 250\ns hi defmt_info hello\nw 0 hi\nw 1 hi",
-    )?;
-    let Some((1000, 250)) = script.stamp() else {
-        return Err(Fail::new("no stamps"));
-    };
-    let (tape, sent) = log_in_order(
-        &rt,
-        rt.alloc(),
-        script,
-        Stamp::new(1000, 250, |t: u32| 1000 + 250 * u64::from(t % 4097)),
-        &[1, 0, 0],
-    )?;
-    assert_eq!(rt; tape.len(), 2);
-    assert_eq!(rt;
-        tape.as_slice()[0],
-        Mark {
-            stamp: 1000,
-            ..mark(1, 0, Fate::Whole)
-        }
-    );
-    assert_eq!(rt;
-        tape.as_slice()[1],
-        Mark {
-            stamp: 1250,
-            ..mark(0, 0, Fate::Whole)
-        }
-    );
-    assert_eq!(rt;
-        sent.as_slice(),
-        [0, 1, 0xe8, 3, 0x72, 0x7f, 0, 0, 1, 0xe2, 4, 0x72, 0x7f, 0].as_slice()
-    );
-    Ok(())
-}
-
 // Logs the next statement of a pen, where it has one left.
 fn log_by<B: Books, K: Naming, U: UpEnd, C: Clock, S: Seat<B, L>, L: Ledger, W: Wait>(
     rt: &W,
@@ -191,7 +37,7 @@ fn log_by<B: Books, K: Naming, U: UpEnd, C: Clock, S: Seat<B, L>, L: Ledger, W: 
     }
 }
 
-// Logs a statement of the writer 1, all two of the writer 0, and closes the logger.
+// Logs a statement of the writer 1 and two of the writer 0, and closes the logger. Gives the tape and what was sent.
 fn log_by_pens<
     L0: Ledger,
     L1: Ledger,
@@ -218,7 +64,7 @@ fn log_by_pens<
     script: Script,
     clock: C,
     ring: PlainRing,
-) -> Result<Tape, Fail>
+) -> Result<(Tape, Bytes), Fail>
     requires clock { IsClockOf script.settings.stamp (C.base clock) (C.step clock) (C.ready clock) (C.gives clock) }
     requires fresh { up_of ring ≡ new_up (up_of ring).split script.settings.ring true }
     requires names { (K.script ≡ script) × (K.split ≡ (up_of ring).split) }
@@ -243,20 +89,37 @@ fn log_by_pens<
     for _ in 0..3 {
         log_by(rt, &logger, &mut pens.p0);
     }
-    let (tape, _, _) = logger.close(pens);
-    Ok(tape)
+    let (tape, ring, _) = logger.close(pens);
+    let mut rest = Bytes::new(alloc);
+    ring.settle(&mut rest)?;
+    Ok((tape, rest))
 }
 
 #[test]
-fn pens_log_the_statements_of_their_writers(rt: HostRuntime) -> Result<(), Fail> {
-    let script = read(rt.alloc(), b"s hi defmt_info hello\nw 0 hi\nw 1 hi\nw 0 hi")?;
-    let None = script.stamp() else {
-        return Err(Fail::new("stamps"));
+fn pens_log_what_fits_and_report_what_does_not(rt: HostRuntime) -> Result<(), Fail> {
+    let script = read(
+        rt.alloc(),
+        b"ring 16\nmode skip\nreader late\nstamp 1000 250\ns hi defmt_info hello\nw 0 hi\nw 1 hi\nw 0 hi",
+    )?;
+    let Some((1000, 250)) = script.stamp() else {
+        return Err(Fail::new("no stamps"));
     };
     let Ok(ring) = PlainRing::split(rt.alloc(), script.ring()) else {
         return Err(Fail::new("no ring"));
     };
-    let tape = log_by_pens::<Brand, Brand, Brand, Brand, Brand, Brand, Brand, Brand, Brand, _, _>(
+    let (tape, sent) = log_by_pens::<
+        Brand,
+        Brand,
+        Brand,
+        Brand,
+        Brand,
+        Brand,
+        Brand,
+        Brand,
+        Brand,
+        _,
+        _,
+    >(
         &rt,
         rt.alloc(),
         Blank::new(1),
@@ -268,13 +131,38 @@ fn pens_log_the_statements_of_their_writers(rt: HostRuntime) -> Result<(), Fail>
         Blank::new(1),
         Blank::new(1),
         script,
-        Stamp::new(0, 0, |_: u32| 0u64),
+        Stamp::new(1000, 250, |t: u32| 1000 + 250 * u64::from(t % 4097)),
         ring,
     )?;
-    let whole = Fate::Whole;
     assert_eq!(rt;
         tape.as_slice(),
-        [mark(1, 0, whole), mark(0, 0, whole), mark(0, 1, whole)].as_slice()
+        [
+            Mark {
+                writer: 1,
+                place: 0,
+                stamp: 1000,
+                fate: Fate::Whole
+            },
+            Mark {
+                writer: 0,
+                place: 0,
+                stamp: 1250,
+                fate: Fate::Whole
+            },
+            Mark {
+                writer: 0,
+                place: 1,
+                stamp: 1500,
+                fate: Fate::Dropped { need: 7, room: 1 }
+            }
+        ]
+        .as_slice()
+    );
+    assert_eq!(rt; tape.len(), 3);
+    assert_eq!(rt; tape.spare(), 4093);
+    assert_eq!(rt;
+        sent.as_slice(),
+        [0, 1, 0xe8, 3, 0x72, 0x7f, 0, 0, 1, 0xe2, 4, 0x72, 0x7f, 0].as_slice()
     );
     Ok(())
 }

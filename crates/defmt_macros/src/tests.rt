@@ -261,12 +261,16 @@ fn byte_of(alloc: Global, tag: Tag) -> Result<[u8; 3], Fail> {
 #[test]
 fn each_tag_has_its_macro(rt: HostRuntime) -> Result<(), Fail> {
     let alloc = rt.alloc();
-    assert_eq!(rt; byte_of(alloc, Tag::Trace)?, [1, 0, 7]);
-    assert_eq!(rt; byte_of(alloc, Tag::Debug)?, [1, 0, 7]);
-    assert_eq!(rt; byte_of(alloc, Tag::Info)?, [1, 0, 7]);
-    assert_eq!(rt; byte_of(alloc, Tag::Warn)?, [1, 0, 7]);
-    assert_eq!(rt; byte_of(alloc, Tag::Error)?, [1, 0, 7]);
-    assert_eq!(rt; byte_of(alloc, Tag::Println)?, [1, 0, 7]);
+    for tag in [
+        Tag::Trace,
+        Tag::Debug,
+        Tag::Info,
+        Tag::Warn,
+        Tag::Error,
+        Tag::Println,
+    ] {
+        assert_eq!(rt; byte_of(alloc, tag)?, [1, 0, 7]);
+    }
     Ok(())
 }
 

@@ -1,7 +1,7 @@
 -- What a session answers is what its told inputs come to.
-use Rattle.std.proofs.Common.{◌≡◌, ◌≢◌, inl, inr, ◌<◌, ◌≤◌, ◌++◌, ℕ, zero, suc, List, [], Option, Some, None, Ok, Err, refl, sym, subst, ap, ◌∙◌, arith, length, length-append}
-use Rattle.std.specs.Prelude.{Result, nat_lt}
-use Rattle.std.specs.Io.KnownBytes.{Consumes, IsAtEnd}
+use Rattle.std.proofs.Common.{◌≡◌, ◌≢◌, inl, inr, ◌<◌, ◌≤◌, ◌++◌, ℕ, zero, suc, List, [], Option, Some, None, Ok, Err, refl, sym, subst, ap, ◌∙◌, arith, length, length-append, lit≤}
+use Rattle.std.specs.Prelude.{Result, nat_lt, option_map, ◌⊎◌}
+use Rattle.std.specs.Io.KnownBytes.{Consumes, IsAtEnd, Keeps}
 use Rattle.std.proofs.lemmas.Bool.{cond-false, cond-true, lt-ltb, le-ltb}
 use Rattle.std.proofs.lemmas.List.{append-nil}
 use Rattle.dl_io.specs.Outside.{HasFile, Lacks, Rose}
@@ -12,19 +12,24 @@ use Rattle.elf_table.specs.declared.fault.LoadFault.TheVariants as loads
 use Rattle.elf_table.proofs.Answers.{names_only, elf_only, symbol_only}
 use Rattle.defmt_listen.specs.Streams.{Input, Output}
 use Rattle.defmt_listen.specs.Heard.{HeardAll, faults, recording_limit}
-use Rattle.defmt_decode.specs.declared.event.Event.{Event}
 use Rattle.defmt_decode.specs.Event.{events_of}
-use Rattle.defmt_run.specs.Calls.{Files}
+use Rattle.defmt_generate.specs.Generated.{generated}
+use Rattle.defmt_run.specs.Calls.{Files, IsUnread, IsUntouched, IsUnwritten}
 use Rattle.defmt_script.specs.Reads.{Reads}
 use Rattle.defmt_script.specs.Script.{Refusal, Script as Read}
 use Rattle.defmt_run.specs.Decoding.{Decodes, DecodingComesTo, Hears, IsFile, Loaded, ReadingComesTo, RefusesFile, RefusesName, fault_of_count, fault_of_recording, table_limit}
 use Rattle.defmt_run.specs.Output.{reports}
-use Rattle.defmt_run.specs.Running.{GaveWhole, RunningComesTo, Runs, fault_of_read}
-use Rattle.defmt_run.specs.Job.{Job, decoding, job_view}
+use Rattle.defmt_run.specs.Printed.{Makes}
+use Rattle.defmt_run.specs.Running.{Gave, GaveWhole, GeneratingComesTo, IsSpelled, ReadingComesTo as TextComesTo, RunningComesTo, Runs, RunsSource, RunsText, Stops, TookShort, Withholds, Writes, fault_of_read}
 use Rattle.defmt_run.specs.Session.{Answers, OrFails}
-use Rattle.defmt_run.specs.declared.job.Job.{Job as Kept}
 use Rattle.defmt_run.specs.Status.{status_of}
-use Rattle.defmt_run.specs.declared.job.ScriptJob.{ScriptJob}
+use Rattle.defmt_run.specs.Told.{IsUntold, Told}
+use Rattle.defmt_run.specs.Work.{CountFits, Work, on_source, on_generated, on_recording, work_of}
+use Rattle.defmt_words.specs.Words.{Job, generating}
+use Rattle.defmt_words.specs.Words as words
+use Rattle.defmt_run.specs.declared.task.Task.{Task}
+use Rattle.defmt_run.specs.declared.task.RunOutput.TheVariants.{Counts}
+use Rattle.defmt_run.specs.declared.task.Task.TheVariants.{Run}
 use Rattle.defmt_run.specs.declared.outcome.Fault.{Fault}
 use Rattle.defmt_run.specs.declared.outcome.Fault.TheVariants.{Fine, Memory, Words, Source, Sink, Script, Elf, Names, Shelf, Long, Events}
 
@@ -74,43 +79,78 @@ or_fails source sink shelf Is Other so (Names cause symbol) is = so (Names cause
 or_fails source sink shelf Is Other so Long is = so Long is
 or_fails source sink shelf Is Other so (Events bad) is = so (Events bad) is
 
--- ---- commands on a script
+-- ---- tasks on a script
 
-module _ (job : ScriptJob) (input : Input) (text : List ℕ) (told : input.left ≡ Some text) where
+module _ (task : Task) (input : Input) (text : List ℕ) (told_text : input.left ≡ Some text) where
   as_text : (taken : List ℕ) → GaveWhole input taken → taken ≡ text
-  as_text taken whole = all_taken input.left input.left_after text taken told whole.taken whole.at_end
+  as_text taken whole = all_taken input.left input.left_after text taken told_text whole.taken whole.at_end
 
   read_so : (taken : List ℕ) (read : Result Read Refusal) → GaveWhole input taken → Reads taken read → RunningComesTo text (fault_of_read read)
   read_so taken read whole reads =
       let same = as_text taken whole in
       inr (omega (arith, ap length same, whole.within), (read, subst (λ (t : List ℕ). Reads t read) same reads, refl))
 
-  pub run_comes : (output : Output) (fault : Fault) (stream : List ℕ) (events : List Event) → Runs job input output fault stream events
+  pub run_comes : (output : Output) (fault : Fault) (told : Told) → RunsSource task input output fault told
       → OrFails (Rose input.faults input.faults_after) (Rose output.faults output.faults_after) ⊥ (RunningComesTo text) fault
-  run_comes output Fine stream events runs = let ran = runs.1.ran in read_so ran.text (Ok ran.script) ran.whole ran.reads
-  run_comes output Memory stream events runs = tt
-  run_comes output Words stream events runs = absurd runs.0
-  run_comes output Source stream events runs = runs.0.0
-  run_comes output Sink stream events runs = runs.3
-  run_comes output (Script line cause inner) stream events runs =
+  run_comes output Fine told runs = read_so runs.1.text (Ok runs.0) runs.1.whole runs.1.reads
+  run_comes output Memory told runs = tt
+  run_comes output Words told runs = absurd runs.0
+  run_comes output Source told runs = runs.0.0
+  run_comes output Sink told runs = runs.4
+  run_comes output (Script line cause inner) told runs =
       let refuses = runs.0 in read_so refuses.text (Err (record { line = line; cause = cause; inner = inner })) refuses.whole refuses.refused
-  run_comes output (Elf cause part place) stream events runs = absurd runs.0
-  run_comes output (Names cause symbol) stream events runs = absurd runs.0
-  run_comes output Shelf stream events runs = absurd runs.0
-  run_comes output Long stream events runs =
-      let took = runs.0 in inl (omega (arith, took.1, taken_within input.left input.left_after text took.0 told took.2), refl)
-  run_comes output (Events bad) stream events runs = absurd runs.0
+  run_comes output (Elf cause part place) told runs = absurd runs.0
+  run_comes output (Names cause symbol) told runs = absurd runs.0
+  run_comes output Shelf told runs = absurd runs.0
+  run_comes output Long told runs =
+      let took = runs.0 in inl (omega (arith, took.1, taken_within input.left input.left_after text took.0 told_text took.2), refl)
+  run_comes output (Events bad) told runs = absurd runs.0
 
--- no command on a script comes to wrong words
-pub run_words : (job : ScriptJob) (input : Input) (output : Output) (fault : Fault) (stream : List ℕ) (events : List Event) → Runs job input output fault stream events → fault ≢ Words
-run_words job input output fault stream events runs is =
-    let words = subst (λ (f : Fault). Runs job input output f stream events) is runs in absurd words.0
+pub text_comes : (task : Task) (text : List ℕ) (output : Output) (fault : Fault) (told : Told) → RunsText task text output fault told
+    → OrFails ⊥ (Rose output.faults output.faults_after) ⊥ (TextComesTo text) fault
+text_comes task text output Fine told runs = (Ok runs.0, runs.1, refl)
+text_comes task text output Memory told runs = tt
+text_comes task text output Words told runs = absurd runs.0
+text_comes task text output Source told runs = runs.0
+text_comes task text output Sink told runs = runs.4
+text_comes task text output (Script line cause inner) told runs = (Err (record { line = line; cause = cause; inner = inner }), runs.0, refl)
+text_comes task text output (Elf cause part place) told runs = absurd runs.0
+text_comes task text output (Names cause symbol) told runs = absurd runs.0
+text_comes task text output Shelf told runs = absurd runs.0
+text_comes task text output Long told runs = absurd runs.0
+text_comes task text output (Events bad) told runs = absurd runs.0
+
+-- no task on a script comes to wrong words
+pub run_words : (task : Task) (Comes : Read → Type 0) (Withheld : Fault → Type 0) (output : Output) (fault : Fault) (told : Told) → (Withheld Words → ⊥)
+    → Runs task Comes Withheld output fault told → fault ≢ Words
+run_words task Comes Withheld output fault told never runs is =
+    let words = subst (λ (f : Fault). Runs task Comes Withheld output f told) is runs in absurd (never words.0)
+
+pub text_one : OneReading → (text : List ℕ) (fault other : Fault) → TextComesTo text other → TextComesTo text fault → fault ≡ other
+text_one one text fault other a b = b.2 ∙ ap fault_of_read (one text b.0 a.0 b.1 a.1) ∙ sym a.2
 
 pub run_one : OneReading → (text : List ℕ) (fault other : Fault) → RunningComesTo text other → RunningComesTo text fault → fault ≡ other
 run_one one text fault other (inl a) (inl b) = b.1 ∙ sym a.1
 run_one one text fault other (inl a) (inr b) = absurd (omega (arith, a.0, b.0))
 run_one one text fault other (inr a) (inl b) = absurd (omega (arith, a.0, b.0))
-run_one one text fault other (inr a) (inr b) = b.1.2 ∙ ap fault_of_read (one text b.1.0 a.1.0 b.1.1 a.1.1) ∙ sym a.1.2
+run_one one text fault other (inr a) (inr b) = text_one one text fault other a.1 b.1
+
+-- what was made was written, or the sink failed
+pub ran : (task : Task) (Comes : Read → Type 0) (Withheld : Fault → Type 0) (output : Output) (fault : Fault) (told : Told) (text : List ℕ) (s : Read)
+    → Comes s → Makes task s told text → Writes output text fault → Runs task Comes Withheld output fault told
+ran task Comes Withheld output Fine told text s comes makes writes =
+    (s, comes, makes.tells, subst (λ (l : List ℕ). Writes output l Fine) makes.is writes)
+ran task Comes Withheld output Sink told text s comes makes writes =
+    let front = subst (λ (l : List ℕ). Writes output l Sink) makes.is writes in (s, comes, makes.tells, front.0, front.1)
+ran task Comes Withheld output Memory told text s comes makes writes = absurd writes
+ran task Comes Withheld output Words told text s comes makes writes = absurd writes
+ran task Comes Withheld output Source told text s comes makes writes = absurd writes
+ran task Comes Withheld output (Script line cause inner) told text s comes makes writes = absurd writes
+ran task Comes Withheld output (Elf cause part place) told text s comes makes writes = absurd writes
+ran task Comes Withheld output (Names cause symbol) told text s comes makes writes = absurd writes
+ran task Comes Withheld output Shelf told text s comes makes writes = absurd writes
+ran task Comes Withheld output Long told text s comes makes writes = absurd writes
+ran task Comes Withheld output (Events bad) told text s comes makes writes = absurd writes
 
 -- ---- the decoding of a recording
 
@@ -253,22 +293,100 @@ decode_one (Some file) recording fault other (inl a) (inr b) = absurd (omega (ar
 decode_one (Some file) recording fault other (inr a) (inl b) = absurd (omega (arith, a.0, b.0))
 decode_one (Some file) recording fault other (inr a) (inr b) = one_load file recording b.1.0 a.1.0 fault other b.1.1 a.1.1 b.1.2 a.1.2
 
--- ---- the parts of a decoding, by other names
+-- ---- what the answer says, by what was asked
 
-pub asked_name : (words : Option Job) (kept : Kept) (given name : List ℕ) → Some (job_view kept) ≡ words → job_view kept ≡ decoding given → words ≡ Some (decoding name) → given ≡ name
-asked_name words kept given name is kept_is asked =
-    let both : Some (job_view kept) ≡ Some (decoding name) = is ∙ asked in
-    let same : job_view kept ≡ decoding name = cc both in
-    let names : decoding given ≡ decoding name = sym kept_is ∙ same in
-    cc names
+module _ (asked : Option Work) (input : Input) (files : Files) (output : Output) (fault : Fault) (told : Told) (answers : Answers asked input files output fault told) where
+  same_answers : (work : Option Work) → asked ≡ work → Answers work input files output fault told
+  same_answers work is = subst (λ (o : Option Work). Answers o input files output fault told) is answers
 
-pub decoded : (name given : List ℕ) (input : Input) (shelf : Files) (output : Output) (fault found : Fault) → given ≡ name → fault ≡ found
-    → Decodes given input shelf output found → Decodes name input shelf output fault
-decoded name given input shelf output fault found names faults_ decodes =
-    subst (λ (n : List ℕ). Decodes n input shelf output fault) names (subst (λ (f : Fault). Decodes given input shelf output f) (sym faults_) decodes)
+  pub source_comes : (task : Task) (text : List ℕ) → asked ≡ Some (on_source task) → input.left ≡ Some text
+      → OrFails (Rose input.faults input.faults_after) (Rose output.faults output.faults_after) ⊥ (RunningComesTo text) fault
+  source_comes task text is told_text = run_comes task input text told_text output fault told (same_answers (Some (on_source task)) is).0
 
-pub answered : (words : Option Job) (kept : Kept) (name : List ℕ) (input : Input) (shelf : Files) (output : Output) (fault : Fault) (stream : List ℕ) (events : List Event)
-    → Some (job_view kept) ≡ words → job_view kept ≡ decoding name → Decodes name input shelf output fault → stream ≡ [] → events ≡ [] → Answers words input shelf output fault stream events
-answered words kept name input shelf output fault stream events is kept_is decodes no_stream no_events =
-    let asked : Some (decoding name) ≡ words = ap (λ (j : Job). let o : Option Job = Some j in o) (sym kept_is) ∙ is in
-    subst (λ (o : Option Job). Answers o input shelf output fault stream events) asked (decodes, no_stream, no_events)
+  pub source_exact : OneReading → (task : Task) (text : List ℕ) (other : Fault) → asked ≡ Some (on_source task) → input.left ≡ Some text → RunningComesTo text other
+      → OrFails (Rose input.faults input.faults_after) (Rose output.faults output.faults_after) ⊥ (λ one. one ≡ other) fault
+  source_exact one task text other is told_text comes =
+      or_fails (Rose input.faults input.faults_after) (Rose output.faults output.faults_after) ⊥ (RunningComesTo text) (λ (f : Fault). f ≡ other)
+      (λ f also. run_one one text f other comes also) fault (source_comes task text is told_text)
+
+  pub generated_comes : (count : ℕ) → asked ≡ Some (on_generated count) → OrFails ⊥ (Rose output.faults output.faults_after) ⊥ (GeneratingComesTo count) fault
+  generated_comes count is = text_comes (Run Counts) (generated count) output fault told (same_answers (Some (on_generated count)) is).0
+
+  pub generated_exact : OneReading → (count : ℕ) (other : Fault) → asked ≡ Some (on_generated count) → GeneratingComesTo count other
+      → OrFails ⊥ (Rose output.faults output.faults_after) ⊥ (λ one. one ≡ other) fault
+  generated_exact one count other is comes =
+      or_fails ⊥ (Rose output.faults output.faults_after) ⊥ (GeneratingComesTo count) (λ (f : Fault). f ≡ other)
+      (λ f also. text_one one (generated count) f other comes also) fault (generated_comes count is)
+
+  pub recording_comes : (name recording : List ℕ) (shelf : List ℕ → Option (List ℕ)) → asked ≡ Some (on_recording name) → input.left ≡ Some recording → files.files ≡ Some shelf
+      → OrFails (Rose input.faults input.faults_after) (Rose output.faults output.faults_after) (Rose files.faults files.faults_after) (DecodingComesTo (shelf name) recording) fault
+  recording_comes name recording shelf is told_recording shelf_told =
+      decode_comes name recording shelf input files told_recording shelf_told output fault (same_answers (Some (on_recording name)) is).0
+
+  pub recording_exact : (name recording : List ℕ) (shelf : List ℕ → Option (List ℕ)) (other : Fault) → asked ≡ Some (on_recording name) → input.left ≡ Some recording → files.files ≡ Some shelf
+      → DecodingComesTo (shelf name) recording other
+      → OrFails (Rose input.faults input.faults_after) (Rose output.faults output.faults_after) (Rose files.faults files.faults_after) (λ one. one ≡ other) fault
+  recording_exact name recording shelf other is told_recording shelf_told comes =
+      or_fails (Rose input.faults input.faults_after) (Rose output.faults output.faults_after) (Rose files.faults files.faults_after) (DecodingComesTo (shelf name) recording) (λ (f : Fault). f ≡ other)
+      (λ f also. decode_one (shelf name) recording f other comes also) fault (recording_comes name recording shelf is told_recording shelf_told)
+
+-- words that ask for something don't come to wrong words
+never_words : (asked : Option Work) (input : Input) (files : Files) (output : Output) (fault : Fault) (told : Told) → Answers asked input files output fault told → fault ≡ Words → asked ≡ None
+never_words None input files output fault told answers is = refl
+never_words (Some (on_source task)) input files output fault told answers is =
+    absurd (run_words task (Gave input) (λ f. Withholds input f) output fault told (λ never. never) answers.0 is)
+never_words (Some (on_generated count)) input files output fault told answers is =
+    absurd (run_words (Run Counts) (IsSpelled (generated count)) (λ f. Stops (generated count) f) output fault told (λ never. never) answers.0 is)
+never_words (Some (on_recording name)) input files output fault told answers is = absurd (decode_words name input files output fault answers.0 is)
+
+none_asked : (o : Option Job) → option_map work_of o ≡ None → o ≡ None
+none_asked None is = refl
+none_asked (Some job) is = absurd (cc is)
+
+pub no_job : (o : Option Job) (input : Input) (files : Files) (output : Output) (fault : Fault) (told : Told) → Answers (option_map work_of o) input files output fault told
+    → status_of fault ≡ 2 → o ≡ None
+no_job o input files output fault told answers is =
+    none_asked o (never_words (option_map work_of o) input files output fault told answers (words_status fault is))
+
+pub refused : (o : Option Job) (input : Input) (files : Files) (output : Output) (fault : Fault) (told : Told) → Answers (option_map work_of o) input files output fault told
+    → o ≡ None → (status_of fault ≡ 2) ⊎ (status_of fault ≡ 1)
+refused o input files output fault told answers is =
+    let none = subst (λ (p : Option Job). Answers (option_map work_of p) input files output fault told) is answers in
+    elim none.0 [ inl words ↦ inl (ap status_of words) | inr memory ↦ inr (ap status_of memory) ]
+
+-- want of memory before the words are known
+wanting : (asked : Option Work) (input : Input) (files : Files) (output : Output) (told : Told) → TookShort input → IsUnread input → IsUntouched files → IsUnwritten output → IsUntold told
+    → Answers asked input files output Memory told
+wanting None input files output told took unread untouched unwritten untold = (inr refl, unread, untouched, unwritten, untold)
+wanting (Some (on_source task)) input files output told took unread untouched unwritten untold = ((took, unwritten, untold), untouched)
+wanting (Some (on_generated count)) input files output told took unread untouched unwritten untold = ((tt, unwritten, untold), unread, untouched)
+wanting (Some (on_recording name)) input files output told took unread untouched unwritten untold = (inl (inl tt, unread, unwritten), untold)
+
+-- the same where nothing was touched
+keeps : (o : Option (List ℕ)) → Keeps o o
+keeps None = tt
+keeps (Some xs) = refl
+
+consumes : (o : Option (List ℕ)) → Consumes o o []
+consumes None = tt
+consumes (Some xs) = refl
+
+pub wanting_all : (asked : Option Work) (left held : Option (List ℕ)) (files : Option (List ℕ → Option (List ℕ))) (source shelf sink : ℕ) (fault : Fault) (told : Told) → fault ≡ Memory → IsUntold told
+    → Answers asked (record { left = left; left_after = left; faults = source; faults_after = source }) (record { files = files; faults = shelf; faults_after = shelf })
+    (record { held = held; held_after = held; faults = sink; faults_after = sink }) fault told
+wanting_all asked left held files source shelf sink fault told is untold =
+    let input : Input = record { left = left; left_after = left; faults = source; faults_after = source } in
+    let shelf_files : Files = record { files = files; faults = shelf; faults_after = shelf } in
+    let output : Output = record { held = held; held_after = held; faults = sink; faults_after = sink } in
+    subst (λ (f : Fault). Answers asked input shelf_files output f told) (sym is)
+    (wanting asked input shelf_files output told ([], lit≤ tt, consumes left) (record { left = keeps left; faults = refl }) refl (record { held = keeps held; faults = refl }) untold)
+
+-- a generated script has as many statements as the words say
+pub counted : (o : Option Job) (work : Work) → ((count : ℕ) → o ≡ Some (generating count) → (1 ≤ count) × (count ≤ 4096)) → option_map work_of o ≡ Some work → CountFits work
+counted None work few is = absurd (cc is)
+counted (Some (words.running group)) work few is = let same : work_of (words.running group) ≡ work = cc is in subst CountFits same tt
+counted (Some words.recording) work few is = let same : work_of words.recording ≡ work = cc is in subst CountFits same tt
+counted (Some words.table_file) work few is = let same : work_of words.table_file ≡ work = cc is in subst CountFits same tt
+counted (Some words.printing) work few is = let same : work_of words.printing ≡ work = cc is in subst CountFits same tt
+counted (Some (words.decoding name)) work few is = let same : work_of (words.decoding name) ≡ work = cc is in subst CountFits same tt
+counted (Some (words.generating count)) work few is = let same : work_of (words.generating count) ≡ work = cc is in subst CountFits same (few count refl)

@@ -1,3 +1,9 @@
 pub mod Deciding
+pub mod HeardParts
+pub mod Lines
+pub mod Marks
 pub mod Numbered
+pub mod RunMade
+pub mod Sizes
 pub mod Stamped
+pub mod Tables

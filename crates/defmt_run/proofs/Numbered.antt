@@ -1,42 +1,37 @@
 -- Statements that are numbered.
-use Rattle.std.proofs.Common.{◌≡◌, ◌≤◌, ◌<◌, ◌+◌, ℕ, zero, suc, List, [], ◌∷◌, ◌++◌, length, take, get_or, flat_map, refl, sym, ◌∙◌, ap, append_assoc, arith, length-append}
-use Rattle.std.specs.Prelude.{Option, Some, None}
+use Rattle.std.proofs.Common.{◌≡◌, ◌≤◌, ◌<◌, ◌+◌, ℕ, zero, suc, List, [], ◌∷◌, ◌++◌, length, take, get_or, sym, ◌∙◌, ap, append_assoc, arith, length-append}
+use Rattle.std.specs.Prelude.{Some, None}
 use Rattle.std.specs.List.{AllByRecursion, slice_get}
 use Rattle.std.proofs.lemmas.Grind.{flat_map-append}
 use Rattle.std.proofs.lemmas.List.{append-nil, length-take-le, take_more}
 use Rattle.std.proofs.lemmas.Option.{slice_get-get_or}
 use Rattle.defmt_values.specs.declared.value.Statement.{Statement}
-use Rattle.defmt_decode.specs.Sent.{Sent}
 use Rattle.defmt_script.specs.Script.{count_all}
-use Rattle.defmt_run.specs.Commands.{all_statements, sent_at, sent_from}
+use Rattle.defmt_run.specs.Printed.{all_statements, numbered}
 
-module _ (stamp : Option (ℕ × ℕ)) where
-  pub sent-append : (number : ℕ) (xs ys : List Statement) → sent_from stamp number (xs ++ ys) ≡ sent_from stamp number xs ++ sent_from stamp (number + length xs) ys
-  sent-append number [] ys = ap (λ (n : ℕ). sent_from stamp n ys) (let e : number ≡ number + 0 = omega arith in e)
-  sent-append number (x ∷ xs) ys =
-      ap (λ (l : List Sent). sent_at stamp number x ∷ l) (sent-append (number + 1) xs ys
-      ∙ ap (λ (n : ℕ). sent_from stamp (number + 1) xs ++ sent_from stamp n ys) (let e : number + 1 + length xs ≡ number + suc (length xs) = omega arith in e))
+module _ (line : ℕ → Statement → List ℕ) where
+  pub numbered-append : (number : ℕ) (xs ys : List Statement) → numbered line number (xs ++ ys) ≡ numbered line number xs ++ numbered line (number + length xs) ys
+  numbered-append number [] ys = ap (λ (n : ℕ). numbered line n ys) (let e : number ≡ number + 0 = omega arith in e)
+  numbered-append number (x ∷ xs) ys =
+      ap (λ (l : List ℕ). line number x ++ l) (numbered-append (number + 1) xs ys
+      ∙ ap (λ (n : ℕ). numbered line (number + 1) xs ++ numbered line n ys) (let e : number + 1 + length xs ≡ number + suc (length xs) = omega arith in e))
+      ∙ sym (append_assoc (line number x) (numbered line (number + 1) xs) (numbered line (number + suc (length xs)) ys))
 
-  module _ (f : Sent → List ℕ) where
-    pub joined-append : (number : ℕ) (xs ys : List Statement)
-        → flat_map f (sent_from stamp number (xs ++ ys)) ≡ flat_map f (sent_from stamp number xs) ++ flat_map f (sent_from stamp (number + length xs) ys)
-    joined-append number xs ys = ap (flat_map f) (sent-append number xs ys) ∙ flat_map-append f (sent_from stamp number xs) (sent_from stamp (number + length xs) ys)
-
-    -- one statement more of a list
-    pub one_more : (start now after : List ℕ) (number place : ℕ) (list : List Statement) (stm : Statement) → place < length list → get_or list place stm ≡ stm
-        → now ≡ start ++ flat_map f (sent_from stamp number (take place list)) → after ≡ now ++ f (sent_at stamp (number + place) stm)
-        → after ≡ start ++ flat_map f (sent_from stamp number (take (place + 1) list))
-    one_more start now after number place list stm within at now_is after_is =
-        let front : List Statement = take place list in
-        let size : length front ≡ place = length-take-le place list (omega (arith, within)) in
-        let more : take (place + 1) list ≡ front ++ stm ∷ [] = take_more list place stm within ∙ ap (λ (s : Statement). front ++ s ∷ []) at in
-        let text : flat_map f (sent_from stamp number (take (place + 1) list)) ≡ flat_map f (sent_from stamp number front) ++ f (sent_at stamp (number + place) stm) =
-        ap (λ (l : List Statement). flat_map f (sent_from stamp number l)) more ∙ joined-append number front (stm ∷ [])
-        ∙ ap (λ (n : ℕ). flat_map f (sent_from stamp number front) ++ flat_map f (sent_from stamp (number + n) (stm ∷ []))) size
-        ∙ ap (λ (l : List ℕ). flat_map f (sent_from stamp number front) ++ l) (append-nil (f (sent_at stamp (number + place) stm))) in
-        after_is ∙ ap (λ (l : List ℕ). l ++ f (sent_at stamp (number + place) stm)) now_is
-        ∙ append_assoc start (flat_map f (sent_from stamp number front)) (f (sent_at stamp (number + place) stm))
-        ∙ ap (λ (l : List ℕ). start ++ l) (sym text)
+  -- one statement more of a list
+  pub one_more : (start now after : List ℕ) (number place : ℕ) (list : List Statement) (stm : Statement) → place < length list → get_or list place stm ≡ stm
+      → now ≡ start ++ numbered line number (take place list) → after ≡ now ++ line (number + place) stm
+      → after ≡ start ++ numbered line number (take (place + 1) list)
+  one_more start now after number place list stm within at now_is after_is =
+      let front : List Statement = take place list in
+      let size : length front ≡ place = length-take-le place list (omega (arith, within)) in
+      let more : take (place + 1) list ≡ front ++ stm ∷ [] = take_more list place stm within ∙ ap (λ (s : Statement). front ++ s ∷ []) at in
+      let text : numbered line number (take (place + 1) list) ≡ numbered line number front ++ line (number + place) stm =
+      ap (numbered line number) more ∙ numbered-append number front (stm ∷ [])
+      ∙ ap (λ (n : ℕ). numbered line number front ++ numbered line (number + n) (stm ∷ [])) size
+      ∙ ap (λ (l : List ℕ). numbered line number front ++ l) (append-nil (line (number + place) stm)) in
+      after_is ∙ ap (λ (l : List ℕ). l ++ line (number + place) stm) now_is
+      ∙ append_assoc start (numbered line number front) (line (number + place) stm)
+      ∙ ap (λ (l : List ℕ). start ++ l) (sym text)
 
 -- the element at a place
 pub at_place : {A : Type 0} (list : List A) (place : ℕ) (x : A) → place < length list → Some x ≡ slice_get list place → get_or list place x ≡ x
@@ -61,10 +56,6 @@ all_more writers writer within =
     ap all_statements (take_more writers writer [] within)
     ∙ flat_map-append (λ (l : List Statement). l) (take writer writers) (get_or writers writer [] ∷ [])
     ∙ ap (λ (l : List Statement). all_statements (take writer writers) ++ l) (append-nil (get_or writers writer []))
-
-pub all_count : (writers : List (List Statement)) → length (all_statements writers) ≡ count_all writers
-all_count [] = refl
-all_count (list ∷ more) = length-append list (all_statements more) ∙ ap (λ (n : ℕ). length list + n) (all_count more)
 
 pub front_count : (writers : List (List Statement)) (writer : ℕ) → writer < length writers
     → length (all_statements (take writer writers)) + length (get_or writers writer []) ≤ count_all writers

@@ -1,8 +1,9 @@
 pub mod Output
-pub mod Status
+pub mod Told
+pub mod Printed
+pub mod Work
 pub mod Calls
-pub mod Job
-pub mod Commands
+pub mod Status
 pub mod Running
 pub mod Decoding
 pub mod Session

@@ -1,11 +1,20 @@
--- The output line of each event.
-use Rattle.std.specs.Prelude.{◌==◌, ℕ, Bool, true, false, List, [], ◌∷◌, ◌++◌, codes, if◌then◌else◌}
+-- The output lines of events, and of frames that weren't sent whole.
+use Rattle.std.specs.Prelude.{◌==◌, ℕ, Bool, true, false, List, [], ◌∷◌, ◌++◌, codes, flat_map, if◌then◌else◌}
 use Rattle.std.specs.Fmt.{decimal}
 use Rattle.defmt_intern.specs.Table.{Map}
 use Rattle.defmt_listen.specs.Heard.{Reports}
 use Rattle.defmt_decode.specs.declared.event.Event.{Event}
 use Rattle.defmt_decode.specs.declared.event.Event.TheVariants.{Line, Bad, CutFront, CutTail}
 use Rattle.defmt_decode.specs.Event.{tells}
+use Rattle.defmt_logger.specs.declared.mark.Mark.{Mark}
+use Rattle.rtt_modes.specs.declared.fate.Fate.{Fate}
+use Rattle.rtt_modes.specs.declared.fate.Fate.TheVariants.{Whole, Dropped, Cut}
+
+-- a text and a newline
+abbrev pub ended : List ℕ → List ℕ
+ended text = text ++ 10 ∷ []
+
+-- ---- events
 
 -- the name of a piece's fault
 abbrev pub fault_name : ℕ → List ℕ
@@ -24,7 +33,7 @@ event_text (CutFront bytes) = codes "-- front " ++ decimal bytes
 event_text (CutTail bytes) = codes "-- tail " ++ decimal bytes
 
 unfoldable pub event_line : Event → List ℕ
-event_line event = event_text event ++ 10 ∷ []
+event_line event = ended (event_text event)
 
 -- all but lines are faults
 unfoldable pub is_fault : Event → Bool
@@ -35,3 +44,30 @@ is_fault (CutTail bytes) = true
 
 abbrev pub reports : Map → Reports Event
 reports table = record { tells = tells table; line = event_line; is_fault = is_fault }
+
+-- ---- frames that weren't sent whole
+
+-- its writer, and its place among the writer's
+abbrev pub place_text : ℕ → ℕ → List ℕ
+place_text writer place = (codes " writer " ++ decimal writer) ++ (codes " statement " ++ decimal place)
+
+-- the bytes that it needed, and those that there was room for
+abbrev pub room_text : ℕ → ℕ → List ℕ
+room_text need room = (codes " need " ++ decimal need) ++ (codes " room " ++ decimal room)
+
+-- with what was done with it in front
+abbrev pub loss_text : List ℕ → ℕ → ℕ → ℕ → ℕ → List ℕ
+loss_text done writer place need room = done ++ (place_text writer place ++ room_text need room)
+
+abbrev pub loss_by : Fate → ℕ → ℕ → List ℕ
+loss_by Whole writer place = []
+loss_by (Dropped need room) writer place = ended (loss_text (codes "-- dropped") writer place need room)
+loss_by (Cut need room) writer place = ended (loss_text (codes "-- cut") writer place need room)
+
+-- a report where the frame was dropped or cut
+unfoldable pub loss_line : Mark → List ℕ
+loss_line m = loss_by m.fate m.writer m.place
+
+-- the reports of a tape, in its order
+abbrev pub loss_lines : List Mark → List ℕ
+loss_lines tape = flat_map loss_line tape

@@ -1,20 +1,23 @@
--- A command on a script.
-use Rattle.std.specs.Prelude.{◌≡◌, ◌⊎◌, ◌+◌, ◌<◌, ◌≤◌, ℕ, List, [], length, Result, Ok, Err}
+-- A task on a script, which the source gives or which is generated.
+use Rattle.std.specs.Prelude.{◌≡◌, ◌⊎◌, ◌+◌, ◌<◌, ◌≤◌, ℕ, List, length, Result, Ok, Err}
 use Rattle.std.specs.Io.KnownBytes.{Consumes, IsAtEnd}
 use Rattle.dl_io.specs.Outside.{Rose, Took}
+use Rattle.defmt_generate.specs.Generated.{generated}
 use Rattle.defmt_listen.specs.Streams.{Input, Output, Wrote, WroteFront}
-use Rattle.defmt_decode.specs.declared.event.Event.{Event}
-use Rattle.defmt_run.specs.Calls.{IsUnwritten}
 use Rattle.defmt_script.specs.Reads.{Reads}
 use Rattle.defmt_script.specs.Script.{Refusal, Script as Read}
-use Rattle.defmt_run.specs.Commands.{Made, made}
-use Rattle.defmt_run.specs.declared.job.ScriptJob.{ScriptJob}
+use Rattle.defmt_run.specs.Calls.{IsUnwritten}
+use Rattle.defmt_run.specs.Printed.{Tells, printed}
+use Rattle.defmt_run.specs.Told.{IsUntold, Told}
 use Rattle.defmt_run.specs.declared.outcome.Fault.{Fault}
 use Rattle.defmt_run.specs.declared.outcome.Fault.TheVariants.{Fine, Memory, Source, Sink, Script, Long}
+use Rattle.defmt_run.specs.declared.task.Task.{Task}
 
 -- the most bytes of a script
 abbrev pub script_limit : ℕ
 script_limit = 4194304
+
+-- ---- where a script comes from, and why there is none
 
 -- the source was read to its end, and gave this text
 pub record GaveWhole (input : Input) (text : List ℕ) : Type 0 where
@@ -22,13 +25,11 @@ pub record GaveWhole (input : Input) (text : List ℕ) : Type 0 where
   pub at_end : IsAtEnd input.left_after
   pub within : length text ≤ script_limit
 
--- the source gave the text of a script, of which the command makes this
-pub record Ran (job : ScriptJob) (input : Input) (making : Made) : Type 0 where
+-- the source was read to its end, and what it gave is the script
+pub record Gave (input : Input) (s : Read) : Type 0 where
   pub text : List ℕ
-  pub script : Read
   pub whole : GaveWhole input text
-  pub reads : Reads text (Ok script)
-  pub is : making ≡ made job script
+  pub reads : Reads text (Ok s)
 
 -- a line of the text that the source gave is refused
 pub record Refuses (input : Input) (refusal : Refusal) : Type 0 where
@@ -36,32 +37,12 @@ pub record Refuses (input : Input) (refusal : Refusal) : Type 0 where
   pub whole : GaveWhole input text
   pub refused : Reads text (Err refusal)
 
--- nothing was written, and nothing is told of a run
-pub record IsSilent (output : Output) (stream : List ℕ) (events : List Event) : Type 0 where
-  pub unwritten : IsUnwritten output
-  pub no_stream : stream ≡ []
-  pub no_events : events ≡ []
-
--- what the command makes was made, and this is told of it
-pub record Told (job : ScriptJob) (input : Input) (stream : List ℕ) (events : List Event) (output : List ℕ) : Type 0 where
-  pub making : Made
-  pub ran : Ran job input making
-  pub stream_is : stream ≡ making.stream
-  pub events_are : events ≡ making.events
-  pub output_is : output ≡ making.output
-
--- what became of the output, where it was there
-abbrev pub Writes : Output → List ℕ → Fault → Type 0
-Writes output text Fine = Wrote output text
-Writes output text Sink = WroteFront output text × Rose output.faults output.faults_after
-Writes output text fault = ⊥
-
 -- no more than a script was taken
 abbrev pub TookShort : Input → Type 0
 TookShort input = Took input.left input.left_after (λ bytes. length bytes ≤ script_limit)
 
--- Why nothing is made of the input: a fault of the outside, an input past the limit, of which one byte more was taken, or a
--- line that is refused. Want of memory is free.
+-- Why the source gives no script: it failed, or has more than the limit, of which one byte more was taken, or a line is refused.
+-- Want of memory is free.
 abbrev pub Withholds : Input → Fault → Type 0
 Withholds input Memory = TookShort input
 Withholds input Source = Rose input.faults input.faults_after × TookShort input
@@ -69,29 +50,57 @@ Withholds input Long = Took input.left input.left_after (λ bytes. length bytes 
 Withholds input (Script line cause inner) = Refuses input (record { line = line; cause = cause; inner = inner })
 Withholds input fault = ⊥
 
--- What stands at each fault. At want of memory nothing was written, or a front of the output.
-abbrev pub Runs : ScriptJob → Input → Output → Fault → List ℕ → List Event → Type 0
-Runs job input output Fine stream events = (text : List ℕ) × Told job input stream events text × Wrote output text
-Runs job input output Sink stream events =
-    (text : List ℕ) × Told job input stream events text × WroteFront output text × Rose output.faults output.faults_after
-Runs job input output fault stream events = Withholds input fault × IsSilent output stream events
+-- a text is the script
+abbrev pub IsSpelled : List ℕ → Read → Type 0
+IsSpelled text s = Reads text (Ok s)
 
--- ---- for private clauses
-
--- why nothing is made of a text that was read
+-- why a text gives no script
 abbrev pub Stops : List ℕ → Fault → Type 0
 Stops text Memory = Unit {0}
 Stops text (Script line cause inner) = Reads text (Err (record { line = line; cause = cause; inner = inner }))
 Stops text fault = ⊥
 
+-- ---- what stands at each fault
+
+-- Where all was done, or the sink failed, there is a script, this is told of its run, and what is to be written was written, or a
+-- front of it. At each other fault there is a cause, nothing was written, and nothing is told.
+abbrev pub Runs : Task → (Read → Type 0) → (Fault → Type 0) → Output → Fault → Told → Type 0
+Runs task Comes Withheld output Fine told = (s : Read) × Comes s × Tells task s told × Wrote output (printed task s told)
+Runs task Comes Withheld output Sink told =
+    (s : Read) × Comes s × Tells task s told × WroteFront output (printed task s told) × Rose output.faults output.faults_after
+Runs task Comes Withheld output fault told = Withheld fault × IsUnwritten output × IsUntold told
+
+-- on the script that the source gives
+abbrev pub RunsSource : Task → Input → Output → Fault → Told → Type 0
+RunsSource task input output fault told = Runs task (Gave input) (Withholds input) output fault told
+
+-- on a text
+abbrev pub RunsText : Task → List ℕ → Output → Fault → Told → Type 0
+RunsText task text output fault told = Runs task (IsSpelled text) (Stops text) output fault told
+
 -- ---- what told inputs come to, where nothing fails and memory is there
 
 -- a text that is read so
 abbrev pub fault_of_read : Result Read Refusal → Fault
-fault_of_read (Ok script) = Fine
+fault_of_read (Ok s) = Fine
 fault_of_read (Err refusal) = Script refusal.line refusal.cause refusal.inner
 
+-- the text of a script
+abbrev pub ReadingComesTo : List ℕ → Fault → Type 0
+ReadingComesTo text fault = (read : Result Read Refusal) × Reads text read × (fault ≡ fault_of_read read)
+
+-- the text of the source
 abbrev pub RunningComesTo : List ℕ → Fault → Type 0
-RunningComesTo text fault =
-    ((script_limit < length text) × (fault ≡ Long))
-    ⊎ ((length text ≤ script_limit) × ((read : Result Read Refusal) × Reads text read × (fault ≡ fault_of_read read)))
+RunningComesTo text fault = ((script_limit < length text) × (fault ≡ Long)) ⊎ ((length text ≤ script_limit) × ReadingComesTo text fault)
+
+-- so many generated statements
+abbrev pub GeneratingComesTo : ℕ → Fault → Type 0
+GeneratingComesTo count fault = ReadingComesTo (generated count) fault
+
+-- ---- for private clauses
+
+-- what became of the output, where it was there
+abbrev pub Writes : Output → List ℕ → Fault → Type 0
+Writes output text Fine = Wrote output text
+Writes output text Sink = WroteFront output text × Rose output.faults output.faults_after
+Writes output text fault = ⊥

@@ -1,120 +1,146 @@
-// What a command makes of a script.
-ghost use Rattle.std.specs.Prelude.{◌≡◌, ◌++◌, [], flat_map, option_to_list, IfOk, OnOk};
-ghost use Rattle.elf_section.specs.Written.{written};
-ghost use Rattle.elf_table.specs.Listed.{symbols_in};
-ghost use Rattle.defmt_framing.specs.Framing.{Stands};
-ghost use Rattle.defmt_decode.specs.Event.{events_of};
-ghost use Rattle.defmt_run.specs.Commands.{made, output_alone};
-ghost use Rattle.defmt_run.specs.Output.{event_line};
-ghost use Rattle.defmt_run.specs.declared.job.ScriptJob.TheVariants.{Print, Record, Run, Table};
+// What is made of a script, before it is written.
+ghost use Rattle.std.specs.Prelude.{◌≡◌, ◌≤◌, ◌^◌, ◌++◌, IfOk};
+ghost use Rattle.elf_table.specs.Listed.{size_of};
+ghost use Rattle.defmt_run.specs.Printed.{Makes, shown};
+ghost use Rattle.defmt_run.specs.Told.{told_of};
+ghost use Rattle.defmt_writers.specs.Runs.{IsRun};
+ghost use Rattle.rtt_ring.specs.declared.settled.RingKind.TheVariants.{Word};
+ghost use Rattle.defmt_run.specs.declared.task.RunOutput.TheVariants.{Counts, Lines, Stream};
+ghost use Rattle.defmt_run.specs.declared.task.Task.TheVariants.{Run as RunTask};
 
-use crate::job::ScriptJob;
-use crate::output::add_line;
-use crate::statements::{Form, joined};
-use defmt_decode::{Event, Events, Host};
+use crate::hearing::hear;
+use crate::logging::log;
+use crate::printing::run_lines;
+use crate::statements::statement_lines;
+use crate::summary::summary;
+use crate::task::{RunOutput, ScriptOutput};
+use defmt_decode::Events;
+use defmt_logger::Tape;
 use defmt_script::Script;
+use defmt_writers::{Gate, Run};
 use dl_io::{Bytes, Memory};
-use elf_table::{is_writable, write_table};
+use elf_table::write_table;
+use rtt_ring::Settled;
 use std::alloc::Global;
+use std::sync::Wait;
+use std::thread::Threads;
 
-/// What a command comes to before it is written.
+/// What a run comes to before it is written.
 #[derive(Drop)]
 pub struct Making {
     /// What is to be written.
     pub output: Bytes,
-    /// The frames that were run, joined.
-    pub stream: Bytes,
-    /// What they tell.
+    /// The statements that were logged.
+    pub tape: Tape,
+    /// The account of the ring.
+    pub settled: Settled,
+    /// What the host told.
     pub events: Events,
+    /// How many looks the logger made.
+    pub looks: u64,
 }
 
-/// What a command makes of a script.
-pub fn make_of(alloc: Global, job: ScriptJob, script: &Script) -> Result<Making, Memory>
-    ensures { IfOk result (λ making.
-        record { output = making.output.items; stream = making.stream.items; events = making.events } ≡ made job script.now) }
+/// What comes of the run of a script. It may wait for the writers.
+pub fn make_run<G: Gate + Sync, R: Threads + Wait + Sync>(
+    rt: &R,
+    alloc: Global,
+    output: RunOutput,
+    script: Script,
+    gate: &G,
+) -> Result<Making, Memory>
+    ensures { IfOk result (λ m. Makes (RunTask output) script (record { tape = m.tape.marks; settled = Some m.settled; events = m.events; looks = m.looks }) m.output.items) }
 {
-    match job {
-        ScriptJob::Run => make_run(alloc, script),
-        ScriptJob::Record => written(alloc, joined(alloc, script, Form::Frame)?),
-        ScriptJob::Table => written(alloc, table_file(alloc, script)?),
-        ScriptJob::Print => written(alloc, joined(alloc, script, Form::Line)?),
+    let run = log(rt, alloc, script, gate)?;
+    let making = make_of(alloc, output, run)?;
+    Ok(making)
+}
+
+/// What is written of a script that isn't run.
+pub fn show(alloc: Global, output: ScriptOutput, script: &Script) -> Result<Bytes, Memory>
+    requires { size_of script.now.table ≤ 2 ^ 26 }
+    ensures { IfOk result (λ out. out.items ≡ shown output script.now) }
+{
+    match output {
+        ScriptOutput::Table => write_table(alloc, script.table()),
+        ScriptOutput::Lines => statement_lines(alloc, script),
     }
 }
 
-// This output, and nothing that is told of a run.
-fn written(alloc: Global, output: Bytes) -> Result<Making, Memory>
-    ensures { IfOk result (λ making.
-        record { output = making.output.items; stream = making.stream.items; events = making.events }
-        ≡ output_alone output.items) }
+fn make_of(alloc: Global, output: RunOutput, run: Run) -> Result<Making, Memory>
+    requires run { IsRun run.script run.tape.marks run.settled run.captured.items run.rest.items run.looks }
+    requires ring { run.settled.ring ≡ Word }
+    ensures { IfOk result (λ m. Makes (RunTask output) run.script (record { tape = m.tape.marks; settled = Some m.settled; events = m.events; looks = m.looks }) m.output.items) }
 {
-    Ok(Making {
-        output,
-        stream: Bytes::new(alloc),
-        events: Events::new(alloc),
-    })
-}
-
-// The file of the script's table. A table with more text than can be written, which no script within its limits has, is
-// answered as want of memory.
-fn table_file(alloc: Global, script: &Script) -> Result<Bytes, Memory>
-    ensures { IfOk result (λ file. file.items ≡ written (symbols_in script.now.table)) }
-{
-    let table = script.table();
-    if !is_writable(table) {
-        return Err(Memory);
+    match output {
+        RunOutput::Lines { group } => print_run(alloc, group, run),
+        RunOutput::Stream => record_run(alloc, run),
+        RunOutput::Counts => count_run(alloc, run),
     }
-    write_table(alloc, table)
 }
 
-fn make_run(alloc: Global, script: &Script) -> Result<Making, Memory>
-    ensures { IfOk result (λ making.
-        record { output = making.output.items; stream = making.stream.items; events = making.events } ≡ made Run script.now) }
+// What the host told of a run and what was lost is to be printed.
+fn print_run(alloc: Global, group: bool, run: Run) -> Result<Making, Memory>
+    requires run { IsRun run.script run.tape.marks run.settled run.captured.items run.rest.items run.looks }
+    requires ring { run.settled.ring ≡ Word }
+    ensures { IfOk result (λ m. Makes (RunTask (Lines group)) run.script (record { tape = m.tape.marks; settled = Some m.settled; events = m.events; looks = m.looks }) m.output.items) }
 {
-    let stream = joined(alloc, script, Form::Frame)?;
-    let host = Host::new(alloc, script.table().copy()?)?;
-    let events = events_of(alloc, host, stream.as_slice())?;
-    let output = printed(alloc, &events)?;
-    Ok(Making {
+    let events = hear(alloc, &run)?;
+    let output = run_lines(alloc, group, &run.script, &run.tape, &events)?;
+    Ok(told(run, events, output))
+}
+
+// What was sent is to be written.
+fn record_run(alloc: Global, run: Run) -> Result<Making, Memory>
+    requires run { IsRun run.script run.tape.marks run.settled run.captured.items run.rest.items run.looks }
+    requires ring { run.settled.ring ≡ Word }
+    ensures { IfOk result (λ m. Makes (RunTask Stream) run.script (record { tape = m.tape.marks; settled = Some m.settled; events = m.events; looks = m.looks }) m.output.items) }
+{
+    let output = joined(alloc, run.captured.as_slice(), run.rest.as_slice())?;
+    Ok(told(run, Events::new(alloc), output))
+}
+
+// These bytes, one part after the other.
+fn joined(alloc: Global, front: &[u8], rest: &[u8]) -> Result<Bytes, Memory>
+    ensures { IfOk result (λ all. all.items ≡ front.now ++ rest.now) }
+{
+    let mut all = Bytes::new(alloc);
+    all.reserve(front.len().saturating_add(rest.len()))?;
+    all.extend_from_slice(front)?;
+    all.extend_from_slice(rest)?;
+    Ok(all)
+}
+
+// Counts of the statements are to be printed.
+fn count_run(alloc: Global, run: Run) -> Result<Making, Memory>
+    requires run { IsRun run.script run.tape.marks run.settled run.captured.items run.rest.items run.looks }
+    requires ring { run.settled.ring ≡ Word }
+    ensures { IfOk result (λ m. Makes (RunTask Counts) run.script (record { tape = m.tape.marks; settled = Some m.settled; events = m.events; looks = m.looks }) m.output.items) }
+{
+    run.script.lawful();
+    let events = hear(alloc, &run)?;
+    let output = summary(alloc, &run.script, &run.tape)?;
+    Ok(told(run, events, output))
+}
+
+// What is told of a run.
+fn told(run: Run, events: Events, output: Bytes) -> Making
+    ensures output { result.output.items ≡ output.items }
+    ensures told { record { tape = result.tape.marks; settled = Some result.settled; events = result.events; looks = result.looks }
+        ≡ told_of run.tape.marks run.settled events run.looks }
+{
+    let Run {
+        script: _,
+        tape,
+        settled,
+        captured: _,
+        rest: _,
+        looks,
+    } = run;
+    Making {
         output,
-        stream,
+        tape,
+        settled,
         events,
-    })
-}
-
-// The events of a stream.
-fn events_of(alloc: Global, host: Host, stream: &[u8]) -> Result<Events, Memory>
-    requires { Stands host.framing [] }
-    ensures { IfOk result (λ events. events ≡ events_of host.table stream.now) }
-{
-    let mut host = host;
-    let mut events = Events::new(alloc);
-    let mut rest = stream;
-    'events: while !rest.is_empty() {
-        let (taken, event) = host.feed(rest)?;
-        add_event(&mut events, event)?;
-        let (_, behind) = rest.split_at(taken);
-        rest = behind;
+        looks,
     }
-    add_event(&mut events, host.finish())?;
-    Ok(events)
-}
-
-fn add_event(events: &mut Events, event: Option<Event>) -> Result<(), Memory>
-    ensures { OnOk result (events.new ≡ events.old ++ option_to_list event) }
-{
-    match event {
-        Some(event) => events.push(event),
-        None => Ok(()),
-    }
-}
-
-// The output lines of events.
-fn printed(alloc: Global, events: &Events) -> Result<Bytes, Memory>
-    ensures { IfOk result (λ text. text.items ≡ flat_map event_line events.now) }
-{
-    let mut text = Bytes::new(alloc);
-    for event in events.as_slice() {
-        add_line(alloc, event, &mut text)?;
-    }
-    Ok(text)
 }

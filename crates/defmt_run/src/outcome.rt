@@ -1,10 +1,13 @@
-ghost use Rattle.std.specs.Prelude.{◌≡◌, [], ◌++◌, IfOk, OnOk};
+ghost use Rattle.std.specs.Prelude.{◌≡◌, ◌++◌, IfOk, OnOk};
 ghost use Rattle.defmt_run.specs.Status.{status_of, said};
+ghost use Rattle.defmt_run.specs.Told.{IsUntold};
 
 use defmt_decode::Events;
 use defmt_grammar::Text;
-use dl_io::{Bytes, Memory};
+use defmt_logger::Tape;
+use dl_io::Memory;
 use elf_section::Part;
+use rtt_ring::Settled;
 use std::alloc::Global;
 
 /// What a session came to.
@@ -66,17 +69,23 @@ impl From<Memory> for Fault {
     }
 }
 
-/// What a session answers.
+/// What a session answers. `tape`, `settled` and `looks` tell of the run of a script by `run`, `record` and `gen`, and `events`
+/// of that by `run` and `gen`. They are so where the fault is `Fine` or `Sink`. At every other fault, and for the other
+/// commands, they are empty, `None` and 0.
 #[derive(Drop)]
 pub struct Outcome {
     /// The status, which the program ends with.
     pub status: u8,
     /// What it came to; the status is this fault's.
     pub fault: Fault,
-    /// The frames of the script's statements, joined. It is empty where nothing was run.
-    pub stream: Bytes,
-    /// What the pieces of the stream tell. It is empty where nothing was run.
+    /// A mark for each statement, in the order in which the writers acquired the logger.
+    pub tape: Tape,
+    /// The account of the ring: what was sent, and what the reader took of it.
+    pub settled: Option<Settled>,
+    /// What the host told of what was sent.
     pub events: Events,
+    /// How many looks at the ring the logger made.
+    pub looks: u64,
 }
 
 impl Outcome {
@@ -84,14 +93,15 @@ impl Outcome {
     pub(crate) fn silent(alloc: Global, fault: Fault) -> Self
         ensures fault { result.fault ≡ fault }
         ensures status { result.status ≡ status_of fault }
-        ensures stream { result.stream.items ≡ [] }
-        ensures events { result.events ≡ [] }
+        ensures untold { IsUntold (record { tape = result.tape.marks; settled = result.settled; events = result.events; looks = result.looks }) }
     {
         Outcome {
             status: fault.status(),
             fault,
-            stream: Bytes::new(alloc),
+            tape: Tape::new(alloc),
+            settled: None,
             events: Events::new(alloc),
+            looks: 0,
         }
     }
 

@@ -1,10 +1,12 @@
-// The output lines of events.
+// The output lines of events, and of frames that weren't sent whole.
 ghost use Rattle.std.specs.Prelude.{◌≡◌, ◌++◌, codes, OnOk};
 ghost use Rattle.std.specs.Fmt.{decimal};
-ghost use Rattle.defmt_run.specs.Output.{event_line, event_text, fault_name, is_fault};
+ghost use Rattle.defmt_run.specs.Output.{ended, event_line, fault_name, is_fault, loss_line, loss_text};
 
 use defmt_decode::Event;
+use defmt_logger::Mark;
 use dl_io::{Bytes, Memory};
+use rtt_modes::Fate;
 use std::alloc::Global;
 
 /// Appends the output line of an event.
@@ -29,7 +31,8 @@ fn add_fault(alloc: Global, cause: u8, out: &mut Bytes) -> Result<(), Memory>
     out.extend_from_slice(fault_name(cause).as_bytes())
 }
 
-fn add_count(alloc: Global, front: &[u8], count: u64, out: &mut Bytes) -> Result<(), Memory>
+/// Appends a text and a number in decimal digits.
+pub fn add_count(alloc: Global, front: &[u8], count: u64, out: &mut Bytes) -> Result<(), Memory>
     ensures { OnOk result (out.new.items ≡ out.old.items ++ (front.now ++ decimal count)) }
 {
     out.extend_from_slice(front)?;
@@ -67,4 +70,61 @@ pub fn is_fault(event: &Event) -> bool
         Event::Line { .. } => false,
         Event::Bad { .. } | Event::CutFront { .. } | Event::CutTail { .. } => true,
     }
+}
+
+/// Appends the report of a frame that wasn't sent whole, nothing of one that was.
+#[tactic(auto, unfolding(crate::specs::Output::loss_line))]
+pub fn add_loss(alloc: Global, mark: &Mark, out: &mut Bytes) -> Result<(), Memory>
+    ensures { OnOk result (out.new.items ≡ out.old.items ++ loss_line mark.now) }
+{
+    match mark.fate {
+        Fate::Whole => Ok(()),
+        Fate::Dropped { need, room } => add_report(alloc, b"-- dropped", mark, need, room, out),
+        Fate::Cut { need, room } => add_report(alloc, b"-- cut", mark, need, room, out),
+    }
+}
+
+fn add_report(
+    alloc: Global,
+    done: &[u8],
+    mark: &Mark,
+    need: u32,
+    room: u32,
+    out: &mut Bytes,
+) -> Result<(), Memory>
+    ensures { OnOk result (out.new.items ≡ out.old.items ++ ended (loss_text done.now mark.now.writer mark.now.place need room)) }
+{
+    out.extend_from_slice(done)?;
+    add_pair(
+        alloc,
+        b" writer ",
+        u64::from(mark.writer),
+        b" statement ",
+        u64::from(mark.place),
+        out,
+    )?;
+    add_pair(
+        alloc,
+        b" need ",
+        u64::from(need),
+        b" room ",
+        u64::from(room),
+        out,
+    )?;
+    out.push(b'\n')
+}
+
+// Appends two numbers, each behind its text.
+fn add_pair(
+    alloc: Global,
+    front: &[u8],
+    count: u64,
+    middle: &[u8],
+    other: u64,
+    out: &mut Bytes,
+) -> Result<(), Memory>
+    ensures { OnOk result (out.new.items ≡ out.old.items ++ ((front.now ++ decimal count) ++ (middle.now ++ decimal other))) }
+{
+    add_count(alloc, front, count, out)?;
+    add_count(alloc, middle, other, out)
 }

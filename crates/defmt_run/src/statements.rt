@@ -1,51 +1,41 @@
-// The statements of a script, numbered by writer and then by place, as frames or as lines.
-ghost use Rattle.std.specs.Prelude.{◌≡◌, ◌≤◌, ◌<◌, ◌+◌, ◌++◌, ◌∷◌, [], length, flat_map, slice_index_or, IfOk, OnOk, None};
-ghost use Rattle.rzcobs_core.specs.Canon.{frame};
+// The lines of a script's statements.
+ghost use Rattle.std.specs.Prelude.{◌≡◌, ◌≤◌, ◌<◌, ◌^◌, ◌+◌, ◌++◌, [], length, slice_index_or, IfOk, OnOk};
+ghost use Rattle.defmt_encode.specs.Carry.{stamp_args};
+ghost use Rattle.defmt_logger.specs.Tape.{mark_line, stamp_in, stamp_number};
+ghost use Rattle.defmt_run.specs.Output.{ended};
 ghost use Rattle.defmt_eager.specs.Line.{eager_line};
-ghost use Rattle.defmt_encode.specs.Carry.{message_of, stamp_args};
-ghost use Rattle.defmt_script.specs.Lawful.{IsLawful, IsSound, HasStamp};
-ghost use Rattle.defmt_script.specs.Script.{Script as Read};
-ghost use Rattle.defmt_run.specs.Commands.{Prints, bytes_of, joined, sent_at, sent_from, stamp_number};
-ghost use Rattle.defmt_intern.specs.Table.{IsLawful as IsLawfulTable};
+ghost use Rattle.defmt_run.specs.Printed.{IsPlaced, Prints, numbered, numbered_line, statement_lines};
+ghost use Rattle.defmt_script.specs.Lawful.{IsSound};
 
+use crate::logging::stamps;
 use defmt_eager::{EagerFault, line};
-use defmt_encode::{frame, message};
 use defmt_intern::Table;
-use defmt_script::Script;
+use defmt_logger::Mark;
+use defmt_script::{Script, stamps_fit};
 use defmt_values::{Args, Statement, Value};
 use dl_io::{Bytes, Memory};
 use std::alloc::Global;
 
-/// How a statement is written.
-#[derive(Clone, Copy, Debug, PartialEq, Eq)]
-pub enum Form {
-    /// As the frame of its message.
-    Frame,
-    /// As its printed line and a newline.
-    Line,
-}
-
 const WRITERS: u8 = 8;
 
-/// The statements of all writers in this form, joined.
-pub fn joined(alloc: Global, script: &Script, form: Form) -> Result<Bytes, Memory>
-    ensures { IfOk result (λ out. out.items ≡ joined form script.now) }
+/// The lines of all statements, writer by writer, with the stamps of their numbers.
+pub fn statement_lines(alloc: Global, script: &Script) -> Result<Bytes, Memory>
+    ensures { IfOk result (λ out. out.items ≡ statement_lines script.now) }
 {
     script.lawful();
     let mut out = Bytes::new(alloc);
     let mut number = 0u32;
     for writer in 0..WRITERS {
-        let after = add_writer(alloc, script, form, writer, number, &mut out)?;
+        let after = add_writer(alloc, script, writer, number, &mut out)?;
         number = after;
     }
     Ok(out)
 }
 
-// Appends the statements of a writer, of which the first has this number. Answers the number behind them.
+// Appends the lines of a writer's statements, of which the first has this number. Answers the number behind them.
 fn add_writer(
     alloc: Global,
     script: &Script,
-    form: Form,
     writer: u8,
     number: u32,
     out: &mut Bytes,
@@ -53,8 +43,8 @@ fn add_writer(
     requires writer { writer < length script.now.writers }
     requires few { number + length (slice_index_or script.now.writers writer []) ≤ 4096 }
     ensures count { IfOk result (λ after. after ≡ number + length (slice_index_or script.now.writers writer [])) }
-    ensures bytes { OnOk result (out.new.items ≡ out.old.items ++ flat_map (bytes_of form script.now.table)
-        (sent_from script.now.settings.stamp number (slice_index_or script.now.writers writer []))) }
+    ensures bytes { OnOk result (out.new.items ≡ out.old.items
+        ++ numbered (numbered_line script.now) number (slice_index_or script.now.writers writer [])) }
 {
     script.lawful();
     let count = script.count(writer);
@@ -62,67 +52,61 @@ fn add_writer(
         let Some(statement) = script.statement(writer, place) else {
             unreachable!();
         };
-        add_statement(alloc, script, form, statement, number + place, out)?;
+        add_statement(alloc, script, statement, number + place, out)?;
     }
     Ok(number + count)
 }
 
-// Appends a statement of this number.
+// Appends the line of a statement of this number.
 fn add_statement(
     alloc: Global,
     script: &Script,
-    form: Form,
     statement: &Statement,
     number: u32,
     out: &mut Bytes,
 ) -> Result<(), Memory>
     requires sound { IsSound script.now.table script.now.settings.stamp statement.now }
     requires few { number ≤ 4096 }
-    ensures { OnOk result (out.new.items ≡ out.old.items
-        ++ bytes_of form script.now.table (sent_at script.now.settings.stamp number statement.now)) }
+    ensures { OnOk result (out.new.items ≡ out.old.items ++ numbered_line script.now number statement.now) }
 {
     script.lawful();
-    script.table().lawful();
-    let stamp = stamp_of(script, number);
-    match form {
-        Form::Frame => add_frame(script.table(), stamp, statement, out),
-        Form::Line => add_line(alloc, script.table(), stamp, statement, out),
-    }
+    stamps_fit();
+    let table = script.table();
+    let stamp = stamp_number(script, number);
+    let carried = stamp_in(script, stamp);
+    add_line(alloc, table, carried, statement, out)
 }
 
-// The stamp of a number, where the script has stamps.
-fn stamp_of(script: &Script, number: u32) -> Option<u64>
+// The stamp of a number, 0 without stamps.
+fn stamp_number(script: &Script, number: u32) -> u64
     requires { number ≤ 4096 }
-    ensures { result ≡ stamp_number script.now.settings.stamp number }
+    ensures { result ≡ stamp_number script.now number }
 {
-    script.lawful();
-    match script.stamp() {
-        Some((base, step)) => Some(base + step * u64::from(number)),
-        None => None,
-    }
+    let (base, step) = stamps(script);
+    base + step * u64::from(number)
 }
 
-// Appends the frame of a statement's message.
-fn add_frame(
-    table: &Table,
-    stamp: Option<u64>,
-    statement: &Statement,
+/// Appends the line of a mark's statement and a newline.
+pub fn add_mark_line(
+    alloc: Global,
+    script: &Script,
+    mark: &Mark,
     out: &mut Bytes,
 ) -> Result<(), Memory>
-    requires { length (message_of table.now (stamp_args stamp) statement.now.index statement.now.args) ≤ 2000 }
-    ensures { OnOk result (out.new.items ≡ out.old.items
-        ++ frame (message_of table.now (stamp_args stamp) statement.now.index statement.now.args)) }
+    requires { IsPlaced script.now mark.now }
+    ensures { OnOk result (out.new.items ≡ out.old.items ++ ended (mark_line script.now mark.now)) }
 {
-    let mut bytes = [0u8; 2000];
-    let mut framed = [0u8; 2288];
-    let Ok(size) = message(table, stamp, statement, &mut bytes) else {
+    script.lawful();
+    stamps_fit();
+    let table = script.table();
+    let Some(statement) = script.statement(mark.writer, mark.place) else {
         unreachable!();
     };
-    let count = frame(&bytes[..size], &mut framed);
-    out.extend_from_slice(&framed[..count])
+    let carried = stamp_in(script, mark.stamp);
+    add_line(alloc, table, carried, statement, out)
 }
 
-// Appends the line of a statement and a newline.
+// Appends the line of a statement with a stamp or none, and a newline.
 fn add_line(
     alloc: Global,
     table: &Table,
@@ -132,7 +116,7 @@ fn add_line(
 ) -> Result<(), Memory>
     requires { Prints table.now stamp statement.now }
     ensures { OnOk result (out.new.items ≡ out.old.items
-        ++ (eager_line table.now (stamp_args stamp) statement.now.index statement.now.args ++ 10 ∷ [])) }
+        ++ ended (eager_line table.now (stamp_args stamp) statement.now.index statement.now.args)) }
 {
     let args = stamp_args(alloc, stamp)?;
     match line(alloc, table, &args, statement) {
@@ -141,6 +125,17 @@ fn add_line(
         Err(EagerFault::Memory) => return Err(Memory),
     }
     out.push(b'\n')
+}
+
+/// The stamp that a message carries: this one, or none where the script has no stamps. Takes no memory.
+pub fn stamp_in(script: &Script, stamp: u64) -> Option<u64>
+    ensures carried { result ≡ stamp_in script.now.settings.stamp stamp }
+    ensures small { stamp < 2 ^ 64 }
+{
+    match script.stamp() {
+        Some(_) => Some(stamp),
+        None => None,
+    }
 }
 
 // The arguments of a stamp.

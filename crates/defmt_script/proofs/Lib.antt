@@ -1,4 +1,7 @@
-mod Lengths
+mod LawfulLaws
 mod ReadingLaws
 mod Settled
+mod Stamps
 mod Steadiness
+mod Steps
+mod Texts

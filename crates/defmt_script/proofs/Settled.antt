@@ -11,7 +11,8 @@ use Rattle.defmt_lines.specs.declared.form.Form.{Form}
 use Rattle.defmt_lines.specs.declared.form.Form.TheVariants as forms
 use Rattle.defmt_lines.specs.declared.settings.RingMode.{RingMode}
 use Rattle.defmt_lines.specs.declared.settings.Settings.{Settings}
-use Rattle.defmt_script.specs.State.{StaysLawful}
+use Rattle.defmt_script.proofs.Steadiness.{in_order_le}
+use Rattle.defmt_script.specs.Steady.{StaysLawful}
 
 -- ---- numbers
 
@@ -25,7 +26,7 @@ both_tests low high v n true true p q e =
 both_tests low high v n true false p q e = absurd (cc e)
 both_tests low high v n false q p r e = absurd (cc e)
 
-within_range : (low high n : ℕ) (text : List ℕ) → within low high text ≡ Some n → (low ≤ n) × (n ≤ high)
+pub within_range : (low high n : ℕ) (text : List ℕ) → within low high text ≡ Some n → (low ≤ n) × (n ≤ high)
 unfolding within
 within_range low high n text e = both_tests low high (digits_value 10 text) n (leb low (digits_value 10 text)) (leb (digits_value 10 text) high) refl refl e
 
@@ -87,9 +88,6 @@ stamp_by s t (Some base) (Some step) bases steps e h =
       },
       λ le. absurd (omega (arith, le)),
     )
-
-in_order_le : (first form : Form) → in_order first form ≡ true → rank first ≤ rank form
-in_order_le first form is = grind (arith, nat_tests)
 
 pub ring_stays : (first : Form) (s t : Settings) (word : List ℕ) → AreLawful s → (rank first ≤ 2 → s.late ≡ false) → with_ring s word ≡ Ok t → in_order first forms.Ring ≡ true → StaysLawful forms.Ring t
 unfolding with_ring

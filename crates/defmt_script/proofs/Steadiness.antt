@@ -8,7 +8,9 @@ use Rattle.std.specs.Ordering.{nat_cmp}
 use Rattle.std.proofs.lemmas.Bool.{cases_eq}
 use Rattle.std.proofs.lemmas.Bool.Decides.{nat_tests}
 use Rattle.std.proofs.lemmas.Option.{same_Some}
-use Rattle.defmt_intern.specs.Table.{Map, IsStamp, InsertRefused}
+use Rattle.defmt_eager.specs.Line.{text_limit}
+use Rattle.defmt_eager.specs.Show.{eager_text}
+use Rattle.defmt_intern.specs.Table.{Map, IsStamp, InsertRefused, IsLawful as IsLawfulTable}
 use Rattle.defmt_intern.specs.declared.entry.Entry.{Entry}
 use Rattle.defmt_intern.specs.declared.entry.Tag.{Tag}
 use Rattle.defmt_intern.specs.declared.entry.Tag.TheVariants as tags
@@ -19,12 +21,13 @@ use Rattle.defmt_lines.specs.Settings.{AreLawful, no_settings}
 use Rattle.defmt_lines.specs.declared.form.Form.{Form}
 use Rattle.defmt_lines.specs.declared.form.Form.TheVariants as forms
 use Rattle.defmt_lines.specs.declared.settings.Settings.{Settings}
-use Rattle.defmt_eager.specs.Show.{eager_text}
 use Rattle.defmt_lines.specs.Verdict.{Judges, JudgesBody}
-use Rattle.defmt_script.specs.Lawful.{HasStamp, IsLawful, IsSound, first_message, message_limit, text_limit}
+use Rattle.defmt_script.proofs.Stamps.{short_with}
+use Rattle.defmt_script.specs.Lawful.{HasStamp, IsLawful, IsSound, first_message, message_limit}
 use Rattle.defmt_script.specs.Reads.{is_message, is_message_of, takes_statement, with_statement}
 use Rattle.defmt_script.specs.Script.{add_statement, count_all}
-use Rattle.defmt_script.specs.State.{IsOpen, IsSteady, State, StaysLawful, closed, no_lines, no_statements, stamp_entry}
+use Rattle.defmt_script.specs.State.{State, closed, no_lines, no_statements, stamp_entry}
+use Rattle.defmt_script.specs.Steady.{IsOpen, IsSteady, StaysLawful}
 use Rattle.defmt_spelling.specs.Names.{NameMap}
 use Rattle.defmt_values.specs.Entries.{look}
 use Rattle.defmt_values.specs.Fits.{Fits, IsLogged}
@@ -41,12 +44,12 @@ state first strings statements settings table names writers = record {
 
 -- ---- at the start
 
-nothing_there : (index : ℕ) → IsSome (map.get {X = Entry} {R = nat_cmp} map.empty index) → ⊥
+pub nothing_there : (index : ℕ) → IsSome (map.get {X = Entry} {R = nat_cmp} map.empty index) → ⊥
 nothing_there index some =
     let none : is_some (map.get {X = Entry} {R = nat_cmp} map.empty index) ≡ false = ap is_some (get-empty nat_cmp index) in
     let clash : false ≡ true = sym none ∙ some in absurd (cc clash)
 
-no_stamp_there : (index : ℕ) → IsStamp map.empty index → ⊥
+pub no_stamp_there : (index : ℕ) → IsStamp map.empty index → ⊥
 no_stamp_there index h = let none : None ≡ Some h.entry = sym (get-empty nat_cmp index) ∙ h.there in absurd (cc none)
 
 settings_at_first : AreLawful no_settings
@@ -65,7 +68,7 @@ open_at_first = record {
   none = refl;
 }
 
-steady_at_first : IsSteady no_lines
+pub steady_at_first : IsSteady no_lines
 steady_at_first = record {
   settings = settings_at_first;
   not_late = λ _. refl;
@@ -94,7 +97,7 @@ next_within forms.Stamp h = lit≤ tt
 next_within forms.Entry h = absurd (omega (arith, h))
 next_within forms.Statement h = absurd (omega (arith, h))
 
-in_order_le : (first form : Form) → in_order first form ≡ true → rank first ≤ rank form
+pub in_order_le : (first form : Form) → in_order first form ≡ true → rank first ≤ rank form
 in_order_le first form is = grind (arith, nat_tests)
 
 -- where strings are in order
@@ -155,13 +158,13 @@ found_or_before table k entry other index is = elim (cases_eq index k) [
   | inr other_index ↦ inr (sym (apart table k entry index other_index) ∙ is)
 ]
 
-some_or_before : (table : Map) (k : ℕ) (entry : Entry) (index : ℕ) → IsSome (map.get (map.insert table k entry) index) → (index ≡ k) ⊎ IsSome (map.get table index)
+pub some_or_before : (table : Map) (k : ℕ) (entry : Entry) (index : ℕ) → IsSome (map.get (map.insert table k entry) index) → (index ≡ k) ⊎ IsSome (map.get table index)
 some_or_before table k entry index some = elim (cases_eq index k) [
   | inl same ↦ inl same
   | inr other_index ↦ inr (subst (λ (o : Option Entry). IsSome o) (apart table k entry index other_index) some)
 ]
 
-not_stamp : (tag : Tag) → is_string_tag tag ≡ true → tag ≢ tags.Timestamp
+pub not_stamp : (tag : Tag) → is_string_tag tag ≡ true → tag ≢ tags.Timestamp
 not_stamp tag is e = let clash : true ≡ false = sym is ∙ ap is_string_tag e in absurd (cc clash)
 
 pub string_steady : (first : Form) (n m k : ℕ) (s : Settings) (table more : Map) (names : NameMap) (writers : List (List Statement)) (entry : Entry)
@@ -245,9 +248,10 @@ past_if false s t new old = old refl
 pub past_closed : (s : State) → 4 < rank (closed s).first
 past_closed s = past_if (in_order s.first forms.Entry) s _ (lit< tt) (λ is. is_past s.first forms.Entry is)
 
-pub lawful_closed : (s : State) → IsSteady s → 4 < rank s.first → IsLawful s.script
-lawful_closed s h past = record {
+pub lawful_closed : (s : State) → IsSteady s → 4 < rank s.first → IsLawfulTable s.script.table → IsLawful s.script
+lawful_closed s h past table = record {
   settings = h.settings;
+  table = table;
   stamp = h.whole past;
   eight = h.eight;
   few = subst (λ (n : ℕ). n ≤ 4096) (sym h.count) h.few;
@@ -328,7 +332,7 @@ pub sound_of : (table : Map) (stamp : Option (ℕ × ℕ)) (stm : Statement) →
 sound_of table stamp stm fits logged short narrow = record {
   fits = fits;
   logged = logged_by table stm.index (look table stm.index) refl logged;
-  short = below message_limit (length (first_message table stamp stm)) short;
+  short = short_with table stamp stm (below message_limit (length (first_message table stamp stm)) short);
   narrow = below text_limit (length (eager_text table stm.index stm.args)) narrow;
 }
 

@@ -1,10 +1,11 @@
 -- What holds of every script.
-use Rattle.std.specs.Prelude.{◌≡◌, ◌≤◌, ℕ, List, codes, length, Option, Some, None}
+use Rattle.std.specs.Prelude.{◌≡◌, ◌≤◌, ℕ, List, codes, length, Option, Some, None, option_map}
 use Rattle.std.specs.FinMap as map
 use Rattle.std.specs.List.{AllByRecursion}
+use Rattle.defmt_eager.specs.Line.{text_limit}
 use Rattle.defmt_eager.specs.Show.{eager_text}
 use Rattle.defmt_encode.specs.Carry.{message_of, stamp_args}
-use Rattle.defmt_intern.specs.Table.{Map, IsStamp}
+use Rattle.defmt_intern.specs.Table.{Map, IsStamp, IsLawful as IsLawfulTable}
 use Rattle.defmt_intern.specs.declared.entry.Entry.{Entry}
 use Rattle.defmt_intern.specs.declared.entry.Tag.TheVariants.{Timestamp}
 use Rattle.defmt_lines.specs.Settings.{AreLawful}
@@ -12,25 +13,30 @@ use Rattle.defmt_script.specs.Script.{Script, base_of, count_all}
 use Rattle.defmt_values.specs.Fits.{Fits, IsLogged}
 use Rattle.defmt_values.specs.declared.value.Statement.{Statement}
 
--- the most statements, bytes of a message and bytes of a text
+-- the most statements, and the most bytes of a message
 abbrev pub statements_limit : ℕ
 statements_limit = 4096
 
 abbrev pub message_limit : ℕ
 message_limit = 2000
 
-abbrev pub text_limit : ℕ
-text_limit = 65536
+-- the stamp that a message carries: none where the script has no stamps
+abbrev pub stamp_in : Option (ℕ × ℕ) → ℕ → Option ℕ
+stamp_in stamp n = option_map (λ p. n) stamp
 
--- the message of a statement, with the first stamp where there are stamps; each stamp takes as many bytes
+-- the message of a statement with this stamp, where there are stamps
+abbrev pub message_with : Map → Option (ℕ × ℕ) → ℕ → Statement → List ℕ
+message_with table stamp n stm = message_of table (stamp_args (stamp_in stamp n)) stm.index stm.args
+
+-- the message of a statement with the first stamp, where there are stamps
 abbrev pub first_message : Map → Option (ℕ × ℕ) → Statement → List ℕ
 first_message table stamp stm = message_of table (stamp_args (base_of stamp)) stm.index stm.args
 
--- The statement fits the table, is a message's, and neither its message nor its text is too long.
+-- The statement fits the table, is a message's, and neither its message, whatever the stamp, nor its text is too long.
 pub record IsSound (table : Map) (stamp : Option (ℕ × ℕ)) (stm : Statement) : Type 0 where
   pub fits : Fits table stm.index stm.args
   pub logged : IsLogged table stm.index
-  pub short : length (first_message table stamp stm) ≤ message_limit
+  pub short : (n : ℕ) → length (message_with table stamp n stm) ≤ message_limit
   pub narrow : length (eager_text table stm.index stm.args) ≤ text_limit
 
 -- The table has a timestamp's entry exactly where there are stamps, and its text is `{=u64:us}`.
@@ -40,6 +46,7 @@ HasStamp (Some p) table = (index : ℕ) × (entry : Entry) × (map.get table ind
 
 pub record IsLawful (s : Script) : Type 0 where
   pub settings : AreLawful s.settings
+  pub table : IsLawfulTable s.table
   pub stamp : HasStamp s.settings.stamp s.table
   pub eight : length s.writers ≡ 8
   pub few : count_all s.writers ≤ statements_limit

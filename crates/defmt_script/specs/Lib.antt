@@ -4,3 +4,5 @@ pub mod Lawful
 pub mod Reads
 pub mod Script
 pub mod State
+pub mod Steady
+pub mod Texts

@@ -2,6 +2,7 @@
 use Rattle.std.specs.Prelude.{◌≡◌, ◌⊎◌, ◌+◌, ℕ, Bool, false, not, nat_lt, List, [], ◌∷◌, length, Option, Some, None, is_some, Result, Ok, Err, if◌then◌else◌}
 use Rattle.std.specs.FinMap as map
 use Rattle.std.specs.Str.Lines.{lines}
+use Rattle.defmt_eager.specs.Line.{text_limit}
 use Rattle.defmt_eager.specs.Show.{eager_text}
 use Rattle.defmt_intern.specs.Table.{Map}
 use Rattle.defmt_intern.specs.declared.entry.Entry.{Entry}
@@ -16,7 +17,7 @@ use Rattle.defmt_lines.specs.declared.cause.Cause.TheVariants as causes
 use Rattle.defmt_lines.specs.declared.form.Form.{Form}
 use Rattle.defmt_lines.specs.declared.form.Form.TheVariants as forms
 use Rattle.defmt_lines.specs.declared.settings.Settings.{Settings}
-use Rattle.defmt_script.specs.Lawful.{first_message, message_limit, statements_limit, text_limit}
+use Rattle.defmt_script.specs.Lawful.{first_message, message_limit, statements_limit}
 use Rattle.defmt_script.specs.Script.{Script, Refusal, add_statement}
 use Rattle.defmt_script.specs.State.{State, closed, entry_at, no_lines, strings_limit}
 use Rattle.defmt_spelling.specs.Spelling.{ReadsArguments}

@@ -2,14 +2,16 @@
 #![tactic(auto)]
 
 mod fault;
+mod laws;
 mod reading;
 mod script;
 mod top;
 
 pub use defmt_lines::RingMode;
 pub use fault::ScriptFault;
+pub use laws::{scripts_are_lawful, stamps_are_alike, stamps_fit, texts_are_few};
 pub use script::{Script, Statements};
-pub use top::{one_reading, read, stamps_are_alike};
+pub use top::{one_reading, read};
 
 #[cfg(test)]
 mod tests;

@@ -3,6 +3,7 @@
 ghost use Rattle.std.specs.Prelude.{◌≡◌, ◌≤◌, ◌<◌, ℕ, length, nat_lt, Ok, OnOk, OnErr, IfOk, true};
 ghost use Rattle.std.specs.FinMap as map;
 ghost use Rattle.std.specs.Fmt.{decimal};
+ghost use Rattle.defmt_eager.specs.Line.{text_limit};
 ghost use Rattle.defmt_eager.specs.Show.{eager_text};
 ghost use Rattle.defmt_intern.specs.Table.{InsertRefused};
 ghost use Rattle.defmt_lines.specs.Form.{in_order, rank};
@@ -10,17 +11,17 @@ ghost use Rattle.defmt_lines.specs.Line.{entry, statement, is_string_tag};
 ghost use Rattle.defmt_lines.specs.LineView.{line_view};
 ghost use Rattle.defmt_lines.specs.declared.settings.Settings.{Settings as AnySettings};
 ghost use Rattle.defmt_script.specs.Answers.{Becomes, TakesLine};
-ghost use Rattle.defmt_script.specs.Lawful.{first_message, message_limit, statements_limit, text_limit};
+ghost use Rattle.defmt_script.specs.Lawful.{first_message, message_limit, statements_limit};
 ghost use Rattle.defmt_script.specs.Reads.{admits_statement, admits_string, is_message, sets, takes_statement, with_string};
 ghost use Rattle.defmt_script.specs.Script.{base_of};
-ghost use Rattle.defmt_script.specs.State.{StaysLawful, closed, entry_at, no_lines, no_statements, strings_limit};
+ghost use Rattle.defmt_script.specs.State.{closed, entry_at, no_lines, no_statements, strings_limit};
+ghost use Rattle.defmt_script.specs.Steady.{StaysLawful};
 ghost use Rattle.defmt_spelling.specs.Spelling.{ReadsArguments};
 ghost use Rattle.defmt_values.specs.Entries.{is_logged};
 ghost use Rattle.defmt_values.specs.Fits.{Fits};
 
 use crate::fault::LineFault;
 use crate::script::{Script, Statements};
-use defmt_eager::{EagerFault, text_of};
 use defmt_encode::message;
 use defmt_grammar::Text;
 use defmt_intern::{Entry, Table, TableFault, Tag};
@@ -50,7 +51,8 @@ pub struct Reading {
 }
 
 impl Model for Reading {
-    ghost use Rattle.defmt_script.specs.State.{IsSteady, State};
+    ghost use Rattle.defmt_script.specs.State.{State};
+    ghost use Rattle.defmt_script.specs.Steady.{IsSteady};
     ghost use Rattle.defmt_script.specs.Codes.{coded_state};
 
     ghost Value = { State };
@@ -189,10 +191,9 @@ fn is_wide(alloc: Global, table: &Table, stm: &Statement) -> Result<bool, Memory
     requires { Fits table.now stm.now.index stm.now.args }
     ensures { IfOk result (λ wide. wide ≡ nat_lt text_limit (length (eager_text table.now stm.now.index stm.now.args))) }
 {
-    match text_of(alloc, table, stm) {
-        Ok(_) => Ok(false),
-        Err(EagerFault::Wide) => Ok(true),
-        Err(EagerFault::Memory) => Err(Memory),
+    match defmt_eager::is_wide(alloc, table, stm) {
+        Ok(wide) => Ok(wide),
+        Err(_) => Err(Memory),
     }
 }
 
@@ -382,6 +383,7 @@ impl Reading {
             names,
             writers,
         } = self;
+        table.lawful();
         Ok(Script::new(settings, table, names, writers))
     }
 }

@@ -1,12 +1,9 @@
 //! The reading of a script.
 
-ghost use Rattle.std.specs.Prelude.{◌≡◌, ◌<◌, ◌^◌, ℕ, List, Result, Some, length};
-ghost use Rattle.defmt_encode.specs.Carry.{message_of, stamp_args};
-ghost use Rattle.defmt_intern.specs.Table.{Map};
+ghost use Rattle.std.specs.Prelude.{◌≡◌, ◌<◌, ◌^◌, ℕ, List, Result, length};
 ghost use Rattle.defmt_script.specs.Answers.{Answers, GivesOnly};
 ghost use Rattle.defmt_script.specs.Reads.{Reads};
 ghost use Rattle.defmt_script.specs.Script.{Refusal, Script as Read};
-ghost use Rattle.defmt_values.specs.Plain.{Vals};
 
 use crate::fault::{LineFault, ScriptFault};
 use crate::reading::Reading;
@@ -62,10 +59,3 @@ fn read_lines(alloc: Global, text: &[u8]) -> Result<Script, ScriptFault>
     }
     Ok(reading.finish()?)
 }
-
-/// The message of a statement has as many bytes with each stamp as with any other: where it is short with the first, it is
-/// with each.
-pub fn stamps_are_alike()
-    ensures { (table : Map) (index : ℕ) (args : Vals) (one other : ℕ)
-        → length (message_of table (stamp_args (Some one)) index args) ≡ length (message_of table (stamp_args (Some other)) index args) }
-{}

@@ -32,10 +32,7 @@ pub fn look_up(table: &Table, index: u16) -> Option<(&Entry, &Parsed)>
     ensures { MatchOption result (look table.now index ≡ None)
         (λ p. (look table.now index ≡ Some p.0.now) × (p.1.now ≡ body_of p.0.now)) }
 {
-    match (table.get(index), table.parsed(index)) {
-        (Some(entry), Some(parsed)) => Some((entry, parsed)),
-        _ => None,
-    }
+    table.look(index)
 }
 
 /// Whether Format values may have an entry of this tag. Takes no memory.

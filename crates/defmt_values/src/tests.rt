@@ -1,4 +1,4 @@
-// What fits a small table, and each cause for which a statement doesn't.
+//! What fits a small table, and each cause for which a statement doesn't.
 use crate::{Args, Item, Items, Node, Seq, Statement, Value, check};
 use defmt_grammar::Text;
 use defmt_intern::{Entry, Table, Tag};
@@ -94,73 +94,75 @@ fn nested_values_fit(rt: HostRuntime) -> Result<(), Fail> {
 }
 
 #[test]
-fn values_of_each_kind_fit_their_slots(rt: HostRuntime) -> Result<(), Fail> {
+fn values_are_tested_by_their_slots(rt: HostRuntime) -> Result<(), Fail> {
     let alloc = rt.alloc();
-    let bytes = Value::Bytes(Bytes::from_slice(alloc, &[1, 2, 3])?);
-    assert_eq!(rt; cause_for(alloc, "{=[u8]}", bytes)?, Ok(()));
-    let array = Value::Bytes(Bytes::from_slice(alloc, &[1, 2, 3])?);
-    assert_eq!(rt; cause_for(alloc, "{=[u8; 3]}", array)?, Ok(()));
-    assert_eq!(rt;
-        cause_for(alloc, "{=u128}", Value::Uint(u128::MAX))?,
-        Ok(())
-    );
-    assert_eq!(rt; cause_for(alloc, "{=i128}", Value::Int(i128::MIN))?, Ok(()));
-    assert_eq!(rt; cause_for(alloc, "{=char}", Value::Char('x'))?, Ok(()));
-    assert_eq!(rt; cause_for(alloc, "{=bool}", Value::Bool(true))?, Ok(()));
-    assert_eq!(rt;
-        cause_for(alloc, "{=str}", Value::Str(text_of(alloc, "x")?))?,
-        Ok(())
-    );
+    for (text, value, want) in [
+        ("{=u128}", Value::Uint(u128::MAX), Ok(())),
+        ("{=i128}", Value::Int(i128::MIN), Ok(())),
+        ("{=char}", Value::Char('x'), Ok(())),
+        ("{=bool}", Value::Bool(true), Ok(())),
+        ("{=u8}", Value::Uint(255), Ok(())),
+        ("{=u8}", Value::Uint(256), Err(4)),
+        ("{=usize}", Value::Uint(0xffff_ffff), Ok(())),
+        ("{=usize}", Value::Uint(0x1_0000_0000), Err(4)),
+        ("{=i8}", Value::Int(-128), Ok(())),
+        ("{=i8}", Value::Int(-129), Err(4)),
+        ("{=i16}", Value::Int(32768), Err(4)),
+        ("{0=0..4} {0=8..12}", Value::Bits(0x0a05), Ok(())),
+        ("{0=0..4} {0=8..12}", Value::Bits(0xffff), Ok(())),
+        ("{0=0..4} {0=8..12}", Value::Bits(0x1_0000), Err(4)),
+        ("{=8..16}", Value::Bits(0x0100), Ok(())),
+        ("{=8..16}", Value::Bits(0x0101), Err(4)),
+    ] {
+        assert_eq!(rt; cause_for(alloc, text, value)?, want, "{text}");
+    }
     Ok(())
 }
 
 #[test]
-fn numbers_outside_their_kind_are_refused(rt: HostRuntime) -> Result<(), Fail> {
+fn texts_and_bytes_are_tested_by_their_slots(rt: HostRuntime) -> Result<(), Fail> {
     let alloc = rt.alloc();
-    assert_eq!(rt; cause_for(alloc, "{=u8}", Value::Uint(255))?, Ok(()));
-    assert_eq!(rt; cause_for(alloc, "{=u8}", Value::Uint(256))?, Err(4));
-    assert_eq!(rt;
-        cause_for(alloc, "{=usize}", Value::Uint(0xffff_ffff))?,
-        Ok(())
-    );
-    assert_eq!(rt;
-        cause_for(alloc, "{=usize}", Value::Uint(0x1_0000_0000))?,
-        Err(4)
-    );
-    assert_eq!(rt; cause_for(alloc, "{=i8}", Value::Int(-128))?, Ok(()));
-    assert_eq!(rt; cause_for(alloc, "{=i8}", Value::Int(-129))?, Err(4));
-    assert_eq!(rt; cause_for(alloc, "{=i16}", Value::Int(32768))?, Err(4));
-    let two_bytes = Value::Bytes(Bytes::from_slice(alloc, &[1, 2])?);
-    assert_eq!(rt; cause_for(alloc, "{=[u8; 3]}", two_bytes)?, Err(4));
+    let word = Value::Str(text_of(alloc, "x")?);
+    assert_eq!(rt; cause_for(alloc, "{=str}", word)?, Ok(()));
+    for (text, bytes, want) in [
+        ("{=[u8]}", b"abc".as_slice(), Ok(())),
+        ("{=[u8; 3]}", b"abc", Ok(())),
+        ("{=[u8; 3]}", b"ab", Err(4)),
+    ] {
+        let bytes = Value::Bytes(Bytes::from_slice(alloc, bytes)?);
+        assert_eq!(rt; cause_for(alloc, text, bytes)?, want, "{text}");
+    }
     Ok(())
 }
 
-#[test]
-fn bits_outside_the_window_are_refused(rt: HostRuntime) -> Result<(), Fail> {
-    let alloc = rt.alloc();
-    let text = "{0=0..4} {0=8..12}";
-    assert_eq!(rt; cause_for(alloc, text, Value::Bits(0x0a05))?, Ok(()));
-    assert_eq!(rt; cause_for(alloc, text, Value::Bits(0xffff))?, Ok(()));
-    assert_eq!(rt; cause_for(alloc, text, Value::Bits(0x1_0000))?, Err(4));
-    assert_eq!(rt; cause_for(alloc, "{=8..16}", Value::Bits(0x0100))?, Ok(()));
-    assert_eq!(rt; cause_for(alloc, "{=8..16}", Value::Bits(0x0101))?, Err(4));
-    Ok(())
+// Numbers, and `true` where there is none.
+fn numbers_and_flags(alloc: Global, list: &[Option<u128>]) -> Result<Args, Fail> {
+    let mut args = Args::new(alloc);
+    for number in list {
+        args.push(match number {
+            Some(number) => Value::Uint(*number),
+            None => Value::Bool(true),
+        })?;
+    }
+    Ok(args)
 }
 
 #[test]
 fn counts_and_kinds_are_refused_from_left_to_right(rt: HostRuntime) -> Result<(), Fail> {
     let alloc = rt.alloc();
     let table = table_of(alloc, "{=u8} {=bool}")?;
-    assert_eq!(rt; cause_of(&table, Args::new(alloc)), Err(2));
-    assert_eq!(rt; cause_of(&table, one(alloc, Value::Uint(1))?), Err(2));
-    assert_eq!(rt; cause_of(&table, one(alloc, Value::Bool(true))?), Err(3));
-    assert_eq!(rt;
-        cause_of(&table, two(alloc, Value::Uint(256), Value::Uint(1))?),
-        Err(4)
-    );
-    let mut three = two(alloc, Value::Uint(1), Value::Bool(true))?;
-    three.push(Value::Bool(true))?;
-    assert_eq!(rt; cause_of(&table, three), Err(2));
+    for (list, cause) in [
+        ([].as_slice(), 2),
+        (&[Some(1)], 2),
+        (&[None], 3),
+        (&[Some(256), Some(1)], 4),
+        (&[Some(1), None, None], 2),
+    ] {
+        assert_eq!(rt;
+            cause_of(&table, numbers_and_flags(alloc, list)?),
+            Err(cause)
+        );
+    }
     Ok(())
 }
 
@@ -172,70 +174,26 @@ fn entries_that_do_not_suit_are_refused(rt: HostRuntime) -> Result<(), Fail> {
     let interned = add(alloc, &mut table, Tag::Interned, "word")?;
     let float = add(alloc, &mut table, Tag::Prim, "{=f32}")?;
     let pair = add(alloc, &mut table, Tag::Prim, "a|b")?;
-    let good = two(
-        alloc,
-        node(prim, None, Args::new(alloc)),
-        Value::Istr(interned),
-    )?;
-    assert_eq!(rt; cause_of(&table, good), Ok(()));
-    let missing = two(
-        alloc,
-        node(99, None, Args::new(alloc)),
-        Value::Istr(interned),
-    )?;
-    assert_eq!(rt; cause_of(&table, missing), Err(5));
-    let other_tag = two(
-        alloc,
-        node(interned, None, Args::new(alloc)),
-        Value::Istr(interned),
-    )?;
-    assert_eq!(rt; cause_of(&table, other_tag), Err(5));
-    let no_word = two(alloc, node(prim, None, Args::new(alloc)), Value::Istr(prim))?;
-    assert_eq!(rt; cause_of(&table, no_word), Err(5));
-    let refused = two(
-        alloc,
-        node(float, None, Args::new(alloc)),
-        Value::Istr(interned),
-    )?;
-    assert_eq!(rt; cause_of(&table, refused), Err(8));
-    let no_variant = two(
-        alloc,
-        node(pair, None, Args::new(alloc)),
-        Value::Istr(interned),
-    )?;
-    assert_eq!(rt; cause_of(&table, no_variant), Err(4));
-    let third = two(
-        alloc,
-        node(pair, Some(2), Args::new(alloc)),
-        Value::Istr(interned),
-    )?;
-    assert_eq!(rt; cause_of(&table, third), Err(4));
-    let no_enum = two(
-        alloc,
-        node(prim, Some(0), Args::new(alloc)),
-        Value::Istr(interned),
-    )?;
-    assert_eq!(rt; cause_of(&table, no_enum), Err(4));
-    assert_eq!(rt;
-        check(
-            &table,
-            &Statement {
-                index: 99,
-                args: Args::new(alloc)
-            }
-        ),
-        Err(5)
-    );
-    assert_eq!(rt;
-        check(
-            &table,
-            &Statement {
-                index: pair,
-                args: Args::new(alloc)
-            }
-        ),
-        Err(4)
-    );
+    for (index, variant, word, want) in [
+        (prim, None, interned, Ok(())),
+        (99, None, interned, Err(5)),
+        (interned, None, interned, Err(5)),
+        (prim, None, prim, Err(5)),
+        (float, None, interned, Err(8)),
+        (pair, None, interned, Err(4)),
+        (pair, Some(2), interned, Err(4)),
+        (prim, Some(0), interned, Err(4)),
+    ] {
+        let value = node(index, variant, Args::new(alloc));
+        assert_eq!(rt;
+            cause_of(&table, two(alloc, value, Value::Istr(word))?),
+            want
+        );
+    }
+    for (index, cause) in [(99, 5), (pair, 4)] {
+        let args = Args::new(alloc);
+        assert_eq!(rt; check(&table, &Statement { index, args }), Err(cause));
+    }
     Ok(())
 }
 
@@ -258,26 +216,21 @@ fn sixteen_levels_fit_and_seventeen_do_not(rt: HostRuntime) -> Result<(), Fail> 
 #[test]
 fn weights_up_to_the_limit_fit(rt: HostRuntime) -> Result<(), Fail> {
     let alloc = rt.alloc();
-    let mut table = table_of(alloc, "{=[?]}")?;
-    let leaf = add(alloc, &mut table, Tag::Prim, "k")?;
-    assert_eq!(rt;
-        cause_of(&table, one(alloc, list_of(alloc, leaf, 8192)?)?),
-        Ok(())
-    );
-    assert_eq!(rt;
-        cause_of(&table, one(alloc, list_of(alloc, leaf, 8193)?)?),
-        Err(7)
-    );
-    let mut twice = table_of(alloc, "{0=[?]}{0=[?]}")?;
-    let leaf = add(alloc, &mut twice, Tag::Prim, "k")?;
-    assert_eq!(rt;
-        cause_of(&twice, one(alloc, list_of(alloc, leaf, 4096)?)?),
-        Ok(())
-    );
-    assert_eq!(rt;
-        cause_of(&twice, one(alloc, list_of(alloc, leaf, 4097)?)?),
-        Err(7)
-    );
+    for (text, count, want) in [
+        ("{=[?]}", 8192, Ok(())),
+        ("{=[?]}", 8193, Err(7)),
+        ("{0=[?]}{0=[?]}", 4096, Ok(())),
+        ("{0=[?]}{0=[?]}", 4097, Err(7)),
+    ] {
+        let mut table = table_of(alloc, text)?;
+        let leaf = add(alloc, &mut table, Tag::Prim, "k")?;
+        let list = list_of(alloc, leaf, count)?;
+        assert_eq!(rt;
+            cause_of(&table, one(alloc, list)?),
+            want,
+            "{count} of {text}"
+        );
+    }
     Ok(())
 }
 
@@ -286,25 +239,18 @@ fn lists_name_an_entry_exactly_where_they_have_elements(rt: HostRuntime) -> Resu
     let alloc = rt.alloc();
     let mut table = table_of(alloc, "{=[?; 2]}")?;
     let leaf = add(alloc, &mut table, Tag::Prim, "k")?;
-    assert_eq!(rt;
-        cause_of(&table, one(alloc, list_of(alloc, leaf, 2)?)?),
-        Ok(())
-    );
-    assert_eq!(rt;
-        cause_of(&table, one(alloc, list_of(alloc, leaf, 3)?)?),
-        Err(4)
-    );
-    assert_eq!(rt;
-        cause_of(&table, one(alloc, list_of(alloc, leaf, 0)?)?),
-        Err(5)
-    );
+    for (count, want) in [(2, Ok(())), (3, Err(4)), (0, Err(5))] {
+        let list = list_of(alloc, leaf, count)?;
+        assert_eq!(rt;
+            cause_of(&table, one(alloc, list)?),
+            want,
+            "{count} elements"
+        );
+    }
     let empty = Value::Seq(Seq {
         index: None,
         items: Items::new(alloc),
     });
-    assert_eq!(rt;
-        cause_of(&table_of(alloc, "{=[?]}")?, one(alloc, empty)?),
-        Ok(())
-    );
+    assert_eq!(rt; cause_for(alloc, "{=[?]}", empty)?, Ok(()));
     Ok(())
 }

@@ -1,5 +1,5 @@
 //! Values of arguments, and the lists of them.
-ghost use Rattle.std.specs.Prelude.{◌≡◌, OnOk, OnErr, map};
+ghost use Rattle.std.specs.Prelude.{◌≡◌, IfOk, OnOk, OnErr, map};
 ghost use Rattle.std.specs.List.{slice_get};
 ghost use Rattle.std.specs.Option.{option_copied, option_map};
 ghost use Rattle.defmt_values.specs.Plain.{vals_get, no_vals, no_elems, snoc, snoc_elem, vals_len, vals_empty, elems_len, elems_empty};
@@ -140,6 +140,22 @@ impl Args {
         Args {
             items: Vec::new(alloc),
         }
+    }
+
+    /// An empty list that has room for so many values. It grows by this allocator.
+    pub fn with_room(alloc: Global, count: usize) -> Result<Self, Memory>
+        ensures { IfOk result (λ args. args ≡ no_vals) }
+    {
+        Ok(Args {
+            items: Vec::with_capacity(alloc, count)?,
+        })
+    }
+
+    /// Takes all values out. Takes no memory.
+    pub fn clear(&mut self)
+        ensures { self.new ≡ no_vals }
+    {
+        self.items.clear();
     }
 
     /// The values in their order. Takes no memory.

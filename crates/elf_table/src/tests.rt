@@ -149,17 +149,18 @@ const QUOTED: &[u8] = b"\"_defmt_encoding_ = rzcobs\"";
 #[test]
 fn linked_files_of_both_classes_name_their_table(rt: HostRuntime) -> Result<(), Fail> {
     let alloc = rt.alloc();
-    for wide in [false, true] {
-        let file = linked(alloc, wide, &rows(PLAIN, (NAME, 3), (b"main", 3)))?;
-        assert_eq!(rt;
-            listing(alloc, &table_of(alloc, &file)?)?.as_str(),
-            "3 defmt_info hello; "
-        );
-        let file = linked(alloc, wide, &rows(QUOTED, (NAME, 3), (STAMP, 2)))?;
-        assert_eq!(rt;
-            listing(alloc, &table_of(alloc, &file)?)?.as_str(),
-            "2 defmt_timestamp {=u64}; 3 defmt_info hello; "
-        );
+    for (encoding, two, want) in [
+        (PLAIN, (b"main".as_slice(), 3), "3 defmt_info hello; "),
+        (
+            QUOTED,
+            (STAMP, 2),
+            "2 defmt_timestamp {=u64}; 3 defmt_info hello; ",
+        ),
+    ] {
+        for wide in [false, true] {
+            let file = linked(alloc, wide, &rows(encoding, (NAME, 3), two))?;
+            assert_eq!(rt; listing(alloc, &table_of(alloc, &file)?)?.as_str(), want);
+        }
     }
     Ok(())
 }
@@ -167,52 +168,38 @@ fn linked_files_of_both_classes_name_their_table(rt: HostRuntime) -> Result<(), 
 #[test]
 fn symbols_are_refused_with_their_place(rt: HostRuntime) -> Result<(), Fail> {
     let alloc = rt.alloc();
+    for (one, two, cause, symbol) in [
+        ((NAME, 3), (NAME, 3), 2, 1),
+        ((NAME, 65536), (NO_TAG, 3), 6, 0),
+        ((NAME, 65535), (NO_TAG, 65536), 3, 1),
+        ((STAMP, 1), (STAMP, 2), 5, 1),
+    ] {
+        for wide in [false, true] {
+            let file = linked(alloc, wide, &rows(PLAIN, one, two))?;
+            assert_eq!(rt;
+                fault_of(alloc, &file),
+                Some(LoadFault::Names { cause, symbol })
+            );
+        }
+    }
+    Ok(())
+}
+
+#[test]
+fn a_refused_file_is_refused_before_its_symbols(rt: HostRuntime) -> Result<(), Fail> {
+    let alloc = rt.alloc();
+    let fault = LoadFault::Elf {
+        cause: 8,
+        part: Part::Nothing,
+        place: 0,
+    };
     for wide in [false, true] {
-        let file = linked(alloc, wide, &rows(PLAIN, (NAME, 3), (NAME, 3)))?;
-        assert_eq!(rt;
-            fault_of(alloc, &file),
-            Some(LoadFault::Names {
-                cause: 2,
-                symbol: 1
-            })
-        );
-        let file = linked(alloc, wide, &rows(PLAIN, (NAME, 65536), (NO_TAG, 3)))?;
-        assert_eq!(rt;
-            fault_of(alloc, &file),
-            Some(LoadFault::Names {
-                cause: 6,
-                symbol: 0
-            })
-        );
-        let file = linked(alloc, wide, &rows(PLAIN, (NAME, 65535), (NO_TAG, 65536)))?;
-        assert_eq!(rt;
-            fault_of(alloc, &file),
-            Some(LoadFault::Names {
-                cause: 3,
-                symbol: 1
-            })
-        );
-        let file = linked(alloc, wide, &rows(PLAIN, (STAMP, 1), (STAMP, 2)))?;
-        assert_eq!(rt;
-            fault_of(alloc, &file),
-            Some(LoadFault::Names {
-                cause: 5,
-                symbol: 1
-            })
-        );
         let file = linked(
             alloc,
             wide,
             &rows(b"_defmt_encoding_ = raw", (NO_TAG, 1), (STAMP, 2)),
         )?;
-        assert_eq!(rt;
-            fault_of(alloc, &file),
-            Some(LoadFault::Elf {
-                cause: 8,
-                part: Part::Nothing,
-                place: 0
-            })
-        );
+        assert_eq!(rt; fault_of(alloc, &file), Some(fault));
     }
     Ok(())
 }

@@ -1,4 +1,4 @@
-// Numbers and parts of an image.
+//! Numbers and parts of an image.
 ghost use Rattle.std.specs.Prelude.{◌≡◌, ◌+◌, ◌*◌, ◌^◌, ◌<◌, ◌≤◌, length, All};
 ghost use Rattle.std.specs.List.{flat_map};
 ghost use Rattle.rtt_control.specs.Layout.{IsWords, descriptor_at, descriptor_bytes, id, starts_with_id, with_bytes, word, word_bytes};

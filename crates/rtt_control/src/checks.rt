@@ -1,4 +1,4 @@
-// The checks of descriptors.
+//! The checks of descriptors.
 ghost use Rattle.std.specs.Prelude.{◌≡◌, ◌+◌, ◌*◌, ◌<◌, ◌≤◌, ◌++◌, ◌↔◌, ◌^◌, length, IsNone, IsTrue};
 ghost use Rattle.rtt_control.specs.Layout.{block_len};
 ghost use Rattle.rtt_control.specs.Checks.{HasOffsets, LiesIn};

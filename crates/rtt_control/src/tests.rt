@@ -1,3 +1,4 @@
+//! Images, their blocks and the bytes that wait, and each refusal.
 use crate::{Block, Cause, ControlFault, Descriptor, Descriptors, ID, find, read, unread, write};
 use std::alloc::Global;
 use std::test::Fail;
@@ -28,11 +29,11 @@ fn image(rd: u8, flags: u8) -> [u8; 64] {
     image
 }
 
-fn refused(cause: Cause, place: u32) -> Option<ControlFault> {
-    Some(ControlFault::Refused {
+fn refused(cause: Cause, place: u32) -> ControlFault {
+    ControlFault::Refused {
         cause: cause.number(),
         place,
-    })
+    }
 }
 
 fn block(alloc: Global, up: &[Descriptor], down: &[Descriptor]) -> Result<Block, Fail> {
@@ -42,36 +43,6 @@ fn block(alloc: Global, up: &[Descriptor], down: &[Descriptor]) -> Result<Block,
     })
 }
 
-#[test]
-fn the_only_id_is_found(rt: HostRuntime) {
-    assert_eq!(rt; find(&image(14, 2)), Ok(0));
-    assert_eq!(rt; find(b"SEGGER RTTSEGGER RTT\0\0\0\0\0\0"), Ok(10));
-}
-
-#[test]
-fn no_id_is_refused_at_0(rt: HostRuntime) {
-    assert_eq!(rt; find(&[0; 64]).err(), refused(Cause::NoId, 0));
-    assert_eq!(rt; find(&[]).err(), refused(Cause::NoId, 0));
-}
-
-#[test]
-fn an_id_that_the_end_cuts_is_none(rt: HostRuntime) {
-    let image = image(14, 2);
-    assert_eq!(rt; find(&image[..15]).err(), refused(Cause::NoId, 0));
-    assert_eq!(rt;
-        read(rt.alloc(), &image[..15], BASE, 0).err(),
-        refused(Cause::NoId, 0)
-    );
-    assert_eq!(rt;
-        read(rt.alloc(), &image, BASE, 60).err(),
-        refused(Cause::NoId, 60)
-    );
-    assert_eq!(rt;
-        read(rt.alloc(), &image, BASE, 100).err(),
-        refused(Cause::NoId, 100)
-    );
-}
-
 // The image with a second ID in place of its buffer.
 fn two_ids() -> [u8; 64] {
     let mut image = image(14, 2);
@@ -79,16 +50,70 @@ fn two_ids() -> [u8; 64] {
     image
 }
 
+// The image with two up-descriptors in its counts, of which the second passes the end.
+fn two_descriptors() -> [u8; 64] {
+    let mut image = image(14, 2);
+    image[16] = 2;
+    image
+}
+
+fn find_in(image: &[u8]) -> Option<Result<u32, ControlFault>> {
+    if image.len() >= 1 << 32 {
+        return None;
+    }
+    Some(find(image))
+}
+
 #[test]
-fn a_second_id_is_refused_at_its_place(rt: HostRuntime) {
-    assert_eq!(rt; find(&two_ids()).err(), refused(Cause::TwoIds, 48));
+fn the_only_id_is_found_and_else_the_image_is_refused(rt: HostRuntime) {
+    let image = image(14, 2);
+    for (bytes, want) in [
+        (image.as_slice(), Ok(0)),
+        (b"SEGGER RTTSEGGER RTT\0\0\0\0\0\0", Ok(10)),
+        (&[0; 64], Err(refused(Cause::NoId, 0))),
+        (&[], Err(refused(Cause::NoId, 0))),
+        (&image[..15], Err(refused(Cause::NoId, 0))),
+        (&two_ids(), Err(refused(Cause::TwoIds, 48))),
+    ] {
+        assert_eq!(rt; find_in(bytes), Some(want));
+    }
+}
+
+fn read_fault(alloc: Global, image: &[u8], at: u32) -> Option<ControlFault> {
+    if image.len() >= 1 << 32 {
+        return None;
+    }
+    read(alloc, image, BASE, at).err()
+}
+
+#[test]
+fn a_block_is_refused_by_its_first_fault(rt: HostRuntime) {
+    let image_of_14 = image(14, 2);
+    for (bytes, at, cause) in [
+        (&image_of_14[..15], 0, Cause::NoId),
+        (&image_of_14, 60, Cause::NoId),
+        (&image_of_14, 100, Cause::NoId),
+        (&image_of_14[..23], 0, Cause::Bounds),
+        (&two_descriptors(), 0, Cause::Bounds),
+        (&image(16, 2), 0, Cause::Offset),
+        (&image(14, 3), 0, Cause::Flags),
+        (&image(14, 7), 0, Cause::Flags),
+    ] {
+        assert_eq!(rt; read_fault(rt.alloc(), bytes, at), Some(refused(cause, at)));
+    }
 }
 
 #[test]
 fn the_block_of_an_image_is_read(rt: HostRuntime) -> Result<(), Fail> {
-    let block = read(rt.alloc(), &image(14, 2), BASE, 0)?;
-    assert_eq!(rt; block.up.as_slice(), [UP].as_slice());
-    assert!(rt; block.down.is_empty());
+    for flags in [2, 0xfc] {
+        let block = read(rt.alloc(), &image(14, flags), BASE, 0)?;
+        let up = Descriptor {
+            flags: u32::from(flags),
+            ..UP
+        };
+        assert_eq!(rt; block.up.as_slice(), [up].as_slice());
+        assert!(rt; block.down.is_empty());
+    }
     Ok(())
 }
 
@@ -112,121 +137,66 @@ fn a_block_is_read_at_its_place_in_the_image(rt: HostRuntime) -> Result<(), Fail
     Ok(())
 }
 
+// A buffer of no bytes.
+const EMPTY: Descriptor = Descriptor {
+    name: 0,
+    start: 7,
+    size: 0,
+    wr: 0,
+    rd: 0,
+    flags: 2,
+};
+
 #[test]
-fn the_waiting_bytes_go_round_the_end(rt: HostRuntime) -> Result<(), Fail> {
+fn the_waiting_bytes_go_round_the_end_up_to_the_write_offset(rt: HostRuntime) -> Result<(), Fail> {
     let image = image(14, 2);
-    let bytes = unread(rt.alloc(), &image, BASE, &UP)?;
-    assert_eq!(rt; bytes.as_slice(), [0, 1, 0x7e, 0].as_slice());
+    for (descriptor, want) in [
+        (UP, [0, 1, 0x7e, 0].as_slice()),
+        (Descriptor { rd: 0, ..UP }, &[0x7e, 0]),
+        (Descriptor { rd: 2, ..UP }, &[]),
+        (EMPTY, &[]),
+    ] {
+        let bytes = unread(rt.alloc(), &image, BASE, &descriptor)?;
+        assert_eq!(rt; bytes.as_slice(), want);
+    }
     Ok(())
 }
 
 #[test]
-fn the_waiting_bytes_end_before_the_write_offset(rt: HostRuntime) -> Result<(), Fail> {
+fn a_buffer_outside_the_image_or_an_offset_outside_the_buffer_is_refused(rt: HostRuntime) {
     let image = image(14, 2);
-    let bytes = unread(rt.alloc(), &image, BASE, &Descriptor { rd: 0, ..UP })?;
-    assert_eq!(rt; bytes.as_slice(), [0x7e, 0].as_slice());
-    let none = unread(rt.alloc(), &image, BASE, &Descriptor { rd: 2, ..UP })?;
-    assert_eq!(rt; none.len(), 0);
-    Ok(())
-}
-
-#[test]
-fn an_offset_at_the_size_is_refused(rt: HostRuntime) {
-    assert_eq!(rt;
-        read(rt.alloc(), &image(16, 2), BASE, 0).err(),
-        refused(Cause::Offset, 0)
-    );
-    let image = image(14, 2);
-    let wide = Descriptor { wr: 16, ..UP };
-    assert_eq!(rt;
-        unread(rt.alloc(), &image, BASE, &wide).err(),
-        refused(Cause::Offset, 0)
-    );
-}
-
-#[test]
-fn a_mode_of_3_is_refused_and_other_flags_are_not(rt: HostRuntime) -> Result<(), Fail> {
-    assert_eq!(rt;
-        read(rt.alloc(), &image(14, 3), BASE, 0).err(),
-        refused(Cause::Flags, 0)
-    );
-    assert_eq!(rt;
-        read(rt.alloc(), &image(14, 7), BASE, 0).err(),
-        refused(Cause::Flags, 0)
-    );
-    let kept = read(rt.alloc(), &image(14, 0xfc), BASE, 0)?;
-    assert_eq!(rt;
-        kept.up.as_slice(),
-        [Descriptor { flags: 0xfc, ..UP }].as_slice()
-    );
-    Ok(())
-}
-
-#[test]
-fn a_block_whose_counts_the_end_cuts_is_out_of_bounds(rt: HostRuntime) {
-    let image = image(14, 2);
-    assert_eq!(rt;
-        read(rt.alloc(), &image[..23], BASE, 0).err(),
-        refused(Cause::Bounds, 0)
-    );
-}
-
-// The image with two up-descriptors in its counts, of which the second passes the end.
-fn two_descriptors() -> [u8; 64] {
-    let mut image = image(14, 2);
-    image[16] = 2;
-    image
-}
-
-#[test]
-fn a_block_whose_descriptors_the_end_cuts_is_out_of_bounds(rt: HostRuntime) {
-    assert_eq!(rt;
-        read(rt.alloc(), &two_descriptors(), BASE, 0).err(),
-        refused(Cause::Bounds, 0)
-    );
-}
-
-#[test]
-fn a_buffer_outside_the_image_is_out_of_bounds(rt: HostRuntime) {
-    let image = image(14, 2);
-    let bounds = refused(Cause::Bounds, 0);
-    let behind = Descriptor {
-        start: BASE + 49,
-        ..UP
-    };
-    assert_eq!(rt; unread(rt.alloc(), &image, BASE, &behind).err(), bounds);
-    let before = Descriptor {
-        start: BASE - 1,
-        ..UP
-    };
-    assert_eq!(rt; unread(rt.alloc(), &image, BASE, &before).err(), bounds);
-    let last = Descriptor {
-        start: u32::MAX,
-        size: u32::MAX,
-        ..UP
-    };
-    assert_eq!(rt;
-        unread(rt.alloc(), &image, u32::MAX - 9, &last).err(),
-        bounds
-    );
-}
-
-#[test]
-fn a_buffer_of_no_bytes_lies_anywhere_and_nothing_waits_in_it(rt: HostRuntime) -> Result<(), Fail> {
-    let none = Descriptor {
-        start: 7,
-        size: 0,
-        wr: 0,
-        rd: 0,
-        ..UP
-    };
-    assert_eq!(rt; unread(rt.alloc(), &[], BASE, &none)?.len(), 0);
-    let off = Descriptor { wr: 1, ..none };
-    assert_eq!(rt;
-        unread(rt.alloc(), &[], BASE, &off).err(),
-        refused(Cause::Offset, 0)
-    );
-    Ok(())
+    for (base, descriptor, cause) in [
+        (BASE, Descriptor { wr: 16, ..UP }, Cause::Offset),
+        (BASE, Descriptor { wr: 1, ..EMPTY }, Cause::Offset),
+        (
+            BASE,
+            Descriptor {
+                start: BASE + 49,
+                ..UP
+            },
+            Cause::Bounds,
+        ),
+        (
+            BASE,
+            Descriptor {
+                start: BASE - 1,
+                ..UP
+            },
+            Cause::Bounds,
+        ),
+        (
+            u32::MAX - 9,
+            Descriptor {
+                start: u32::MAX,
+                size: u32::MAX,
+                ..UP
+            },
+            Cause::Bounds,
+        ),
+    ] {
+        let fault = unread(rt.alloc(), &image, base, &descriptor).err();
+        assert_eq!(rt; fault, Some(refused(cause, 0)));
+    }
 }
 
 // The image with other bytes behind its block.
@@ -252,9 +222,9 @@ fn a_refused_write_leaves_the_image(rt: HostRuntime) -> Result<(), Fail> {
     let mut image = [0xaa; 72];
     let lost = Descriptor { start: 0, ..UP };
     let refusal = write(&block(rt.alloc(), &[UP], &[lost])?, &mut image, BASE, 0);
-    assert_eq!(rt; refusal.err(), refused(Cause::Bounds, 1));
+    assert_eq!(rt; refusal, Err(refused(Cause::Bounds, 1)));
     let late = write(&block(rt.alloc(), &[UP], &[])?, &mut image, BASE, 25);
-    assert_eq!(rt; late.err(), refused(Cause::Bounds, 25));
+    assert_eq!(rt; late, Err(refused(Cause::Bounds, 25)));
     assert!(rt; image.iter().all(|b| *b == 0xaa));
     Ok(())
 }

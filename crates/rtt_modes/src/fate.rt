@@ -1,4 +1,4 @@
-// What became of a frame, and what a call does that waits.
+//! What became of a frame, and what a call does that waits.
 
 /// What became of a frame. Numbers are bytes.
 #[derive(Clone, Copy, PartialEq, Eq, Debug)]

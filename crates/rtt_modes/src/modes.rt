@@ -1,4 +1,4 @@
-// The three modes.
+//! The three modes.
 ghost use Rattle.std.specs.Prelude.{◌≡◌, ◌+◌, ◌^◌, ◌<◌, ◌≤◌, [], ◌++◌, length, take};
 ghost use Rattle.rtt_ring.specs.Views.{UpKept};
 ghost use Rattle.rtt_modes.specs.Fates.{ByLook, SkippedBy, TrimmedBy};

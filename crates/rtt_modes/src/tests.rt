@@ -1,4 +1,4 @@
-// Frames through a plain ring of 16 bytes.
+//! Frames through a plain ring of 16 bytes.
 ghost use Rattle.std.specs.Prelude.{◌≡◌, [], ⊤, IfOk};
 ghost use Rattle.rtt_ring.specs.PlainView.{up_of};
 

@@ -67,7 +67,7 @@ module _ (image : List ℕ) (size rd wait staged room looks got_len : ℕ) (t : 
       let g = length_staged in
       let b = k.bound in
       let f = k.freed in
-      record { within = omega arith; fits = λ _. omega arith; leaves = λ _ h. let e = k.leaves h in omega arith }
+      record { small = omega arith; within = omega arith; fits = λ _. omega arith; leaves = λ _ h. let e = k.leaves h in omega arith }
 
   -- bytes are put
   module _ (new bytes : List ℕ) (at : ℕ) (t' : Traffic) (now : t' ≡ put_more t bytes) (is : new ≡ stored image at bytes) (some : length bytes ≤ room)
@@ -148,6 +148,8 @@ module _ (image : List ℕ) (size rd wait staged room looks got_len : ℕ) (t : 
           same = up_same name name' size (size - 1 - wait) (look_up t) t' same now ∙ ap (λ (n : ℕ). record (up_view name size room t) { looks = t.up_looks + 1; room = size - 1 - wait; freed = n }) (sym g);
           later = omega arith;
           within = omega arith;
+          keeps = omega arith;
+          least = omega arith;
           told = λ _. omega arith;
         }
 

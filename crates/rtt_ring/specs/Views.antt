@@ -39,8 +39,10 @@ abbrev pub new_down : List ℕ → ℕ → Down
 new_down split size = record { split = split; size = size; got = []; found = 0; looks = 0 }
 
 -- what holds of every upper end: no byte is released that wasn't sent, and equal offsets mean an empty ring, so
--- at most one byte fewer than the size is in use. After the first look the room is what that leaves
+-- at most one byte fewer than the size is staged or room, and where the ring tells what is released, in use. There
+-- the room is what that leaves, after the first look
 pub record IsBounded (u : Up) : Type 0 where
+  pub small : length u.staged + u.room + 1 ≤ u.size
   pub within : u.freed ≤ length u.sent
   pub fits : u.tells ≡ true → length u.sent + length u.staged + 1 ≤ u.freed + u.size
   pub leaves : u.tells ≡ true → 0 < u.looks → u.room + length u.sent + length u.staged + 1 ≡ u.freed + u.size
@@ -50,6 +52,9 @@ pub record Looked (u v : Up) : Type 0 where
   pub same : v ≡ record u { looks = u.looks + 1; room = v.room; freed = v.freed }
   pub later : u.freed ≤ v.freed
   pub within : v.freed ≤ length u.sent
+  -- no room is lost, and of the size less one at most what was ever sent is missing
+  pub keeps : u.room ≤ v.room
+  pub least : u.size ≤ v.room + length u.sent + 1
   pub told : u.tells ≡ true → v.room + length u.sent + 1 ≡ v.freed + u.size
 
 -- bytes are put

@@ -1,4 +1,4 @@
-// A plain ring in one thread.
+//! A plain ring in one thread.
 ghost use Rattle.std.specs.Prelude.{◌≡◌, [], IfOk};
 ghost use Rattle.rtt_ring.specs.PlainView.{up_of};
 
@@ -40,20 +40,29 @@ fn new_ring(alloc: Global) -> Result<PlainRing, Fail>
     }
 }
 
+// Looks, sends the bytes where they fit, and answers the room that the look found.
+fn send(ring: &mut PlainRing, bytes: &[u8]) -> u32
+    requires { (up_of ring.old).staged ≡ [] }
+    ensures { (up_of ring.new).staged ≡ [] }
+{
+    let room = UpEnd::look(ring);
+    if bytes.len() <= room as usize {
+        ring.put(bytes);
+        ring.publish();
+    }
+    room
+}
+
 #[test]
 fn bytes_go_round_the_end_of_a_ring_of_16(rt: HostRuntime) -> Result<(), Fail> {
     let alloc = rt.alloc();
     let mut ring = new_ring(alloc)?;
     let mut buf = [0; 20];
-    assert_eq!(rt; UpEnd::look(&mut ring), 15);
-    ring.put(&FIFTEEN);
-    ring.publish();
-    assert_eq!(rt; UpEnd::look(&mut ring), 0);
+    assert_eq!(rt; send(&mut ring, &FIFTEEN), 15);
+    assert_eq!(rt; send(&mut ring, &TEN), 0);
     assert_eq!(rt; ring.take(&mut buf[..10]), 10);
     assert_eq!(rt; &buf[..10], &FIFTEEN[..10]);
-    assert_eq!(rt; UpEnd::look(&mut ring), 10);
-    ring.put(&TEN);
-    ring.publish();
+    assert_eq!(rt; send(&mut ring, &TEN), 10);
     assert_eq!(rt; DownEnd::look(&mut ring), 15);
     assert_eq!(rt; ring.take(&mut buf), 15);
     assert_eq!(rt; &buf[..15], LEFT.as_slice());
@@ -61,8 +70,7 @@ fn bytes_go_round_the_end_of_a_ring_of_16(rt: HostRuntime) -> Result<(), Fail> {
     let mut rest = Bytes::new(alloc);
     let settled = ring.settle(&mut rest)?;
     assert_eq!(rt; rest.len(), 0);
-    assert_eq!(rt; settled.sent_len(), 25);
-    assert_eq!(rt; settled.got_len(), 25);
+    assert_eq!(rt; (settled.sent_len(), settled.got_len()), (25, 25));
     assert_eq!(rt; settled.ring(), RingKind::Plain);
     Ok(())
 }
@@ -73,17 +81,9 @@ fn turned_ring(alloc: Global) -> Result<PlainRing, Fail>
 {
     let mut ring = new_ring(alloc)?;
     let mut buf = [0; 10];
-    if UpEnd::look(&mut ring) < 15 {
-        return Err(Fail::new("no room for 15"));
-    }
-    ring.put(&FIFTEEN);
-    ring.publish();
+    send(&mut ring, &FIFTEEN);
     ring.take(&mut buf);
-    if UpEnd::look(&mut ring) < 10 {
-        return Err(Fail::new("no room for 10"));
-    }
-    ring.put(&TEN);
-    ring.publish();
+    send(&mut ring, &TEN);
     Ok(ring)
 }
 
@@ -121,7 +121,6 @@ fn what_was_not_taken_is_the_rest(rt: HostRuntime) -> Result<(), Fail> {
     let mut rest = Bytes::new(rt.alloc());
     let settled = ring.settle(&mut rest)?;
     assert_eq!(rt; rest.as_slice(), LEFT.as_slice());
-    assert_eq!(rt; settled.sent_len(), 25);
-    assert_eq!(rt; settled.got_len(), 10);
+    assert_eq!(rt; (settled.sent_len(), settled.got_len()), (25, 10));
     Ok(())
 }

@@ -4,6 +4,7 @@ use Rattle.std.proofs.lemmas.Bool.{cases_eq}
 use Rattle.std.proofs.lemmas.Bool.Decides.{nat_tests}
 use Rattle.std.proofs.lemmas.List.{append-nil, take_more_set, take_more, take_all, drop_all, drop-set, get_or-append-add, get_or_append_left, length-take-le, length-drop, get_or-take, get_or-drop, same_lists, nil_from_length, drop_at, drop-drop, take-append-drop}
 use Rattle.std.proofs.Math.Nat.{pow-succ'}
+use Rattle.std.specs.Int.Count.{ones, ones_step, ones-le}
 use borrow.Rule.Slice.PartMut.{put_mid, post_of}
 use Rattle.rzcobs_core.specs.Blocks.{zero_bits, nonzero, first_form, second_form, third_form, IsBlock, few, zero_after, none_zero, Blocks, end, block}
 use Rattle.rzcobs_core.specs.Reading.{clear_bits, ReadsRun, ReadsLast, EndsInNoBlock}
@@ -291,12 +292,19 @@ moved_down out old at n size is within moved = same_lists (take n out) (drop at 
 
 -- counting
 
-pub count_more : (clear i bits total : ℕ) → i < 7 → clear + clear_bits (7 - i) bits ≡ total → (bits % 2 ≡ 0 → clear + 1 + clear_bits (7 - (i + 1)) (bits / 2) ≡ total) × (bits % 2 ≢ 0 → clear + clear_bits (7 - (i + 1)) (bits / 2) ≡ total)
-count_more clear i bits total more is =
-    let steps : 7 - i ≡ suc (7 - (i + 1)) = omega arith in
-    let e = ap (λ (n : ℕ). clear_bits n bits) steps in
-    let m = clear_bits-more (7 - (i + 1)) bits in
-    (λ even. omega (arith, is, e, m.1 (λ odd. absurd (omega arith))), λ odd. omega (arith, is, e, m.0 (let o : bits % 2 ≡ 1 = omega arith in o)))
+clear_bits-none : (code : ℕ) → clear_bits 0 code ≡ 0
+unfolding clear_bits
+clear_bits-none code = refl
+
+-- each bit is clear or set
+pub clear_and_set : (n code : ℕ) → code < 2 ^ n → clear_bits n code + ones code ≡ n
+clear_and_set zero code small = omega (arith, clear_bits-none code, ones-le 0 code small)
+clear_and_set (suc n) code small =
+    let more = clear_and_set n (code / 2) (omega (arith, pow-succ' 2 n)) in
+    elim (cases_eq (code % 2) 1) [
+      | inl odd ↦ omega (arith, ones_step code, (clear_bits-more n code).0 odd, more)
+      | inr even ↦ omega (arith, ones_step code, (clear_bits-more n code).1 even, more)
+    ]
 
 -- after seven bytes were put in front of a place
 pub put_front : (out seven : List ℕ) (at : ℕ) → 7 ≤ at → at ≤ length out → drop (at - 7) (put_mid (at - 7) (at - (at - 7)) out seven) ≡ seven ++ drop at out

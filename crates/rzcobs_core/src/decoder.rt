@@ -140,20 +140,13 @@ fn read_run<'a>(before: &'a [u8], stored: usize, out: &mut [u8], at: usize) -> (
 }
 
 // How many bytes a block of the first form stores: one for each clear bit.
-#[tactic(auto, unfolding(crate::specs::Reading::clear_bits))]
+#[tactic(auto, using(crate::proofs::Backwards::clear_and_set))]
 fn stored_of(code: u8) -> usize
+    requires { code < 128 }
     ensures count { result ≡ clear_bits 7 code }
     ensures small { result ≤ 7 }
 {
-    let mut bits = code;
-    let mut clear = 0usize;
-    for i in 0..7usize {
-        if bits % 2 == 0 {
-            clear += 1;
-        }
-        bits /= 2;
-    }
-    clear
+    7 - code.count_ones() as usize
 }
 
 // Puts seven bytes: a zero for each set bit, and the stored bytes in their order.
@@ -183,7 +176,5 @@ fn move_down(out: &mut [u8], at: usize)
     requires { at ≤ length out.old }
     ensures { take (length out.old - at) out.new ≡ drop at out.old }
 {
-    for i in 0..out.len() - at {
-        out[i] = out[at + i];
-    }
+    out.copy_within(at.., 0);
 }

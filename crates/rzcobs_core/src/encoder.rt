@@ -118,6 +118,9 @@ impl<'a> Encoder<'a> {
         ensures length { length self.new.out.now ≡ length self.old.out.now }
         ensures behind { GoesOn self.old self.new }
     {
+        if self.count < 7 {
+            return;
+        }
         if self.count == 7 && self.zeros != 0 {
             self.out[self.stored] = self.zeros;
             self.stored += 1;

@@ -104,19 +104,18 @@ fn a_zero_closes_a_long_run(rt: HostRuntime) -> Result<(), Fail> {
 }
 
 #[test]
-fn short_of_bytes_is_malformed(rt: HostRuntime) -> Result<(), Fail> {
-    assert!(rt; is_refused(&rt, &run_of(&rt, 1, 133, 0xff)?)?);
-    assert!(rt; is_refused(&rt, &run_of(&rt, 1, 132, 0xfe)?)?);
-    assert!(rt; is_refused(&rt, &run_of(&rt, 1, 6, 0x80)?)?);
-    assert!(rt; is_refused(&rt, &[1, 2, 3, 4, 5, 0x01])?);
-    assert!(rt; is_refused(&rt, &[0xff])?);
-    Ok(())
-}
-
-#[test]
-fn a_zero_or_a_byte_too_many_is_malformed(rt: HostRuntime) -> Result<(), Fail> {
-    assert!(rt; is_refused(&rt, &[0])?);
-    assert!(rt; is_refused(&rt, &[0x7f, 0])?);
+fn pieces_short_of_bytes_and_zeros_are_malformed(rt: HostRuntime) -> Result<(), Fail> {
+    for (byte, count, last) in [
+        (1u8, 133usize, 0xffu8),
+        (1, 132, 0xfe),
+        (1, 6, 0x80),
+        (1, 5, 0x01),
+        (1, 0, 0xff),
+        (1, 0, 0),
+        (0x7f, 1, 0),
+    ] {
+        assert!(rt; is_refused(&rt, &run_of(&rt, byte, count, last)?)?);
+    }
     assert!(rt; is_refused(&rt, &[0, 1, 0x7e])?);
     assert!(rt; is_refused(&rt, &[9, 1, 0x7e])?);
     Ok(())
@@ -124,12 +123,16 @@ fn a_zero_or_a_byte_too_many_is_malformed(rt: HostRuntime) -> Result<(), Fail> {
 
 #[test]
 fn a_message_comes_back_at_each_edge(rt: HostRuntime) -> Result<(), Fail> {
-    assert!(rt; comes_back(&rt, 6, 1)?);
-    assert!(rt; comes_back(&rt, 7, 1)?);
-    assert!(rt; comes_back(&rt, 8, 1)?);
-    assert!(rt; comes_back(&rt, 133, 1)?);
-    assert!(rt; comes_back(&rt, 134, 0)?);
-    assert!(rt; comes_back(&rt, 135, 6)?);
+    for (count, padding) in [
+        (6usize, 1usize),
+        (7, 1),
+        (8, 1),
+        (133, 1),
+        (134, 0),
+        (135, 6),
+    ] {
+        assert!(rt; comes_back(&rt, count, padding)?);
+    }
     Ok(())
 }
 

@@ -1,8 +1,8 @@
 //! Numbers that lead past the file, and names that are long.
 
-use super::linked::{file_of, linked, marked, put, put_half, put_word, tables};
-use super::{because, changed, outside, refusal, symbols};
-use crate::Part;
+use super::linked::{file_of, linked, marked, put, tables};
+use super::{changed, refusal, symbols};
+use crate::{ElfFault, Part};
 use std::alloc::Global;
 use std::test::Fail;
 
@@ -21,125 +21,85 @@ fn sound(alloc: Global, wide: bool) -> Result<(Vec<u8>, usize), Fail> {
     Ok((file, at))
 }
 
-/// The refusal of the file with these bytes in the header of a section.
+/// A linked file with these bytes in the header of a section, or in the file's own where no section is named.
 fn with(
     alloc: Global,
     wide: bool,
-    number: usize,
+    section: Option<usize>,
     field: usize,
     bytes: &[u8],
-) -> Result<Option<crate::ElfFault>, Fail> {
+) -> Result<Vec<u8>, Fail> {
     let (file, at) = sound(alloc, wide)?;
     let size = if wide { 64 } else { 40 };
-    let place = at
-        .wrapping_add(number.wrapping_mul(size))
-        .wrapping_add(field);
-    Ok(refusal(alloc, &changed(alloc, &file, place, bytes)?))
-}
-
-#[test]
-fn numbers_near_the_end_of_their_type_are_refused(rt: HostRuntime) -> Result<(), Fail> {
-    let alloc = rt.alloc();
-    let word = [0xff; 4];
-    let long = [0xff; 8];
-    // The place and the size of the section headers.
-    let (narrow, _) = sound(alloc, false)?;
-    let (wide, _) = sound(alloc, true)?;
-    assert_eq!(rt; refusal(alloc, &narrow), None);
-    assert_eq!(rt; refusal(alloc, &wide), None);
-    for shoff in [word, [0, 0, 0, 0x80], [0xf0, 0xff, 0xff, 0xff]] {
-        let file = changed(alloc, &narrow, 32, &shoff)?;
-        assert_eq!(rt; refusal(alloc, &file), outside(Part::Sections, 0));
-    }
-    for shoff in [
-        long,
-        [0, 0, 0, 0, 0, 0, 0, 0x80],
-        [0x40, 0xfe, 0xff, 0xff, 0xff, 0xff, 0xff, 0xff],
-    ] {
-        let file = changed(alloc, &wide, 40, &shoff)?;
-        assert_eq!(rt; refusal(alloc, &file), outside(Part::Sections, 0));
-    }
-    // The place, the size and the name of sections.
-    assert_eq!(rt; with(alloc, false, 4, 16, &word)?, outside(Part::Names, 4));
-    assert_eq!(rt; with(alloc, true, 4, 32, &long)?, outside(Part::Names, 4));
-    assert_eq!(rt;
-        with(alloc, false, 2, 0, &word)?,
-        outside(Part::SectionName, 2)
-    );
-    assert_eq!(rt;
-        with(alloc, true, 6, 0, &word)?,
-        outside(Part::SectionName, 6)
-    );
-    assert_eq!(rt;
-        with(alloc, false, 5, 20, &[0xf0, 0xff, 0xff, 0xff])?,
-        outside(Part::Symbols, 5)
-    );
-    assert_eq!(rt; with(alloc, true, 5, 24, &long)?, outside(Part::Symbols, 5));
-    assert_eq!(rt;
-        with(
-            alloc,
-            true,
-            5,
-            32,
-            &[0xf8, 0xff, 0xff, 0xff, 0xff, 0xff, 0xff, 0xff]
-        )?,
-        outside(Part::Symbols, 5)
-    );
-    assert_eq!(rt;
-        with(alloc, false, 5, 24, &word)?,
-        outside(Part::Symbols, 5)
-    );
-    assert_eq!(rt; with(alloc, true, 5, 56, &long)?, outside(Part::Symbols, 5));
-    assert_eq!(rt;
-        with(alloc, false, 6, 16, &word)?,
-        outside(Part::Strings, 6)
-    );
-    assert_eq!(rt; with(alloc, true, 6, 24, &long)?, outside(Part::Strings, 6));
-    Ok(())
-}
-
-#[test]
-fn compressed_tables_and_extended_numbers_are_refused(rt: HostRuntime) -> Result<(), Fail> {
-    let alloc = rt.alloc();
-    let (narrow, _) = sound(alloc, false)?;
-    // No number of sections in the header, as in extended numbering, and the escape for the names.
-    assert_eq!(rt;
-        refusal(alloc, &changed(alloc, &narrow, 48, &[0, 0])?),
-        because(5)
-    );
-    assert_eq!(rt;
-        refusal(alloc, &changed(alloc, &narrow, 50, &[0xff, 0xff])?),
-        outside(Part::Names, 0xffff)
-    );
-    for wide in [false, true] {
-        // A compressed symbol table, and compressed strings.
-        assert_eq!(rt; with(alloc, wide, 5, 9, &[8])?, because(6));
-        assert_eq!(rt; with(alloc, wide, 6, 9, &[8])?, because(6));
-    }
-    Ok(())
-}
-
-#[test]
-fn a_name_without_an_end_is_refused(rt: HostRuntime) -> Result<(), Fail> {
-    let alloc = rt.alloc();
-    // The strings end in front of the last name's zero; the strings are empty; the sections' names
-    // begin where the symbols do.
-    let (narrow, at) = sound(alloc, false)?;
-    let Some(size) = at.checked_add(6 * 40 + 20).and_then(|k| narrow.get(k)) else {
-        return Err(Fail::new("no size"));
+    let header = match section {
+        Some(number) => at.wrapping_add(number.wrapping_mul(size)),
+        None => 0,
     };
-    assert_eq!(rt;
-        with(alloc, false, 6, 20, &[size.wrapping_sub(1)])?,
-        outside(Part::SymbolName, 8)
-    );
-    assert_eq!(rt;
-        with(alloc, false, 6, 20, &[0, 0, 0, 0])?,
-        outside(Part::SymbolName, 1)
-    );
-    assert_eq!(rt;
-        with(alloc, false, 4, 20, &[0, 0, 0, 0])?,
-        outside(Part::SectionName, 0)
-    );
+    changed(alloc, &file, header.wrapping_add(field), bytes)
+}
+
+const WORD: &[u8] = b"\xff\xff\xff\xff";
+
+const LONG: &[u8] = b"\xff\xff\xff\xff\xff\xff\xff\xff";
+
+const NONE: &[u8] = b"\0\0\0\0";
+
+#[test]
+fn a_changed_header_gives_its_refusal(rt: HostRuntime) -> Result<(), Fail> {
+    let alloc = rt.alloc();
+    for (wide, section, field, bytes, cause, part, place) in [
+        // The place of the section headers.
+        (false, None, 32, WORD, 4, Part::Sections, 0),
+        (false, None, 32, b"\0\0\0\x80", 4, Part::Sections, 0),
+        (false, None, 32, b"\xf0\xff\xff\xff", 4, Part::Sections, 0),
+        (true, None, 40, LONG, 4, Part::Sections, 0),
+        (true, None, 40, b"\0\0\0\0\0\0\0\x80", 4, Part::Sections, 0),
+        (
+            true,
+            None,
+            40,
+            b"\x40\xfe\xff\xff\xff\xff\xff\xff",
+            4,
+            Part::Sections,
+            0,
+        ),
+        // No number of sections, as in extended numbering, and the escape for the section of the names.
+        (false, None, 48, b"\0\0", 5, Part::Nothing, 0),
+        (false, None, 50, b"\xff\xff", 4, Part::Names, 0xffff),
+        // The place, the size and the name of sections.
+        (false, Some(4), 16, WORD, 4, Part::Names, 4),
+        (true, Some(4), 32, LONG, 4, Part::Names, 4),
+        (false, Some(2), 0, WORD, 4, Part::SectionName, 2),
+        (true, Some(6), 0, WORD, 4, Part::SectionName, 6),
+        (false, Some(5), 20, b"\xf0\xff\xff\xff", 4, Part::Symbols, 5),
+        (true, Some(5), 24, LONG, 4, Part::Symbols, 5),
+        (
+            true,
+            Some(5),
+            32,
+            b"\xf8\xff\xff\xff\xff\xff\xff\xff",
+            4,
+            Part::Symbols,
+            5,
+        ),
+        (false, Some(5), 24, WORD, 4, Part::Symbols, 5),
+        (true, Some(5), 56, LONG, 4, Part::Symbols, 5),
+        (false, Some(6), 16, WORD, 4, Part::Strings, 6),
+        (true, Some(6), 24, LONG, 4, Part::Strings, 6),
+        // A compressed symbol table, and compressed strings.
+        (false, Some(5), 9, b"\x08", 6, Part::Nothing, 0),
+        (true, Some(5), 9, b"\x08", 6, Part::Nothing, 0),
+        (false, Some(6), 9, b"\x08", 6, Part::Nothing, 0),
+        (true, Some(6), 9, b"\x08", 6, Part::Nothing, 0),
+        // The strings end in front of the last name's zero, or are empty; the sections' names are empty.
+        (false, Some(6), 20, b"\xba", 4, Part::SymbolName, 8),
+        (false, Some(6), 20, NONE, 4, Part::SymbolName, 1),
+        (false, Some(4), 20, NONE, 4, Part::SectionName, 0),
+    ] {
+        let file = with(alloc, wide, section, field, bytes)?;
+        let want = Some(ElfFault::Refused { cause, part, place });
+        assert_eq!(rt; refusal(alloc, &file), want, "place {field} of {section:?}");
+    }
     Ok(())
 }
 
@@ -150,11 +110,9 @@ fn crowded(alloc: Global) -> Result<Vec<u8>, Fail> {
     let rows = marked(b"_defmt_version_ = 4", b"_defmt_encoding_ = rzcobs");
     let (mut table, mut strings) = tables(alloc, false, &rows)?;
     for _ in 0..60000 {
-        let name = (strings.len() & 0xffff_ffff) as u32;
-        put_word(&mut table, name)?;
-        put(&mut table, true, 0)?;
-        put_half(&mut table, 0)?;
-        put_half(&mut table, 3)?;
+        for (len, number) in [(4, strings.len() as u64), (8, 0), (2, 0), (2, 3)] {
+            put(&mut table, len, number)?;
+        }
         strings.extend_from_slice(FRONT)?;
     }
     for _ in 0..150000 {

@@ -6,7 +6,7 @@ ghost use Rattle.elf_section.specs.Symbol.{plain_all};
 ghost use Rattle.elf_section.specs.Written.{IsWritable};
 
 use super::{HELLO, because, changed, outside, refusal, symbols};
-use crate::{Part, Symbol, write_symbols};
+use crate::{ElfFault, Part, Symbol, write_symbols};
 use dl_io::Bytes;
 use std::alloc::Global;
 use std::test::Fail;
@@ -100,8 +100,8 @@ fn a_name_of_another_version_is_written_and_then_refused(rt: HostRuntime) -> Res
 #[test]
 fn a_front_of_the_file_is_refused(rt: HostRuntime) {
     let alloc = rt.alloc();
-    assert_eq!(rt; refusal(alloc, b""), because(1));
     for (len, want) in [
+        (0, because(1)),
         (15, because(1)),
         (51, outside(Part::Header, 0)),
         (471, outside(Part::Sections, 0)),
@@ -115,40 +115,50 @@ fn a_front_of_the_file_is_refused(rt: HostRuntime) {
 #[test]
 fn a_changed_byte_gives_its_refusal(rt: HostRuntime) -> Result<(), Fail> {
     let alloc = rt.alloc();
-    for (at, byte, want) in [
-        (4, 0x03, because(2)),
-        (5, 0x02, because(3)),
-        (46, 0x40, outside(Part::Header, 1)),
-        (48, 0x00, because(5)),
-        (50, 0x05, outside(Part::Names, 5)),
-        (239, 0x78, because(5)),
-        (312, 0x22, outside(Part::SectionName, 1)),
-        (356, 0x01, because(6)),
-        (361, 0x08, because(6)),
-        (388, 0x18, outside(Part::Symbols, 2)),
-        (376, 0x01, outside(Part::Symbols, 2)),
-        (135, 0x33, because(7)),
-        (156, 0x52, because(8)),
+    for (at, byte, cause, part, place) in [
+        (4, 0x03, 2, Part::Nothing, 0),
+        (5, 0x02, 3, Part::Nothing, 0),
+        (46, 0x40, 4, Part::Header, 1),
+        (48, 0x00, 5, Part::Nothing, 0),
+        (50, 0x05, 4, Part::Names, 5),
+        (239, 0x78, 5, Part::Nothing, 0),
+        (312, 0x22, 4, Part::SectionName, 1),
+        (356, 0x01, 6, Part::Nothing, 0),
+        (361, 0x08, 6, Part::Nothing, 0),
+        (388, 0x18, 4, Part::Symbols, 2),
+        (376, 0x01, 4, Part::Symbols, 2),
+        (135, 0x33, 7, Part::Nothing, 0),
+        (156, 0x52, 8, Part::Nothing, 0),
     ] {
         let file = changed(alloc, FILE, at, &[byte])?;
+        let want = Some(ElfFault::Refused { cause, part, place });
         assert_eq!(rt; refusal(alloc, &file), want, "byte {at}");
     }
     Ok(())
+}
+
+/// The second byte of the one name, and its value.
+fn only(symbols: &[Symbol]) -> Option<(u8, u64)> {
+    let [symbol] = symbols else {
+        return None;
+    };
+    match symbol.name.as_slice() {
+        [_, second, ..] => Some((*second, symbol.value)),
+        _ => None,
+    }
 }
 
 #[test]
 fn a_changed_symbol_is_read_as_it_stands(rt: HostRuntime) -> Result<(), Fail> {
     let alloc = rt.alloc();
     // Without its brace the name isn't listed.
-    let file = changed(alloc, FILE, 163, b"x")?;
-    assert_eq!(rt; symbols(alloc, &file)?.len(), 0);
-    let file = changed(alloc, FILE, 164, b" ")?;
-    let read = symbols(alloc, &file)?;
-    assert_eq!(rt; read.len(), 1);
-    assert_eq!(rt; read[0].name.as_slice().get(1), Some(&b' '));
-    let file = changed(alloc, FILE, 106, &[1])?;
-    let read = symbols(alloc, &file)?;
-    assert_eq!(rt; read.len(), 1);
-    assert_eq!(rt; read[0].value, 0x10001);
+    for (at, byte, count, want) in [
+        (163, b'x', 0, None),
+        (164, b' ', 1, Some((b' ', 1))),
+        (106, 1, 1, Some((b'"', 0x10001))),
+    ] {
+        let read = symbols(alloc, &changed(alloc, FILE, at, &[byte])?)?;
+        assert_eq!(rt; (read.len(), only(&read)), (count, want), "byte {at}");
+    }
     Ok(())
 }

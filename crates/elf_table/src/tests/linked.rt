@@ -14,43 +14,32 @@ pub struct Row<'a> {
 /// The names of the sections.
 const NAMES: &[u8] = b"\0.dynsym\0.text\0.defmt\0.shstrtab\0.symtab\0.strtab\0";
 
-/// The number in four bytes, or in eight where the file is wide.
-fn put(out: &mut Vec<u8>, wide: bool, number: u64) -> Result<(), Fail> {
+/// The number in so many bytes, at most eight, the lowest first.
+fn put(out: &mut Vec<u8>, len: usize, number: u64) -> Result<(), Fail> {
     let bytes = number.to_le_bytes();
-    out.extend_from_slice(&bytes[..if wide { 8 } else { 4 }])?;
-    Ok(())
-}
-
-fn put_word(out: &mut Vec<u8>, number: u32) -> Result<(), Fail> {
-    out.extend_from_slice(&number.to_le_bytes())?;
-    Ok(())
-}
-
-fn put_half(out: &mut Vec<u8>, number: u16) -> Result<(), Fail> {
-    out.extend_from_slice(&number.to_le_bytes())?;
+    out.extend_from_slice(&bytes[..len.min(8)])?;
     Ok(())
 }
 
 /// One section header: the name's place, type, offset, size, sh_link and the size of an entry.
-fn put_section(
-    out: &mut Vec<u8>,
-    wide: bool,
-    name: u32,
-    kind: u32,
-    part: (u64, u64),
-    link: u32,
-    entry: u64,
-) -> Result<(), Fail> {
-    put_word(out, name)?;
-    put_word(out, kind)?;
-    put(out, wide, 0)?;
-    put(out, wide, 0)?;
-    put(out, wide, part.0)?;
-    put(out, wide, part.1)?;
-    put_word(out, link)?;
-    put_word(out, 0)?;
-    put(out, wide, 1)?;
-    put(out, wide, entry)
+fn put_section(out: &mut Vec<u8>, wide: bool, fields: [u64; 6]) -> Result<(), Fail> {
+    let [name, kind, offset, size, link, entry] = fields;
+    let word = if wide { 8 } else { 4 };
+    for (len, number) in [
+        (4, name),
+        (4, kind),
+        (word, 0),
+        (word, 0),
+        (word, offset),
+        (word, size),
+        (4, link),
+        (4, 0),
+        (word, 1),
+        (word, entry),
+    ] {
+        put(out, len, number)?;
+    }
+    Ok(())
 }
 
 /// The symbol table of the rows, behind the null symbol, and its strings.
@@ -60,17 +49,15 @@ fn tables(alloc: Global, wide: bool, rows: &[Row<'_>]) -> Result<(Vec<u8>, Vec<u
     table.extend_from_slice(&[0; 24][..if wide { 24 } else { 16 }])?;
     strings.push(0)?;
     for row in rows {
-        put_word(&mut table, (strings.len() & 0xffff_ffff) as u32)?;
-        if wide {
-            put_half(&mut table, 0)?;
-            put_half(&mut table, row.section)?;
-            put(&mut table, wide, row.value)?;
-            put(&mut table, wide, 0)?;
+        let at = strings.len() as u64;
+        let section = u64::from(row.section);
+        let fields = if wide {
+            [(4, at), (2, 0), (2, section), (8, row.value), (8, 0)]
         } else {
-            put(&mut table, wide, row.value)?;
-            put(&mut table, wide, 0)?;
-            put_half(&mut table, 0)?;
-            put_half(&mut table, row.section)?;
+            [(4, at), (4, row.value), (4, 0), (2, 0), (2, section)]
+        };
+        for (len, number) in fields {
+            put(&mut table, len, number)?;
         }
         strings.extend_from_slice(row.name)?;
         strings.push(0)?;
@@ -86,59 +73,46 @@ pub fn linked(alloc: Global, wide: bool, rows: &[Row<'_>]) -> Result<Vec<u8>, Fa
 }
 
 fn file_of(alloc: Global, wide: bool, table: &[u8], strings: &[u8]) -> Result<Vec<u8>, Fail> {
-    let header = if wide { 64 } else { 52 };
-    let entry = if wide { 24 } else { 16 };
+    let (word, header, section, entry) = if wide {
+        (8, 64, 64, 24)
+    } else {
+        (4, 52, 40, 16)
+    };
     let strings_at = NAMES.len() as u64 + header;
     let table_at = strings_at.wrapping_add(strings.len() as u64);
     let sections_at = table_at.wrapping_add(table.len() as u64);
     let mut file = Vec::from_slice(alloc, b"\x7fELF")?;
     file.push(if wide { 2 } else { 1 })?;
     file.extend_from_slice(&[1, 1, 0, 0, 0, 0, 0, 0, 0, 0, 0])?;
-    put_half(&mut file, 2)?;
-    put_half(&mut file, 40)?;
-    put_word(&mut file, 1)?;
-    put(&mut file, wide, 0)?;
-    put(&mut file, wide, 0)?;
-    put(&mut file, wide, sections_at)?;
-    put_word(&mut file, 0)?;
-    put_half(&mut file, if wide { 64 } else { 52 })?;
-    put_word(&mut file, 0)?;
-    put_half(&mut file, if wide { 64 } else { 40 })?;
-    put_half(&mut file, 7)?;
-    put_half(&mut file, 4)?;
+    for (len, number) in [
+        (2, 2),
+        (2, 40),
+        (4, 1),
+        (word, 0),
+        (word, 0),
+        (word, sections_at),
+        (4, 0),
+        (2, header),
+        (4, 0),
+        (2, section),
+        (2, 7),
+        (2, 4),
+    ] {
+        put(&mut file, len, number)?;
+    }
     file.extend_from_slice(NAMES)?;
     file.extend_from_slice(strings)?;
     file.extend_from_slice(table)?;
-    put_section(&mut file, wide, 0, 0, (0, 0), 0, 0)?;
-    put_section(&mut file, wide, 1, 11, (header, 0), 6, entry)?;
-    put_section(&mut file, wide, 9, 1, (header, 0), 0, 0)?;
-    put_section(
-        &mut file,
-        wide,
-        15,
-        if wide { 8 } else { 1 },
-        (header, 0),
-        0,
-        0,
-    )?;
-    put_section(&mut file, wide, 22, 3, (header, NAMES.len() as u64), 0, 0)?;
-    put_section(
-        &mut file,
-        wide,
-        32,
-        2,
-        (table_at, table.len() as u64),
-        6,
-        entry,
-    )?;
-    put_section(
-        &mut file,
-        wide,
-        40,
-        3,
-        (strings_at, strings.len() as u64),
-        0,
-        0,
-    )?;
+    for fields in [
+        [0, 0, 0, 0, 0, 0],
+        [1, 11, header, 0, 6, entry],
+        [9, 1, header, 0, 0, 0],
+        [15, if wide { 8 } else { 1 }, header, 0, 0, 0],
+        [22, 3, header, NAMES.len() as u64, 0, 0],
+        [32, 2, table_at, table.len() as u64, 6, entry],
+        [40, 3, strings_at, strings.len() as u64, 0, 0],
+    ] {
+        put_section(&mut file, wide, fields)?;
+    }
     Ok(file)
 }

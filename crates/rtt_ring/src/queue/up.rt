@@ -21,6 +21,7 @@ pub struct QueueUp {
     pub(crate) looked: Tag,
     ghost sized: { (producer_capacity producer + 1 ≡ size) × (size ≤ 65536) },
     ghost fits: { (length staged.items + room ≤ known_free producer) × (known_free producer + 1 ≤ size) × (size ≤ vec_capacity staged + 1) },
+    ghost least: { size ≤ length (sent producer) + known_free producer + 1 },
     ghost counted: { (sent_len ≡ capped (length (sent producer))) × (looks ≡ capped (slice_index looked.numbers 0)) },
 }
 

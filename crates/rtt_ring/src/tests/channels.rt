@@ -1,5 +1,5 @@
-// Rings whose ends part, on one thread and on two.
-ghost use Rattle.std.specs.Prelude.{◌≡◌, ◌≤◌, [], length, IfOk};
+//! Rings whose ends part, on one thread and on two.
+ghost use Rattle.std.specs.Prelude.{◌≡◌, [], IfOk};
 
 use super::{FIFTEEN, LEFT, TEN};
 use crate::{Channel, DownEnd, QueueRing, RingFault, RingKind, UpEnd, WordRing};
@@ -40,6 +40,26 @@ fn new_ring<C: Channel>(alloc: Global, size: u32) -> Result<(C::Up, C::Down), Fa
     }
 }
 
+// An upper end that has nothing staged.
+#[derive(Drop)]
+struct Writer<U: UpEnd> {
+    up: U,
+    ghost published: { (U.view up).staged ≡ [] },
+}
+
+impl<U: UpEnd> Writer<U> {
+    // Looks, sends as many of the first bytes as fit, and answers the room that the look found.
+    fn send(&mut self, bytes: &[u8]) -> u32
+        ensures { (U.view self.new.up).split ≡ (U.view self.old.up).split }
+    {
+        let room = self.up.look();
+        let count = bytes.len().min(room as usize);
+        self.up.put(&bytes[..count]);
+        self.up.publish();
+        room
+    }
+}
+
 // Bytes go round the end of a ring of 16.
 fn go_round<C: Channel>(rt: &impl Abort, alloc: Global) -> Result<(), Fail> {
     let (mut up, mut down) = new_ring::<C>(alloc, 16)?;
@@ -48,20 +68,19 @@ fn go_round<C: Channel>(rt: &impl Abort, alloc: Global) -> Result<(), Fail> {
     up.put(&FIFTEEN);
     assert_eq!(rt; down.look(), 0);
     up.publish();
-    assert_eq!(rt; up.look(), 0);
+    let mut writer = Writer { up };
+    assert_eq!(rt; writer.send(&TEN), 0);
     assert_eq!(rt; down.take(&mut buf[..10]), 10);
     assert_eq!(rt; &buf[..10], &FIFTEEN[..10]);
-    assert_eq!(rt; up.look(), 10);
-    up.put(&TEN);
-    up.publish();
+    assert_eq!(rt; writer.send(&TEN), 10);
     assert_eq!(rt; down.take(&mut buf), 15);
     assert_eq!(rt; &buf[..15], LEFT.as_slice());
-    assert_eq!(rt; up.looks(), 3);
+    assert_eq!(rt; writer.up.looks(), 3);
     let mut rest = Bytes::new(alloc);
+    let Writer { up } = writer;
     let settled = C::settle(up, down, &mut rest)?;
     assert_eq!(rt; rest.len(), 0);
-    assert_eq!(rt; settled.sent_len(), 25);
-    assert_eq!(rt; settled.got_len(), 25);
+    assert_eq!(rt; (settled.sent_len(), settled.got_len()), (25, 25));
     assert!(rt; settled.ring() == C::KIND);
     Ok(())
 }
@@ -83,42 +102,21 @@ const FOURTEEN: [u8; 14] = [31, 32, 33, 34, 35, 36, 37, 38, 39, 40, 41, 42, 43, 
 #[test]
 fn the_last_word_of_a_word_ring_of_17_has_one_byte(rt: HostRuntime) -> Result<(), Fail> {
     let alloc = rt.alloc();
-    let (mut up, mut down) = new_ring::<WordRing>(alloc, 17)?;
+    let (up, mut down) = new_ring::<WordRing>(alloc, 17)?;
+    let mut writer = Writer { up };
     let mut buf = [0; 16];
-    assert_eq!(rt; up.look(), 16);
-    up.put(&TEN);
-    up.publish();
-    assert_eq!(rt; down.take(&mut buf[..10]), 10);
+    assert_eq!(rt; writer.send(&TEN), 16);
+    assert_eq!(rt; down.take(&mut buf), 10);
     assert_eq!(rt; &buf[..10], TEN.as_slice());
-    assert_eq!(rt; up.look(), 16);
-    up.put(&FOURTEEN);
-    up.publish();
+    assert_eq!(rt; writer.send(&FOURTEEN), 16);
     assert_eq!(rt; down.take(&mut buf), 14);
     assert_eq!(rt; &buf[..14], FOURTEEN.as_slice());
     let mut rest = Bytes::new(alloc);
+    let Writer { up } = writer;
     let settled = WordRing::settle(up, down, &mut rest)?;
     assert_eq!(rt; rest.len(), 0);
     assert_eq!(rt; settled.sent_len(), 24);
     Ok(())
-}
-
-// An upper end that has nothing staged.
-#[derive(Drop)]
-struct Writer<U: UpEnd> {
-    up: U,
-    ghost published: { (U.view up).staged ≡ [] },
-}
-
-impl<U: UpEnd> Writer<U> {
-    // Sends as many of the first bytes as fit, and answers how many.
-    fn send(&mut self, bytes: &[u8]) -> usize
-        ensures { result ≤ length bytes.now }
-    {
-        let count = bytes.len().min(self.up.look() as usize);
-        self.up.put(&bytes[..count]);
-        self.up.publish();
-        count
-    }
 }
 
 fn send_all<U: UpEnd + Drop, W: Wait>(rt: &W, writer: Writer<U>, bytes: &[u8]) {
@@ -128,7 +126,7 @@ fn send_all<U: UpEnd + Drop, W: Wait>(rt: &W, writer: Writer<U>, bytes: &[u8]) {
         if left.is_empty() {
             return;
         }
-        let count = writer.send(left);
+        let count = left.len().min(writer.send(left) as usize);
         left = &left[count..];
         thread::yield_now();
     }

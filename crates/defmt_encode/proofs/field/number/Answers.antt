@@ -5,4 +5,4 @@ use Rattle.defmt_encode.proofs.field.number.Goals as goal
 pub returns-clause-small : goal.returns-clause-small
 returns-clause-small c =
     let h : (k : ℕ) → get_or c.args.bytes.now k 0 < 256 = λ k. (c.type_inv.bytes k).fits in
-    rw (c.read_uint128.ensures, c.from-width.ensures) (little_from-lt 0 c.args.width c.args.bytes.now h)
+    rw (c.low_first.ensures, c.from-width.ensures) (little_from-lt 0 c.args.width c.args.bytes.now h)

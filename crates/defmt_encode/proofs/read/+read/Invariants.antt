@@ -6,36 +6,39 @@ use Rattle.defmt_encode.proofs.Joins.{before_vals, before_elems}
 use Rattle.defmt_encode.proofs.read.+read.Given as goal
 
 abbrev pub decreases-read_value : goal.decreases-read_value
-decreases-read_value l = 8 * l.left + 4
+decreases-read_value l = 10 * l.left + 4
 
 abbrev pub decreases-read_some : goal.decreases-read_some
-decreases-read_some l = 8 * l.left + 3
+decreases-read_some l = 10 * l.left + 3
 
 abbrev pub decreases-read_args : goal.decreases-read_args
-decreases-read_args l = 8 * l.left + 5
+decreases-read_args l = 10 * l.left + 6
+
+abbrev pub decreases-read_into : goal.decreases-read_into
+decreases-read_into l = 10 * l.left + 5
 
 abbrev pub decreases-read_item : goal.decreases-read_item
-decreases-read_item l = 8 * l.left + 6
+decreases-read_item l = 10 * l.left + 7
 
 abbrev pub decreases-read_node : goal.decreases-read_node
-decreases-read_node l = 8 * l.left + 7
+decreases-read_node l = 10 * l.left + 8
 
 abbrev pub decreases-read_items : goal.decreases-read_items
-decreases-read_items l = 8 * l.left + 7
+decreases-read_items l = 10 * l.left + 8
 
 abbrev pub decreases-read_list : goal.decreases-read_list
-decreases-read_list l = 8 * l.left + 8
+decreases-read_list l = 10 * l.left + 9
 
-abbrev pub invariant-read_args-each : goal.invariant-read_args-each
-invariant-read_args-each l = record {
+abbrev pub invariant-read_into-each : goal.invariant-read_into-each
+invariant-read_into-each l = record {
   small : l.total ≤ 8192;
   few : l.position + length l.slots ≤ 16;
   sound : All IsSound l.slots;
   same : before_vals l.args (each_at (value_at l.table l.left) (places_from l.pieces l.position l.slots) l.weight l.total l.rest) ≡ each_at (value_at l.table l.left) (places_of l.pieces) l.weight l.sum l.bytes;
 }
 
-abbrev pub decreases-read_args-each : goal.decreases-read_args-each
-decreases-read_args-each l = length l.slots
+abbrev pub decreases-read_into-each : goal.decreases-read_into-each
+decreases-read_into-each l = length l.slots
 
 abbrev pub invariant-read_items-each : goal.invariant-read_items-each
 invariant-read_items-each l = record {

@@ -1,14 +1,18 @@
 use Rattle.std.proofs.Common.{arith, refl, sym, subst, ◌∙◌, ap, ℕ, ◌-◌, min}
+use Rattle.std.specs.Fmt.{digit_glyph}
 use Rattle.std.specs.Str.{IsUtf8}
 use Rattle.defmt_hints.proofs.AppendsLaws.{appends_same}
-use Rattle.defmt_hints.proofs.FillLaws.{filled_none, filled_more, filled_bytes, utf8_digits}
+use Rattle.defmt_hints.proofs.FillLaws.{filled_none, filled_more, filled_bytes, rest_falls, utf8_digits}
 use Rattle.defmt_hints.proofs.digits.push_digits.Goals as goal
 
 pub digits-init : goal.digits-init
 digits-init c = filled_none c.args.base c.args.value c.args.upper 255 _ c.requires.least (omega arith) refl refl
 
 pub digits-preserved : goal.digits-preserved
-digits-preserved c = filled_more c.args.base c.args.value c.args.upper c.digits.rest c.digits.start c.digits.buffer c.glyph.result c.digits.invariant c.requires.least (omega arith) c.glyph.ensures
+digits-preserved c = filled_more c.args.base c.args.value c.args.upper c.digits.rest c.digits.start c.digits.buffer c.glyph.result c.divided-higher.result.0 c.digits.invariant c.requires.least (omega arith) c.divided-higher.ensures.quotient (c.glyph.ensures ∙ ap (digit_glyph c.args.upper) c.divided-higher.ensures.remainder)
+
+pub digits-smaller : goal.digits-smaller
+digits-smaller c = rw c.divided-higher.ensures.quotient (rest_falls c.digits.rest c.args.base c.requires.least (omega arith))
 
 pub push_bytes-requires : goal.push_bytes-requires
 push_bytes-requires c =

@@ -3,7 +3,7 @@ use Rattle.std.specs.Option.{option_copied}
 use Rattle.std.specs.Prelude.{slice_get}
 use Rattle.defmt_encode.specs.Carry.{message_of, stamp_args}
 use Rattle.defmt_intern.specs.Table.{Map}
-use Rattle.defmt_logger.proofs.Frames.{frame_is, short_at, sound_at, statement_there}
+use Rattle.defmt_logger.proofs.Frames.{frame_is, sound_at, statement_there}
 use Rattle.defmt_logger.specs.Tape.{statements_of, stamp_in}
 use Rattle.defmt_values.specs.declared.value.Statement.{Statement}
 use Rattle.defmt_logger.proofs.framing.write_frame.Goals as goal
@@ -14,7 +14,7 @@ write_statement-requires-clause-short c =
     let stm : Statement = c.in-Some.statement.now in
     let there : slice_get (statements_of s c.args.writer) c.args.place ≡ Some stm = sym c.statement.ensures ∙ ap option_copied c.in-Some.is in
     let short : length (message_of s.table (stamp_args (stamp_in s.settings.stamp c.args.stamp)) stm.index stm.args) ≤ 2000 =
-    short_at s.table s.settings.stamp c.args.stamp stm c.stamps_are_alike.ensures (sound_at s c.args.writer c.args.place stm c.lawful.ensures there) in
+    (sound_at s c.args.writer c.args.place stm c.lawful.ensures there).short c.args.stamp in
     let P : Map → Option ℕ → Type 0 = λ t o. length (message_of t (stamp_args o) stm.index stm.args) ≤ 2000 in
     subst (λ (t : Map). P t c.carried_stamp-carried.result) (sym c.table.ensures) (subst (λ (o : Option ℕ). P s.table o) (sym c.carried_stamp-carried.ensures) short)
 

@@ -1,9 +1,9 @@
-use Rattle.std.proofs.Common.{◌<◌, ◌++◌, List, length, get_or, flat_map, [], sym, ◌∙◌, ap, subst, arith}
+use Rattle.std.proofs.Common.{◌<◌, ◌++◌, List, length, get_or, [], sym, ◌∙◌, ap, subst, arith}
 use Rattle.std.specs.List.{AllByRecursion}
 use Rattle.std.proofs.lemmas.List.{append-nil, take_all}
 use Rattle.defmt_values.specs.declared.value.Statement.{Statement}
 use Rattle.defmt_script.specs.Lawful.{IsSound}
-use Rattle.defmt_run.specs.Commands.{bytes_of, sent_from}
+use Rattle.defmt_run.specs.Printed.{numbered, numbered_line}
 use Rattle.defmt_run.proofs.Numbered.{all_at, at_place, not_none, one_more}
 use Rattle.defmt_run.proofs.statements.add_writer.Goals as goal
 
@@ -31,11 +31,11 @@ pub loop-place-preserved : goal.loop-place-preserved
 loop-place-preserved c =
     let list : List Statement = get_or c.args.script.now.writers c.args.writer [] in
     let within : c.loop-place.place < length list = omega (arith, c.count-count.ensures) in
-    one_more c.args.script.now.settings.stamp (bytes_of c.args.form c.args.script.now.table) c.args.out.now.items c.loop-place.out.items c.add_statement.new.out.items c.args.number c.loop-place.place list c.in-Some.statement.now within
+    one_more (numbered_line c.args.script.now) c.args.out.now.items c.loop-place.out.items c.add_statement.new.out.items c.args.number c.loop-place.place list c.in-Some.statement.now within
     (at_place list c.loop-place.place c.in-Some.statement.now within c.in-Some.ensures) c.loop-place.invariant c.in_ok-add_statement.ensures
 
 pub returns-clause-bytes : goal.returns-clause-bytes
 returns-clause-bytes c =
     let list : List Statement = get_or c.args.script.now.writers c.args.writer [] in
-    c.loop-place.invariant ∙ ap (λ (l : List Statement). c.args.out.now.items ++ flat_map (bytes_of c.args.form c.args.script.now.table) (sent_from c.args.script.now.settings.stamp c.args.number l))
+    c.loop-place.invariant ∙ ap (λ (l : List Statement). c.args.out.now.items ++ numbered (numbered_line c.args.script.now) c.args.number l)
     (take_all c.loop-place.place list (omega (arith, c.count-count.ensures)))

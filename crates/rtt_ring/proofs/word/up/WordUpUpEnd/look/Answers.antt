@@ -43,10 +43,13 @@ returns-clause-looked c =
     let freed = ap (λ (x : UpView). x.freed) e in
     let later = f.3 in
     let within = f.4 in
+    let before = k.has_room in
     record {
       same = ap (λ z. up_view z v size room) s.0
           ∙ ap (λ (x : UpView). record (up_view c.args.self.now.seat.table_id x size room) { freed = v.freed }) e;
       later = omega arith;
       within = omega arith;
+      keeps = omega arith;
+      least = omega arith;
       told = λ _. omega arith;
     }

@@ -1,0 +1,137 @@
+-- How many bytes values have at most.
+use Rattle.std.proofs.Common.{◌≡◌, ◌≤◌, ◌+◌, ℕ, ℤ, Bool, List, [], ◌∷◌, ◌++◌, length, map, Option, Some, None, Result, Ok, Err, arith, length-append}
+use Rattle.std.specs.Int.{w128, cast_unsigned}
+use Rattle.byteorder.specs.Endian.{little_bytes}
+use Rattle.defmt_grammar.specs.declared.kind.IntSize.{IntSize}
+use Rattle.defmt_grammar.specs.declared.kind.IntSize.TheVariants.{W8, W16, W32, W64, W128, Native}
+use Rattle.defmt_grammar.specs.declared.kind.Kind.TheVariants as kinds
+use Rattle.defmt_grammar.specs.declared.slot.Slot.{Slot}
+use Rattle.defmt_grammar.specs.declared.slot.Slot.TheVariants as slots
+use Rattle.defmt_intern.specs.Table.{Map}
+use Rattle.defmt_values.specs.Plain.{Val, uint, int, flag, char, str, istr, bytes, Vals, no_vals, val}
+use Rattle.defmt_values.specs.View.{plain, vals_of}
+use Rattle.defmt_values.specs.declared.value.Value.{Value}
+use Rattle.defmt_encode.specs.Carry.{size_bytes, uint_width, int_width, length_bytes, bytes_val, bytes_vals, stamp_slots, stamp_args, own_slots, message_of}
+use Rattle.defmt_encode.specs.Out.{HasAtMost, HaveAtMost, Puts, Writes}
+use Rattle.defmt_encode.specs.Stamp.{stamp_of}
+use Rattle.defmt_encode.specs.declared.put.Long.{Long}
+use Rattle.defmt_encode.proofs.Numbers.{length_little}
+
+size_small : (size : IntSize) → size_bytes size ≤ 16
+size_small W8 = omega arith
+size_small W16 = omega arith
+size_small W32 = omega arith
+size_small W64 = omega arith
+size_small W128 = omega arith
+size_small Native = omega arith
+
+uint_small : (slot : Slot) → uint_width slot ≤ 16
+uint_small (slots.One (kinds.Uint size)) = size_small size
+uint_small (slots.One (kinds.Int size)) = omega arith
+uint_small (slots.One kinds.Bool) = omega arith
+uint_small (slots.One kinds.Char) = omega arith
+uint_small (slots.One kinds.Str) = omega arith
+uint_small (slots.One kinds.Istr) = omega arith
+uint_small (slots.One kinds.Bytes) = omega arith
+uint_small (slots.One (kinds.ByteArray count)) = omega arith
+uint_small (slots.One kinds.Format) = omega arith
+uint_small (slots.One kinds.FormatSlice) = omega arith
+uint_small (slots.One (kinds.FormatArray count)) = omega arith
+uint_small (slots.One (kinds.Bits lo hi)) = omega arith
+uint_small (slots.Bits first width) = omega arith
+
+int_small : (slot : Slot) → int_width slot ≤ 16
+int_small (slots.One (kinds.Uint size)) = omega arith
+int_small (slots.One (kinds.Int size)) = size_small size
+int_small (slots.One kinds.Bool) = omega arith
+int_small (slots.One kinds.Char) = omega arith
+int_small (slots.One kinds.Str) = omega arith
+int_small (slots.One kinds.Istr) = omega arith
+int_small (slots.One kinds.Bytes) = omega arith
+int_small (slots.One (kinds.ByteArray count)) = omega arith
+int_small (slots.One kinds.Format) = omega arith
+int_small (slots.One kinds.FormatSlice) = omega arith
+int_small (slots.One (kinds.FormatArray count)) = omega arith
+int_small (slots.One (kinds.Bits lo hi)) = omega arith
+int_small (slots.Bits first width) = omega arith
+
+length_small : (slot : Slot) (n : ℕ) → length (length_bytes slot n) ≤ 4
+length_small (slots.One (kinds.Uint size)) n = omega arith
+length_small (slots.One (kinds.Int size)) n = omega arith
+length_small (slots.One kinds.Bool) n = omega arith
+length_small (slots.One kinds.Char) n = omega arith
+length_small (slots.One kinds.Str) n = omega arith
+length_small (slots.One kinds.Istr) n = omega arith
+length_small (slots.One kinds.Bytes) n = omega (arith, length_little 4 n)
+length_small (slots.One (kinds.ByteArray count)) n = omega arith
+length_small (slots.One kinds.Format) n = omega arith
+length_small (slots.One kinds.FormatSlice) n = omega arith
+length_small (slots.One (kinds.FormatArray count)) n = omega arith
+length_small (slots.One (kinds.Bits lo hi)) n = omega arith
+length_small (slots.Bits first width) n = omega arith
+
+pub uint_most : (n : ℕ) → HasAtMost (uint n) 16
+unfolding bytes_val
+uint_most n t slot = omega (arith, length_little (uint_width slot) n, uint_small slot)
+
+pub int_most : (n : ℤ) → HasAtMost (int n) 16
+unfolding bytes_val
+int_most n t slot = omega (arith, length_little (int_width slot) (cast_unsigned w128 n), int_small slot)
+
+pub flag_most : (b : Bool) → HasAtMost (flag b) 1
+unfolding bytes_val
+flag_most b t slot = omega arith
+
+pub char_most : (c : ℕ) → HasAtMost (char c) 4
+unfolding bytes_val
+char_most c t slot = omega (arith, length_little 4 c)
+
+pub istr_most : (index : ℕ) → HasAtMost (istr index) 2
+unfolding bytes_val
+istr_most index t slot = omega (arith, length_little 2 index)
+
+pub str_most : (s : List ℕ) (n : ℕ) → length s + 4 ≤ n → HasAtMost (str s) n
+unfolding bytes_val
+str_most s n h t slot = omega (arith, length-append (little_bytes 4 (length s)) s, length_little 4 (length s), h)
+
+pub bytes_most : (s : List ℕ) (n : ℕ) → length s + 4 ≤ n → HasAtMost (bytes s) n
+unfolding bytes_val
+bytes_most s n h t slot = omega (arith, length-append (length_bytes slot (length s)) s, length_small slot (length s), h)
+
+-- what a loop knows of all values where it has come to some of them
+abbrev pub Above : Vals → Vals → ℕ → Type 0
+Above all rest most = (n : ℕ) → HaveAtMost rest n → HaveAtMost all (most + n)
+
+pub none_most : (t : Map) (ss : List Slot) → length (bytes_vals t ss no_vals) ≤ 0
+unfolding bytes_vals
+none_most t ss = omega arith
+
+two_most : (v : Val) (vs : Vals) (m n : ℕ) → HasAtMost v m → HaveAtMost vs n → HaveAtMost (val v vs) (m + n)
+unfolding bytes_vals
+two_most v vs m n one others t [] = omega arith
+two_most v vs m n one others t (s ∷ ss) = omega (arith, length-append (bytes_val t s v) (bytes_vals t ss vs), one t s, others t ss)
+
+module _ (all : Vals) (values more : List Value) (v : Value) (most m : ℕ) where
+  pub above_more : values ≡ v ∷ more → HasAtMost (plain v) m → Above all (vals_of (map plain values)) most → Above all (vals_of (map plain more)) (most + m)
+  above_more p one above n others t ss =
+      let here : HaveAtMost (vals_of (map plain values)) (m + n) = rw p (two_most (plain v) (vals_of (map plain more)) m n one others) in
+      omega (arith, above (m + n) here t ss)
+
+pub above_all : (all : Vals) (values : List Value) (most : ℕ) → values ≡ [] → Above all (vals_of (map plain values)) most → HaveAtMost all most
+above_all all values most p above t ss =
+    let none : HaveAtMost (vals_of (map plain values)) 0 = rw p none_most in
+    omega (arith, above 0 none t ss)
+
+stamp_most : (t : Map) (ss : List Slot) (stamp : Option ℕ) → length (bytes_vals t ss (stamp_args stamp)) ≤ 16
+stamp_most t ss None = omega (arith, none_most t ss)
+stamp_most t ss (Some n) = omega (arith, two_most (uint n) no_vals 16 0 (uint_most n) none_most t ss)
+
+pub message_short : (t : Map) (stamp : Option ℕ) (index : ℕ) (vs : Vals) (most : ℕ) → most ≤ 1982 → HaveAtMost vs most → length (message_of t (stamp_args stamp) index vs) ≤ 2000
+message_short t stamp index vs most few have =
+    let s : List ℕ = bytes_vals t (stamp_slots t (stamp_of t)) (stamp_args stamp) in
+    let a : List ℕ = bytes_vals t (own_slots t index) vs in
+    omega (arith, length-append (little_bytes 2 index) (s ++ a), length-append s a, length_little 2 index, stamp_most t (stamp_slots t (stamp_of t)) stamp, have t (own_slots t index), few)
+
+pub written : (old new message : List ℕ) (r : Result ℕ Long) → length message ≤ 2000 → Puts old new 0 r message → Writes old new r message
+written old new message (Ok n) short w = record { message_is = w.front; length_is = omega (arith, w.end_is); short = w.fits; behind = w.behind }
+written old new message (Err e) short far = absurd (omega (arith, short, far))

@@ -1,0 +1,22 @@
+use Rattle.std.proofs.Common.{◌∙◌, arith}
+use Rattle.defmt_run.proofs.HeardParts.{heard_all}
+use Rattle.defmt_run.proofs.Lines.{Known, lines_in}
+use Rattle.defmt_run.proofs.hearing.hear.Goals as goal
+
+pub returns-clause-events : goal.returns-clause-events
+returns-clause-events c =
+    heard_all c.args.run.now.script.table c.in_ok-copy.copy c.args.run.now.captured.items c.args.run.now.rest.items c.as_slice.result.now c.as_slice-2.result.now c.args.run.now.settled.sent
+    c.in_ok-events.events c.in_ok-events.ensures (c.in_ok-copy.ensures ∙ c.table.ensures) c.as_slice.ensures c.as_slice-2.ensures c.requires.whole
+
+pub returns-clause-lines : goal.returns-clause-lines
+returns-clause-lines c =
+    let known : Known c.args.run.now.script = record {
+      lawful = c.lawful.ensures;
+      fit = (record { message = c.stamps_fit.ensures.message; line = c.stamps_fit.ensures.line; narrow = c.stamps_fit.ensures.narrow });
+      base = omega (arith, c.stamps.ensures.base, c.stamps.ensures.within.0);
+      step = omega (arith, c.stamps.ensures.step, c.stamps.ensures.within.1);
+      sound = c.statements_are_sound.ensures;
+    } in
+    lines_in c.args.run.now.script known c.frames_read_back.ensures.short c.without_front.ensures c.args.run.now.tape.marks c.args.run.now.settled.sent c.in_ok-events.events c.requires.lawful c.requires.sends
+    (heard_all c.args.run.now.script.table c.in_ok-copy.copy c.args.run.now.captured.items c.args.run.now.rest.items c.as_slice.result.now c.as_slice-2.result.now c.args.run.now.settled.sent
+    c.in_ok-events.events c.in_ok-events.ensures (c.in_ok-copy.ensures ∙ c.table.ensures) c.as_slice.ensures c.as_slice-2.ensures c.requires.whole)

@@ -1,0 +1,48 @@
+// The run of a script by threads.
+ghost use Rattle.std.specs.Prelude.{◌≡◌, ◌≤◌, ◌+◌, ◌*◌, IfOk};
+ghost use Rattle.defmt_logger.specs.Tape.{first_stamp, stamp_step};
+ghost use Rattle.defmt_writers.specs.Runs.{IsRun};
+ghost use Rattle.rtt_ring.specs.declared.settled.RingKind.TheVariants.{Word};
+
+use defmt_hooks::Stamp;
+use defmt_script::Script;
+use defmt_writers::{Gate, Run, run_script};
+use dl_io::Memory;
+use rtt_ring::WordRing;
+use std::alloc::Global;
+use std::sync::Wait;
+use std::thread::Threads;
+
+/// Runs a script over a word ring: a thread for each writer that has statements, and a reader. It may wait.
+pub fn log<G: Gate + Sync, R: Threads + Wait + Sync>(
+    rt: &R,
+    alloc: Global,
+    script: Script,
+    gate: &G,
+) -> Result<Run, Memory>
+    ensures script { IfOk result (λ r. r.script ≡ script) }
+    ensures run { IfOk result (λ r. IsRun r.script r.tape.marks r.settled r.captured.items r.rest.items r.looks) }
+    ensures ring { IfOk result (λ r. r.settled.ring ≡ Word) }
+{
+    let (base, step) = stamps(&script);
+    let clock = move |t: u32| -> u64
+        requires { (base ≤ 281474976710656) × (step ≤ 281474976710656) × (t ≤ 4096) }
+        ensures { result ≡ base + step * t }
+    { base + step * u64::from(t) };
+    let stamp = Stamp::new(base, step, clock);
+    let run = run_script::<WordRing, _, G, R>(rt, alloc, script, stamp, gate)?;
+    Ok(run)
+}
+
+/// The first stamp of a script and the step to the next, both 0 without stamps. Takes no memory.
+pub fn stamps(script: &Script) -> (u64, u64)
+    ensures base { result.0 ≡ first_stamp script.now.settings.stamp }
+    ensures step { result.1 ≡ stamp_step script.now.settings.stamp }
+    ensures within { (result.0 ≤ 281474976710656) × (result.1 ≤ 281474976710656) }
+{
+    script.lawful();
+    match script.stamp() {
+        Some((base, step)) => (base, step),
+        None => (0, 0),
+    }
+}

@@ -1,0 +1,5 @@
+use Rattle.defmt_encode.proofs.Laws.{stamp_length}
+use Rattle.defmt_script.proofs.laws.stamps_are_alike.Goals as goal
+
+pub returns : goal.returns
+returns c = λ table index args one other. stamp_length table one other index args

@@ -1,0 +1,4 @@
+pub mod NumberLemmas
+pub mod WordLemmas
+mod WordFacts
+pub mod CountLaws

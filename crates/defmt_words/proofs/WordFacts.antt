@@ -1,0 +1,129 @@
+-- What some words ask for. The program's name is any text.
+use Rattle.std.proofs.Common.{◌≡◌, ◌==◌, ℕ, List, [], ◌∷◌, ◌++◌, true, false, refl, codes}
+use Rattle.std.specs.Prelude.{Some, None, option_map}
+use Rattle.clap.specs.Words.{Text}
+use Rattle.clap.proofs.OnLiterals.{clap_on_literals}
+use Rattle.defmt_words.specs.Words.{job, count_in, refusals, rows, running, recording, table_file, printing, decoding, generating}
+
+module _ (name : Text) where
+  plain : job (name ∷ codes "run" ∷ []) ≡ Some (running false)
+  unfolding clap_on_literals refusals rows
+  plain = refl
+
+  grouped : job (name ∷ codes "run" ∷ codes "--group" ∷ []) ≡ Some (running true)
+  unfolding clap_on_literals refusals rows
+  grouped = refl
+
+  group_first : job (name ∷ codes "--group" ∷ codes "run" ∷ []) ≡ Some (running true)
+  unfolding clap_on_literals refusals rows
+  group_first = refl
+
+  decodes : job (name ∷ codes "decode" ∷ codes "--table=t.elf" ∷ []) ≡ Some (decoding (codes "t.elf"))
+  unfolding clap_on_literals refusals rows
+  decodes = refl
+
+  decodes_apart : job (name ∷ codes "decode" ∷ codes "--table" ∷ codes "t.elf" ∷ []) ≡ Some (decoding (codes "t.elf"))
+  unfolding clap_on_literals refusals rows
+  decodes_apart = refl
+
+  generates : job (name ∷ codes "gen" ∷ codes "4096" ∷ []) ≡ Some (generating 4096)
+  unfolding clap_on_literals refusals rows
+  generates = refl
+
+  too_many : job (name ∷ codes "gen" ∷ codes "4097" ∷ []) ≡ None
+  unfolding clap_on_literals refusals rows
+  too_many = refl
+
+  zeros : job (name ∷ codes "gen" ∷ codes "007" ∷ []) ≡ None
+  unfolding clap_on_literals refusals rows
+  zeros = refl
+
+  no_number : job (name ∷ codes "gen" ∷ []) ≡ None
+  unfolding clap_on_literals refusals rows
+  no_number = refl
+
+  stray_number : job (name ∷ codes "run" ∷ codes "5" ∷ []) ≡ None
+  unfolding clap_on_literals refusals rows
+  stray_number = refl
+
+  stray_table : job (name ∷ codes "run" ∷ codes "--table" ∷ codes "t.elf" ∷ []) ≡ None
+  unfolding clap_on_literals refusals rows
+  stray_table = refl
+
+  stray_group : job (name ∷ codes "print" ∷ codes "--group" ∷ []) ≡ None
+  unfolding clap_on_literals refusals rows
+  stray_group = refl
+
+  help : job (name ∷ codes "--help" ∷ []) ≡ None
+  unfolding clap_on_literals refusals rows
+  help = refl
+
+  short_help : job (name ∷ codes "run" ∷ codes "-h" ∷ []) ≡ None
+  unfolding clap_on_literals refusals rows
+  short_help = refl
+
+  version : job (name ∷ codes "--version" ∷ []) ≡ None
+  unfolding clap_on_literals refusals rows
+  version = refl
+
+  no_command : job (name ∷ []) ≡ None
+  unfolding clap_on_literals refusals rows
+  no_command = refl
+
+  unknown : job (name ∷ codes "frob" ∷ []) ≡ None
+  unfolding clap_on_literals refusals rows
+  unknown = refl
+
+  twice : job (name ∷ codes "run" ∷ codes "--group" ∷ codes "--group" ∷ []) ≡ None
+  unfolding clap_on_literals refusals rows
+  twice = refl
+
+  no_value : job (name ∷ codes "decode" ∷ codes "--table" ∷ []) ≡ None
+  unfolding clap_on_literals refusals rows
+  no_value = refl
+
+  empty_value : job (name ∷ codes "decode" ∷ codes "--table=" ∷ []) ≡ Some (decoding [])
+  unfolding clap_on_literals refusals rows
+  empty_value = refl
+
+  after_dashes : job (name ∷ codes "--" ∷ codes "run" ∷ []) ≡ Some (running false)
+  unfolding clap_on_literals refusals rows
+  after_dashes = refl
+
+  group_value : job (name ∷ codes "run" ∷ codes "--group=true" ∷ []) ≡ None
+  unfolding clap_on_literals refusals rows
+  group_value = refl
+
+  records : job (name ∷ codes "record" ∷ []) ≡ Some recording
+  unfolding clap_on_literals refusals rows
+  records = refl
+
+  tables : job (name ∷ codes "table" ∷ []) ≡ Some table_file
+  unfolding clap_on_literals refusals rows
+  tables = refl
+
+  prints : job (name ∷ codes "print" ∷ []) ≡ Some printing
+  unfolding clap_on_literals refusals rows
+  prints = refl
+
+  zero_statements : job (name ∷ codes "gen" ∷ codes "0" ∷ []) ≡ None
+  unfolding clap_on_literals refusals rows
+  zero_statements = refl
+
+  no_table : job (name ∷ codes "decode" ∷ []) ≡ None
+  unfolding clap_on_literals refusals rows
+  no_table = refl
+
+  -- the table may have any name
+  any_table : (file : Text) → job (name ∷ codes "decode" ∷ (codes "--table=" ++ file) ∷ []) ≡ Some (decoding file)
+  unfolding clap_on_literals refusals rows
+  any_table file = refl
+
+  -- and the number is any word that does not begin with a dash
+  any_number : (d : ℕ) (ds : List ℕ) → (d == 45) ≡ false → job (name ∷ codes "gen" ∷ (d ∷ ds) ∷ []) ≡ option_map generating (count_in (d ∷ ds))
+  unfolding clap_on_literals refusals rows
+  any_number d ds h = simp h
+
+no_words : job [] ≡ None
+unfolding clap_on_literals refusals rows
+no_words = refl

@@ -1,0 +1,47 @@
+-- A logger may be lent to other threads, since each of its parts may go to one. A closure may go there with its five captures.
+use denote.Param.Send.{IsSend, IsSync, sendable}
+use denote.Param.SendFields.{as_row_send, declared_send}
+use denote.RattleType.{RattleType}
+use denote.Struct.Field.{row_field}
+use denote.Struct.Tuple.{TupleAt, type_at}
+use mathlib.Core.List.{[], ◌∷◌}
+use mir.Syntax.{Sym}
+use Rattle.std.proofs.Crossing.{crosses}
+use Rattle.defmt_hooks.specs.declared.clock.Clock as clock
+use Rattle.defmt_intern.proofs.table.Table.TheSendSync.{the_send as table_send}
+use Rattle.defmt_logger.proofs.tape.Tape.TheSendSync.{the_send as tape_send}
+use Rattle.defmt_logger.specs.contracts.desk.Desk.{the_row as desk_row}
+use Rattle.defmt_logger.specs.contracts.locked.Locked.{the_row as locked_row}
+use Rattle.defmt_logger.specs.contracts.logger.Logger.{the_row as logger_row}
+use Rattle.defmt_logger.specs.declared.books.Books as books
+use Rattle.defmt_logger.specs.declared.locked.Naming as naming
+use Rattle.defmt_script.specs.contracts.script.Script.{the_row as script_row}
+use Rattle.defmt_script.specs.contracts.script.Statements.{the_row as statements_row}
+use Rattle.defmt_spelling.proofs.names.Names.TheSendSync.{the_send as names_send}
+use Rattle.defmt_values.proofs.value.Args.TheLaws.TheKnot.{crosses as values_cross}
+use Rattle.defmt_values.specs.contracts.value.Statement.{the_row as statement_row}
+use Rattle.rtt_ring.specs.declared.ends.UpEnd as up
+
+statement_send : IsSend statement_row
+statement_send = search (sendable, crosses, values_cross) depth 60
+
+statements_send : IsSend statements_row
+statements_send = search (sendable, crosses, statement_send) depth 60
+
+script_send : IsSend script_row
+script_send = search (sendable, crosses, table_send, names_send, statements_send) depth 60
+
+desk_send : (U C : RattleType) (u : up.Ghosts U.Denot) (k : clock.Ghosts C.Denot) → IsSend U → IsSend C → IsSend (desk_row U C u k)
+desk_send U C u k a b = search (sendable, crosses, script_send, tape_send) depth 60
+
+locked_send : (B K U C : RattleType) (b : books.Ghosts B.Denot) (n : naming.Ghosts K.Denot) (u : up.Ghosts U.Denot) (k : clock.Ghosts C.Denot)
+    → IsSend B → IsSend K → IsSend U → IsSend C → IsSend (locked_row B K U C b n u k)
+locked_send B K U C b n u k sb sk su sc = search (sendable, crosses, desk_send) depth 60
+
+pub logger_sync : (B K U C : RattleType) (b : books.Ghosts B.Denot) (n : naming.Ghosts K.Denot) (u : up.Ghosts U.Denot) (k : clock.Ghosts C.Denot)
+    → IsSend B → IsSend K → IsSend U → IsSend C → IsSync (logger_row B K U C b n u k)
+logger_sync B K U C b n u k sb sk su sc = search (sendable, crosses, locked_send) depth 60
+
+pub five_send : (ν : Sym) (A B C D E : RattleType) → IsSend A → IsSend B → IsSend C → IsSend D → IsSend E → IsSend (TupleAt ν (A ∷ B ∷ C ∷ D ∷ E ∷ []))
+five_send ν A B C D E a b c d e = declared_send (type_at ν (A ∷ B ∷ C ∷ D ∷ E ∷ []))
+    (as_row_send (row_field A) a, (as_row_send (row_field B) b, (as_row_send (row_field C) c, (as_row_send (row_field D) d, (as_row_send (row_field E) e, tt)))))

@@ -1,0 +1,27 @@
+use Rattle.std.proofs.Common.{◌≡◌, ◌∙◌}
+use Rattle.defmt_logger.specs.Tape.{count, marks_of}
+use Rattle.defmt_script.specs.Script.{Script}
+use Rattle.defmt_writers.proofs.Ends.{below_eight, run_ends}
+use Rattle.defmt_writers.proofs.script_run.run_named.Goals as goal
+
+pub returns-clause-run : goal.returns-clause-run
+returns-clause-run g c =
+    let s : Script = g.K.Naming.script in
+    let close = c.close-tape.ensures in
+    let ends = c.finish.ensures in
+    let settled = c.in_ok-settled.ensures in
+    let tape = c.close-tape.result.0 in
+    let drain = c.take_all.new.self in
+    run_ends s c.close-tape.result.2 tape (g.H.Up.UpEnd.view c.close-tape.result.1) _ _ _ _ close.script close.kept
+    (below_eight (λ w. marks_of w tape.marks ≡ count s w)
+    (close.p0 ∙ ends.p0 ∙ c.finish.new.pens.p0.all)
+    (close.p1 ∙ ends.p1 ∙ c.finish.new.pens.p1.all)
+    (close.p2 ∙ ends.p2 ∙ c.finish.new.pens.p2.all)
+    (close.p3 ∙ ends.p3 ∙ c.finish.new.pens.p3.all)
+    (close.p4 ∙ ends.p4 ∙ c.finish.new.pens.p4.all)
+    (close.p5 ∙ ends.p5 ∙ c.finish.new.pens.p5.all)
+    (close.p6 ∙ ends.p6 ∙ c.finish.new.pens.p6.all)
+    (close.p7 ∙ ends.p7 ∙ c.finish.new.pens.p7.all))
+    settled.account.0 (settled.account.1 ∙ drain.got) settled.rest.0 settled.rest.1
+    (λ h. drain.idle (drain.late_is ∙ h))
+    c.looks-looks.ensures

@@ -1,0 +1,31 @@
+-- What a run of a script by threads answers.
+use Rattle.std.specs.Prelude.{◌≡◌, ℕ, ◌<◌, ◌⊎◌, Bool, true, List, [], ◌++◌, length}
+use Rattle.defmt_lines.specs.declared.settings.RingMode.{RingMode}
+use Rattle.defmt_lines.specs.declared.settings.RingMode.TheVariants.{Block, Skip, Trim}
+use Rattle.defmt_logger.specs.Kept.{LooksIn}
+use Rattle.defmt_logger.specs.Tape.{IsLawful, Released, count, marks_of, stream_of}
+use Rattle.defmt_logger.specs.declared.mark.Mark.{Mark}
+use Rattle.defmt_script.specs.Script.{Script}
+use Rattle.rtt_ring.specs.Account.{Account}
+
+-- skip and trim want a ring that tells how many bytes were released
+abbrev pub ModeFits : RingMode → Bool → Type 0
+ModeFits mode tells = (mode ≡ Block) ⊎ (tells ≡ true)
+
+-- in skip and trim mode what the looks of the tape found released is at most this number of bytes
+abbrev pub ReachedIn : RingMode → Script → List Mark → ℕ → Type 0
+ReachedIn Block s tape taken = Unit {0}
+ReachedIn Skip s tape taken = Released s tape taken
+ReachedIn Trim s tape taken = Released s tape taken
+
+-- Every statement is on the lawful tape, its stream went to the ring, and what was captured and the rest are the stream.
+-- What was captured is what the reader took, and no look found more released than that. A late reader took nothing.
+pub record IsRun (s : Script) (tape : List Mark) (account : Account) (captured rest : List ℕ) (looks : ℕ) : Type 0 where
+  pub lawful : IsLawful s tape
+  pub all : (w : ℕ) → w < 8 → marks_of w tape ≡ count s w
+  pub sends : account.sent ≡ stream_of s tape
+  pub takes : account.got ≡ captured
+  pub whole : account.sent ≡ captured ++ rest
+  pub reach : ReachedIn s.settings.mode s tape (length account.got)
+  pub late : s.settings.late ≡ true → account.got ≡ []
+  pub looked : LooksIn s.settings.mode (length tape) looks

@@ -1,0 +1,113 @@
+// The reader.
+ghost use Rattle.std.specs.Prelude.{◌≡◌, ◌+◌, ◌≤◌, true, [], ◌++◌, length, take};
+
+use crate::gate::Gate;
+use defmt_logger::Naming;
+use dl_io::{Bytes, Memory};
+use rtt_modes::Relief;
+use rtt_ring::DownEnd;
+use std::alloc::Global;
+use std::marker::PhantomData;
+use std::thread;
+
+// The most bytes that one take moves.
+const PIECE: usize = 256;
+
+// Waits until other threads had their turn.
+#[derive(Clone, Copy)]
+pub struct Yields;
+
+impl Relief for Yields {
+    ghost kept = { λ _. Unit {0} };
+
+    fn ease(&mut self) {
+        thread::yield_now()
+    }
+}
+
+// The lower end of the ring, with what was captured of it. A late reader captures nothing.
+#[derive(Drop)]
+pub struct Drain<K: Naming, D: DownEnd> {
+    pub(crate) down: D,
+    pub(crate) captured: Bytes,
+    pub(crate) late: bool,
+    pub(crate) of: PhantomData<K>,
+    ghost split: { (D.view down).split ≡ K.split },
+    ghost got: { (D.view down).got ≡ captured.items },
+    ghost late_is: { late ≡ K.script.settings.late },
+    ghost idle: { late ≡ true → captured.items ≡ [] },
+}
+
+// Takes bytes into the buffer, and captures them.
+fn capture<D: DownEnd>(down: &mut D, captured: &mut Bytes, buffer: &mut [u8]) -> usize
+    requires room { length buffer.old ≤ captured.old.room }
+    requires got { (D.view down.old).got ≡ captured.old.items }
+    ensures split { (D.view down.new).split ≡ (D.view down.old).split }
+    ensures got { (D.view down.new).got ≡ captured.new.items }
+    ensures room { captured.new.room + result ≡ captured.old.room }
+{
+    let count = down.take(buffer);
+    captured.extend_reserved(&buffer[..count]);
+    count
+}
+
+impl<K: Naming, D: DownEnd> Drain<K, D> {
+    // A reader that has taken nothing, with room for so many bytes.
+    pub fn new(alloc: Global, down: D, late: bool, room: usize) -> Result<Drain<K, D>, Memory>
+    where
+        D: Drop,
+        requires split { (D.view down).split ≡ K.split }
+        requires got { (D.view down).got ≡ [] }
+        requires late { late ≡ K.script.settings.late }
+    {
+        let mut captured = Bytes::new(alloc);
+        captured.reserve(room)?;
+        Ok(Drain {
+            down,
+            captured,
+            late,
+            of: PhantomData,
+        })
+    }
+
+    // Takes bytes that are there, as far as there is room for them, and tells the gate. A late reader takes none.
+    pub fn take<G: Gate>(&mut self, gate: &G) -> usize
+        ensures { self.new.captured.room + result ≡ self.old.captured.room }
+    {
+        let Drain {
+            down,
+            captured,
+            late,
+            of: _,
+        } = self;
+        if *late {
+            return 0;
+        }
+        let mut buffer = [0; PIECE];
+        let size = captured.spare().min(PIECE);
+        let count = capture(down, captured, &mut buffer[..size]);
+        if count > 0 {
+            gate.took(captured.len() as u64);
+        }
+        count
+    }
+
+    // Takes until nothing is there, or there is no room.
+    pub fn take_all<G: Gate>(&mut self, gate: &G) {
+        while self.take(gate) > 0 {}
+    }
+}
+
+// A reader that reads while its own thread logs.
+pub struct Reading<'g, K: Naming, D: DownEnd, G: Gate> {
+    pub(crate) drain: Drain<K, D>,
+    pub(crate) gate: &'g G,
+}
+
+impl<'g, K: Naming, D: DownEnd, G: Gate> Relief for Reading<'g, K, D, G> {
+    ghost kept = { λ _. Unit {0} };
+
+    fn ease(&mut self) {
+        self.drain.take(self.gate);
+    }
+}

@@ -1,0 +1,226 @@
+// How a run goes.
+ghost use Rattle.std.specs.Prelude.{◌≡◌, IfOk, slice_index_or, length};
+ghost use Rattle.defmt_logger.specs.Kept.{IsClockOf, TellsIn};
+ghost use Rattle.defmt_writers.specs.Runs.{IsRun, ModeFits};
+ghost use Rattle.rtt_ring.specs.Views.{new_down, new_up};
+
+use crate::drain::{Drain, Reading};
+use crate::gate::Gate;
+use crate::writers::{work, write};
+use defmt_hooks::Clock;
+use defmt_logger::{Eight, Logger, Naming, Pens, Tape};
+use defmt_script::Script;
+use dl_io::{Bytes, Memory};
+use rtt_ring::{Channel, DownEnd, RingFault, Settled, UpEnd};
+use std::alloc::Global;
+use std::marker::Brand;
+use std::sync::Wait;
+use std::sync::ledger::{Blank, Ledger};
+use std::thread::Threads;
+
+// The most bytes of a frame.
+const FRAME_SIZE: usize = 2288;
+
+/// What a run answers.
+#[derive(Drop)]
+pub struct Run {
+    /// The script that was run.
+    pub script: Script,
+    /// A mark for each statement, in the order in which the writers acquired the logger.
+    pub tape: Tape,
+    /// The account of the ring.
+    pub settled: Settled,
+    /// The bytes that the reader took.
+    pub captured: Bytes,
+    /// The bytes that were sent and not taken.
+    pub rest: Bytes,
+    /// How many looks the logger made.
+    pub looks: u64,
+}
+
+// How many bytes the frames of all statements have at most.
+fn frames_size(script: &Script) -> usize {
+    let mut size = 0usize;
+    for writer in 0..8u8 {
+        size = size.saturating_add((script.count(writer) as usize).saturating_mul(FRAME_SIZE));
+    }
+    size
+}
+
+// Logs the statements that the pens have left, with a relief that reads.
+fn finish<
+    L0: Ledger + Send + Sync,
+    L1: Ledger + Send + Sync,
+    L2: Ledger + Send + Sync,
+    L3: Ledger + Send + Sync,
+    L4: Ledger + Send + Sync,
+    L5: Ledger + Send + Sync,
+    L6: Ledger + Send + Sync,
+    L7: Ledger + Send + Sync,
+    K: Naming,
+    U: UpEnd,
+    C: Clock,
+    D: DownEnd,
+    G: Gate,
+    R: Wait,
+>(
+    rt: &R,
+    logger: &Logger<Eight<L0, L1, L2, L3, L4, L5, L6, L7>, K, U, C>,
+    pens: &mut Pens<L0, L1, L2, L3, L4, L5, L6, L7, K>,
+    gate: &G,
+    reading: &mut Reading<K, D, G>,
+)
+    ensures p0 { pens.new.p0.place ≡ pens.new.p0.total }
+    ensures p1 { pens.new.p1.place ≡ pens.new.p1.total }
+    ensures p2 { pens.new.p2.place ≡ pens.new.p2.total }
+    ensures p3 { pens.new.p3.place ≡ pens.new.p3.total }
+    ensures p4 { pens.new.p4.place ≡ pens.new.p4.total }
+    ensures p5 { pens.new.p5.place ≡ pens.new.p5.total }
+    ensures p6 { pens.new.p6.place ≡ pens.new.p6.total }
+    ensures p7 { pens.new.p7.place ≡ pens.new.p7.total }
+{
+    write(rt, logger, &mut pens.p0, gate, reading);
+    write(rt, logger, &mut pens.p1, gate, reading);
+    write(rt, logger, &mut pens.p2, gate, reading);
+    write(rt, logger, &mut pens.p3, gate, reading);
+    write(rt, logger, &mut pens.p4, gate, reading);
+    write(rt, logger, &mut pens.p5, gate, reading);
+    write(rt, logger, &mut pens.p6, gate, reading);
+    write(rt, logger, &mut pens.p7, gate, reading);
+}
+
+// Runs a script over the two ends of one split, under their names.
+fn run_named<
+    H: Channel,
+    L0: Ledger + Send + Sync,
+    L1: Ledger + Send + Sync,
+    L2: Ledger + Send + Sync,
+    L3: Ledger + Send + Sync,
+    L4: Ledger + Send + Sync,
+    L5: Ledger + Send + Sync,
+    L6: Ledger + Send + Sync,
+    L7: Ledger + Send + Sync,
+    K: Naming + Send + Sync,
+    C: Clock + Send + Drop,
+    G: Gate + Sync,
+    R: Threads + Wait + Sync,
+>(
+    rt: &R,
+    alloc: Global,
+    blank0: Blank,
+    blank1: Blank,
+    blank2: Blank,
+    blank3: Blank,
+    blank4: Blank,
+    blank5: Blank,
+    blank6: Blank,
+    blank7: Blank,
+    script: Script,
+    clock: C,
+    gate: &G,
+    up: H::Up,
+    down: H::Down,
+) -> Result<Run, Memory>
+    requires clock { IsClockOf script.settings.stamp (C.base clock) (C.step clock) (C.ready clock) (C.gives clock) }
+    requires up { H.Up.view up ≡ new_up (H.Up.view up).split script.settings.ring (H.Up.view up).tells }
+    requires told { TellsIn script.settings.mode (H.Up.view up) }
+    requires down { H.Down.view down ≡ new_down (H.Up.view up).split script.settings.ring }
+    requires names { (K.script ≡ script) × (K.split ≡ (H.Up.view up).split) }
+    requires l0 { (blank0.name ≡ L0.name) × (blank0.parts ≡ L0.parts) × (blank0.parts ≡ 1) }
+    requires l1 { (blank1.name ≡ L1.name) × (blank1.parts ≡ L1.parts) × (blank1.parts ≡ 1) }
+    requires l2 { (blank2.name ≡ L2.name) × (blank2.parts ≡ L2.parts) × (blank2.parts ≡ 1) }
+    requires l3 { (blank3.name ≡ L3.name) × (blank3.parts ≡ L3.parts) × (blank3.parts ≡ 1) }
+    requires l4 { (blank4.name ≡ L4.name) × (blank4.parts ≡ L4.parts) × (blank4.parts ≡ 1) }
+    requires l5 { (blank5.name ≡ L5.name) × (blank5.parts ≡ L5.parts) × (blank5.parts ≡ 1) }
+    requires l6 { (blank6.name ≡ L6.name) × (blank6.parts ≡ L6.parts) × (blank6.parts ≡ 1) }
+    requires l7 { (blank7.name ≡ L7.name) × (blank7.parts ≡ L7.parts) × (blank7.parts ≡ 1) }
+    ensures script { IfOk result (λ r. r.script ≡ K.script) }
+    ensures run { IfOk result (λ r. IsRun K.script r.tape.marks r.settled r.captured.items r.rest.items r.looks) }
+    ensures ring { IfOk result (λ r. r.settled.ring ≡ H.KIND) }
+{
+    let late = script.late();
+    let room = frames_size(&script);
+    let (logger, mut pens) = Logger::<Eight<L0, L1, L2, L3, L4, L5, L6, L7>, K, H::Up, C>::start(
+        alloc, blank0, blank1, blank2, blank3, blank4, blank5, blank6, blank7, script, clock, up,
+    )?;
+    let drain = Drain::<K, H::Down>::new(alloc, down, late, room)?;
+    let drain = work(rt, &logger, &mut pens, gate, drain);
+    let mut reading = Reading { drain, gate };
+    finish(rt, &logger, &mut pens, gate, &mut reading);
+    let Reading { mut drain, gate: _ } = reading;
+    drain.take_all(gate);
+    let (tape, up, script) = logger.close(pens);
+    let looks = up.looks();
+    let Drain {
+        down,
+        captured,
+        late: _,
+        of: _,
+    } = drain;
+    let mut rest = Bytes::new(alloc);
+    let settled = H::settle(up, down, &mut rest)?;
+    Ok(Run {
+        script,
+        tape,
+        settled,
+        captured,
+        rest,
+        looks,
+    })
+}
+
+/// Runs a script over a ring of its own: a thread for each writer that has statements logs them, and the calling thread reads.
+///
+/// The clock counts by the script's stamps, and by 0 and 0 without them. In skip and trim mode the ring tells how many bytes
+/// were released. The gate is asked before each statement is logged, and told of each take that took something. A late reader
+/// takes nothing. A writer whose thread couldn't be started is run by the calling thread. The call waits for its threads.
+///
+/// # Errors
+/// `Memory` where there is none.
+pub fn run_script<H: Channel, C: Clock + Send + Drop, G: Gate + Sync, R: Threads + Wait + Sync>(
+    rt: &R,
+    alloc: Global,
+    script: Script,
+    clock: C,
+    gate: &G,
+) -> Result<Run, Memory>
+    requires clock { IsClockOf script.settings.stamp (C.base clock) (C.step clock) (C.ready clock) (C.gives clock) }
+    requires fits { ModeFits script.settings.mode H.tells }
+    ensures script { IfOk result (λ r. r.script ≡ script) }
+    ensures run { IfOk result (λ r. IsRun script r.tape.marks r.settled r.captured.items r.rest.items r.looks) }
+    ensures ring { IfOk result (λ r. r.settled.ring ≡ H.KIND) }
+{
+    let (up, down) = split_ring::<H>(alloc, &script)?;
+    run_named::<H, Brand, Brand, Brand, Brand, Brand, Brand, Brand, Brand, Brand, C, G, R>(
+        rt,
+        alloc,
+        Blank::new(1),
+        Blank::new(1),
+        Blank::new(1),
+        Blank::new(1),
+        Blank::new(1),
+        Blank::new(1),
+        Blank::new(1),
+        Blank::new(1),
+        script,
+        clock,
+        gate,
+        up,
+        down,
+    )
+}
+
+// The two ends of a new ring of the script's size, which no ring refuses.
+fn split_ring<H: Channel>(alloc: Global, script: &Script) -> Result<(H::Up, H::Down), Memory>
+    requires { ModeFits script.now.settings.mode H.tells }
+    ensures up { IfOk result (λ e. H.Up.view e.0 ≡ new_up (H.Up.view e.0).split script.now.settings.ring (H.Up.view e.0).tells) }
+    ensures told { IfOk result (λ e. TellsIn script.now.settings.mode (H.Up.view e.0)) }
+    ensures down { IfOk result (λ e. H.Down.view e.1 ≡ new_down (H.Up.view e.0).split script.now.settings.ring) }
+{
+    script.lawful();
+    match H::split(alloc, script.ring()) {
+        Ok(ends) => Ok(ends),
+        Err(RingFault::Memory) => Err(Memory),
+        Err(RingFault::Size) => unreachable!(),
+    }
+}

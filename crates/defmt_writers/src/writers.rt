@@ -1,0 +1,144 @@
+// The writers' threads.
+ghost use Rattle.std.specs.Prelude.{◌≡◌, ◌≤◌};
+
+use crate::drain::{Drain, Yields};
+use crate::gate::Gate;
+use defmt_hooks::Clock;
+use defmt_logger::{Books, Eight, Logger, Naming, Pen, Pens, Seat};
+use rtt_modes::Relief;
+use rtt_ring::{DownEnd, UpEnd};
+use std::sync::Wait;
+use std::sync::atomic::{AtomicU64, Ordering};
+use std::sync::ledger::Ledger;
+use std::thread;
+use std::thread::{Scope, Threads};
+
+// Logs the statements that the pen has left, and asks the gate before each.
+pub fn write<
+    B: Books,
+    K: Naming,
+    U: UpEnd,
+    C: Clock,
+    S: Seat<B, L>,
+    L: Ledger,
+    G: Gate,
+    R: Relief,
+    W: Wait,
+>(rt: &W, logger: &Logger<B, K, U, C>, pen: &mut Pen<S, L, K>, gate: &G, relief: &mut R)
+    requires relief { R.kept relief.old }
+    ensures place { pen.new.place ≡ pen.new.total }
+    ensures relief { R.kept relief.new }
+{
+    while pen.place() < pen.total() {
+        gate.pass(pen.writer(), pen.place());
+        logger.log(rt, pen, relief);
+    }
+}
+
+// One writer's thread.
+fn run_one<B: Books, K: Naming, U: UpEnd, C: Clock, S: Seat<B, L>, L: Ledger, G: Gate, W: Wait>(
+    rt: &W,
+    logger: &Logger<B, K, U, C>,
+    pen: &mut Pen<S, L, K>,
+    gate: &G,
+    done: &AtomicU64,
+) {
+    write(rt, logger, pen, gate, &mut Yields);
+    done.fetch_add(1, Ordering::SeqCst);
+}
+
+// Starts a writer's thread, which borrows the writer's pen, where the writer has statements. Answers how many were started.
+fn start<
+    's,
+    E,
+    B: Books + Send,
+    K: Naming + Send + Sync,
+    U: UpEnd + Send,
+    C: Clock + Send,
+    S: Seat<B, L> + Send,
+    L: Ledger + Send + Sync,
+    G: Gate + Sync,
+    W: Wait + Sync,
+>(
+    scope: &Scope<'s, E>,
+    rt: &'s W,
+    logger: &'s Logger<B, K, U, C>,
+    pen: &'s mut Pen<S, L, K>,
+    gate: &'s G,
+    done: &'s AtomicU64,
+) -> u64
+    ensures { result ≤ 1 }
+{
+    if pen.total() == 0 {
+        return 0;
+    }
+    let thread = scope.spawn(
+        move ||
+            requires { Unit {0} }
+        { run_one(rt, logger, pen, gate, done) },
+    );
+    if thread.is_ok() { 1 } else { 0 }
+}
+
+// Starts a thread for each writer that has statements, lends it its pen, and reads until all have ended.
+pub fn work<
+    L0: Ledger + Send + Sync,
+    L1: Ledger + Send + Sync,
+    L2: Ledger + Send + Sync,
+    L3: Ledger + Send + Sync,
+    L4: Ledger + Send + Sync,
+    L5: Ledger + Send + Sync,
+    L6: Ledger + Send + Sync,
+    L7: Ledger + Send + Sync,
+    K: Naming + Send + Sync,
+    U: UpEnd + Send,
+    C: Clock + Send,
+    D: DownEnd + Drop,
+    G: Gate + Sync,
+    R: Threads + Wait + Sync,
+>(
+    rt: &R,
+    logger: &Logger<Eight<L0, L1, L2, L3, L4, L5, L6, L7>, K, U, C>,
+    pens: &mut Pens<L0, L1, L2, L3, L4, L5, L6, L7, K>,
+    gate: &G,
+    drain: Drain<K, D>,
+) -> Drain<K, D> {
+    let Pens {
+        p0,
+        p1,
+        p2,
+        p3,
+        p4,
+        p5,
+        p6,
+        p7,
+    } = pens;
+    let ended = AtomicU64::new(0);
+    let done = &ended;
+    thread::scope(
+        thread::scope_env(),
+        rt,
+        |scope| -> Drain<K, D>
+            requires { Unit {0} }
+        {
+            let mut running = 0;
+            running += start(scope, rt, logger, p0, gate, done);
+            running += start(scope, rt, logger, p1, gate, done);
+            running += start(scope, rt, logger, p2, gate, done);
+            running += start(scope, rt, logger, p3, gate, done);
+            running += start(scope, rt, logger, p4, gate, done);
+            running += start(scope, rt, logger, p5, gate, done);
+            running += start(scope, rt, logger, p6, gate, done);
+            running += start(scope, rt, logger, p7, gate, done);
+            let mut drain = drain;
+            for _ in rt.forever() {
+                if drain.late || done.load(Ordering::SeqCst) >= running {
+                    break;
+                }
+                drain.take(gate);
+                thread::yield_now();
+            }
+            drain
+        },
+    )
+}
