@@ -1,14 +1,15 @@
 //! The printed line of a statement.
-ghost use Rattle.std.specs.Prelude.{◌≡◌, ◌≤◌, [], ℕ, length, Option, IfOk, IfSome};
+ghost use Rattle.std.specs.Prelude.{◌≡◌, ◌≤◌, ◌++◌, [], ℕ, length, Option, IfOk, IfSome, OnOk};
 ghost use Rattle.std.specs.Option.{option_map, ForSome};
 ghost use Rattle.defmt_eager.specs.Answers.{Shows, GivesFront, GivesLine};
 ghost use Rattle.defmt_eager.specs.Line.{level_text, level_at, stamp_at, stamp_text, stamp_space};
+ghost use Rattle.defmt_eager.specs.Show.{own_pieces};
 ghost use Rattle.defmt_intern.specs.Table.{Map, IsLawful, StampIs};
 ghost use Rattle.defmt_values.specs.Fits.{Fits, FitsStamp, IsLogged};
 
 use crate::eager::{EagerFault, LIMIT};
-use crate::values::push_statement;
-use defmt_grammar::{Memory, Text};
+use crate::values::{pieces_of, push_pieces, push_statement};
+use defmt_grammar::{Hint, Memory, Piece, Text};
 use defmt_intern::{Table, Tag};
 use defmt_values::{Args, Statement, look_up};
 use std::alloc::Global;
@@ -28,14 +29,15 @@ fn level_text(tag: &Tag) -> Option<&'static str>
     }
 }
 
-// The level of an index's entry.
-fn level_at(table: &Table, index: u16) -> Option<&'static str>
-    ensures text { option_map (λ level. level.now) result ≡ level_at table.now index }
-    ensures width { IfSome result (λ level. length level.now ≡ 5) }
+// The level of an index's entry, and the pieces of its text. It is looked up once for both.
+fn parts_at(table: &Table, index: u16) -> (Option<&'static str>, &[Piece])
+    ensures level { option_map (λ level. level.now) result.0 ≡ level_at table.now index }
+    ensures width { IfSome result.0 (λ level. length level.now ≡ 5) }
+    ensures pieces { result.1.now ≡ own_pieces table.now index }
 {
     match look_up(table, index) {
-        None => None,
-        Some((entry, _)) => level_text(&entry.tag),
+        None => (None, &[]),
+        Some((entry, body)) => (level_text(&entry.tag), pieces_of(body)),
     }
 }
 
@@ -64,12 +66,13 @@ fn push_stamp(
     }
 }
 
-fn stamp_space(at: Option<u16>) -> &'static str
-    ensures { result.now ≡ stamp_space at }
+// Appends a space, where there is a timestamp's entry.
+fn push_space(out: &mut Text, at: Option<u16>) -> Result<(), Memory>
+    ensures { OnOk result (out.new ≡ out.old ++ stamp_space at) }
 {
     match at {
-        None => "",
-        Some(_) => " ",
+        None => Ok(()),
+        Some(_) => out.push(' '),
     }
 }
 
@@ -96,7 +99,7 @@ fn front_of(
     let Some(level) = level else {
         return Ok(Text::new(alloc));
     };
-    out.push_str(stamp_space(at))?;
+    push_space(&mut out, at)?;
     out.push_str(level)?;
     out.push_str(" ")?;
     Ok(out)
@@ -118,10 +121,10 @@ pub fn line(alloc: Global, table: &Table, stamp: &Args, stm: &Statement) -> Resu
     requires logged { IsLogged table.now stm.now.index }
     ensures { GivesLine result table.now stamp.now stm.now.index stm.now.args }
 {
-    let level = level_at(table, stm.index);
+    let (level, pieces) = parts_at(table, stm.index);
     let mut out = front_of(alloc, table, stamp_at(table), stamp, level)?;
     let limit = out.len() + LIMIT;
-    push_statement(table, &mut out, limit, stm.index, &stm.args)?;
+    push_pieces(table, &mut out, limit, Hint::Plain, pieces, &stm.args)?;
     Ok(out)
 }
 

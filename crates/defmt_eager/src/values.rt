@@ -1,10 +1,10 @@
 //! Values in the pieces of their texts, to the depth of the values.
 ghost use Rattle.std.specs.Prelude.{◌≡◌, ◌≤◌, ◌++◌, length, true};
 ghost use Rattle.defmt_eager.specs.Answers.{Shows, comma};
-ghost use Rattle.defmt_eager.specs.Show.{interned_text, node_pieces, own_pieces, acting, show_val, shows, show_elems, pieces_text, piece_text, param_text, eager_text};
+ghost use Rattle.defmt_eager.specs.Show.{interned_text, node_pieces, pieces_in, own_pieces, acting, show_val, shows, show_elems, pieces_text, piece_text, param_text, eager_text};
 ghost use Rattle.defmt_hints.specs.Printed.{list_text, parted};
 ghost use Rattle.defmt_values.specs.Entries.{look};
-ghost use Rattle.defmt_values.specs.Scan.{index_or};
+ghost use Rattle.defmt_values.specs.Scan.{index_or, own_in};
 ghost use Rattle.defmt_values.specs.View.{plain};
 
 use crate::eager::EagerFault;
@@ -12,8 +12,8 @@ use crate::parts::{
     push, push_bits, push_bool, push_bytes, push_char, push_int, push_str, push_uint,
 };
 use defmt_grammar::{Hint, Kind, Param, Piece, Text};
-use defmt_intern::Table;
-use defmt_values::{Args, Item, Items, Value, cut, form_of, look_up, own_form, pick};
+use defmt_intern::{Parsed, Table};
+use defmt_values::{Args, Item, Items, Value, cut, form_of, look_up, pick};
 
 /// The text of an interned string.
 fn interned_text(table: &Table, index: u16) -> &str
@@ -38,13 +38,23 @@ fn node_pieces(table: &Table, index: u16, variant: Option<u8>) -> &[Piece]
     }
 }
 
+/// The pieces of what a statement's entry stands for.
+pub fn pieces_of(body: &Parsed) -> &[Piece]
+    ensures { result.now ≡ pieces_in (own_in body.now) }
+{
+    match body {
+        Parsed::One(pieces) => pieces.as_slice(),
+        _ => &[],
+    }
+}
+
 /// The pieces of the text of a statement.
 pub fn own_pieces(table: &Table, index: u16) -> &[Piece]
     ensures { result.now ≡ own_pieces table.now index }
 {
-    match own_form(table, index) {
-        Err(_) => &[],
-        Ok(pieces) => pieces.as_slice(),
+    match look_up(table, index) {
+        None => &[],
+        Some((_, body)) => pieces_of(body),
     }
 }
 
@@ -136,9 +146,9 @@ fn push_piece(
     }
 }
 
-// Appends the text of pieces with these arguments, under the hint that acts round them.
+/// Appends the text of pieces with these arguments, under the hint that acts round them.
 #[cycle(show)]
-fn push_pieces(
+pub fn push_pieces(
     table: &Table,
     out: &mut Text,
     limit: usize,

@@ -1,5 +1,6 @@
 -- How many bytes values have at most.
-use Rattle.std.proofs.Common.{◌≡◌, ◌≤◌, ◌+◌, ℕ, ℤ, Bool, List, [], ◌∷◌, ◌++◌, length, map, Option, Some, None, Result, Ok, Err, arith, length-append}
+use Rattle.std.proofs.Common.{◌≡◌, ◌≤◌, ◌<◌, ◌+◌, ℕ, ℤ, Bool, true, false, nat_lt, List, [], ◌∷◌, ◌++◌, length, map, Option, Some, None, Result, Ok, Err, sym, arith, length-append}
+use Rattle.std.proofs.lemmas.Bool.{lt-ltb, le-ltb}
 use Rattle.std.specs.Int.{w128, cast_unsigned}
 use Rattle.byteorder.specs.Endian.{little_bytes}
 use Rattle.defmt_grammar.specs.declared.kind.IntSize.{IntSize}
@@ -135,3 +136,9 @@ message_short t stamp index vs most few have =
 pub written : (old new message : List ℕ) (r : Result ℕ Long) → length message ≤ 2000 → Puts old new 0 r message → Writes old new r message
 written old new message (Ok n) short w = record { message_is = w.front; length_is = omega (arith, w.end_is); short = w.fits; behind = w.behind }
 written old new message (Err e) short far = absurd (omega (arith, short, far))
+
+pub not_long : (message : List ℕ) → length message ≤ 2000 → false ≡ nat_lt 2000 (length message)
+not_long message short = sym (le-ltb 2000 (length message) short)
+
+pub is_long : (message : List ℕ) → 2000 < length message → true ≡ nat_lt 2000 (length message)
+is_long message long = sym (lt-ltb 2000 (length message) long)

@@ -16,7 +16,9 @@ pub use heard::{Heard, ReadCause, read_message};
 pub use law::{one_answer, reads_back, stamp_length};
 pub use put::{Long, put_bytes, put_number};
 pub use sound::args_are_sound;
-pub use writing::{message, put_args, put_slice, put_text, put_value, size_bytes, stamp_slots};
+pub use writing::{
+    is_long, message, put_args, put_slice, put_text, put_value, size_bytes, stamp_slots,
+};
 
 #[cfg(test)]
 mod tests;

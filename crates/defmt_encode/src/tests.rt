@@ -1,5 +1,5 @@
 // Messages and frames of small tables, and each cause for which bytes are no message.
-use crate::{Heard, Long, ReadCause, frame, message, read_message};
+use crate::{Heard, Long, ReadCause, frame, is_long, message, read_message};
 use defmt_grammar::Text;
 use defmt_intern::{Entry, Table, Tag};
 use defmt_values::{Args, Node, Statement, Value};
@@ -223,17 +223,13 @@ fn more_than_2000_bytes_are_long(rt: HostRuntime) -> Result<(), Fail> {
     let alloc = rt.alloc();
     let table = table_of(alloc, "{=str}")?;
     let mut out = vec![in alloc; 9u8; 2000]?;
-    let args = one(alloc, letters(alloc, 1995)?)?;
-    assert_eq!(rt;
-        message(&table, None, &Statement { index: 1, args }, &mut out),
-        Err(Long)
-    );
-    assert_eq!(rt; out[0], 9);
-    let args = one(alloc, letters(alloc, 1994)?)?;
-    assert_eq!(rt;
-        message(&table, None, &Statement { index: 1, args }, &mut out),
-        Ok(2000)
-    );
+    for (count, expected) in [(1995, Err(Long)), (1994, Ok(2000))] {
+        let args = one(alloc, letters(alloc, count)?)?;
+        let stm = Statement { index: 1, args };
+        assert_eq!(rt; message(&table, None, &stm, &mut out), expected);
+        assert_eq!(rt; is_long(&table, None, &stm), expected.is_err());
+        assert_eq!(rt; out[0] == 9, expected.is_err());
+    }
     Ok(())
 }
 

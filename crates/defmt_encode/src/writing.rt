@@ -1,5 +1,5 @@
 //! The message of a statement.
-ghost use Rattle.std.specs.Prelude.{◌≡◌, ◌≤◌, ◌++◌, ◌/◌, ◌^◌, [], length, ℕ};
+ghost use Rattle.std.specs.Prelude.{◌≡◌, ◌≤◌, ◌++◌, ◌/◌, ◌^◌, [], length, nat_lt, ℕ};
 ghost use Rattle.byteorder.specs.Endian.{little_bytes};
 ghost use Rattle.defmt_encode.specs.Carry.{size_bytes, uint_width, int_width, flag_byte, length_bytes, window_width, window_first, variant_byte, count_bytes, index_bytes, node_slots, own_slots, stamp_slots, stamp_args, bytes_val, bytes_vals, bytes_elems, message_of};
 ghost use Rattle.defmt_encode.specs.Out.{HasAtMost, HaveAtMost, Puts, Writes};
@@ -375,6 +375,28 @@ fn message_by_copy(
     let count = put_message(table, stamp, stm, &mut whole)?;
     out[..count].copy_from_slice(&whole[..count]);
     Ok(count)
+}
+
+// The same of a message that is written to a buffer of its own.
+#[inline(never)]
+fn is_long_by_copy(table: &Table, stamp: Option<u64>, stm: &Statement) -> bool
+    ensures { result ≡ nat_lt 2000 (length (message_of table.now (stamp_args stamp) stm.now.index stm.now.args)) }
+{
+    let mut whole = [0u8; 2000];
+    match put_message(table, stamp, stm, &mut whole) {
+        Ok(_) => false,
+        Err(Long) => true,
+    }
+}
+
+/// Whether the message of a statement has more than 2,000 bytes: whether `message` refuses it. Takes no memory.
+pub fn is_long(table: &Table, stamp: Option<u64>, stm: &Statement) -> bool
+    ensures { result ≡ nat_lt 2000 (length (message_of table.now (stamp_args stamp) stm.now.index stm.now.args)) }
+{
+    if most_of(&stm.args) <= SHORT {
+        return false;
+    }
+    is_long_by_copy(table, stamp, stm)
 }
 
 /// Writes the message of a statement to the front of a buffer, and answers how many bytes it has

@@ -121,10 +121,13 @@ text_fits_by base width n upper false e two some lt =
     let k : length (map (digit_glyph upper) (digits_of base n)) ≡ length (digits_of base n) = length-map (digits_of base n) (digit_glyph upper) in
     rw (number_text_some base n upper (above_zero n e)) (omega (arith, k, length-digits_of-le base width n two lt))
 
+pub text_fits : (base width n : ℕ) (upper : Bool) → 2 ≤ base → 0 < width → n < base ^ width → length (number_text base upper n) ≤ width
+text_fits base width n upper two some lt = text_fits_by base width n upper (eqb n 0) refl two some lt
+
 pub length_zero_filled : (base width n : ℕ) (upper : Bool) → 2 ≤ base → 0 < width → n < base ^ width → length (zero_filled width (number_text base upper n)) ≡ width
 unfolding zero_filled
 length_zero_filled base width n upper two some lt =
-    let fits : length (number_text base upper n) ≤ width = text_fits_by base width n upper (eqb n 0) refl two some lt in
+    let fits : length (number_text base upper n) ≤ width = text_fits base width n upper two some lt in
     length-append (replicate (width - length (number_text base upper n)) 48) (number_text base upper n)
     ∙ ap (λ (k : ℕ). k + length (number_text base upper n)) (length-replicate (width - length (number_text base upper n)) 48)
     ∙ omega arith

@@ -5,14 +5,13 @@ use Rattle.std.proofs.lemmas.Bool.Decides.{nat_tests}
 use Rattle.std.proofs.lemmas.Grind.{replicate_next}
 use Rattle.std.proofs.lemmas.Int.Digits.{digits_of_step, length-digits_of_step, length-digits_of-le}
 use Rattle.std.proofs.lemmas.List.{append-nil, length-map, length-replicate, drop-append-le, drop-replicate, map_push, take_all}
-use Rattle.std.proofs.lemmas.Str.{IsUtf8-from_ascii}
 use Rattle.std.proofs.Math.Nat.{pow-le-pow_left, div-lt_self}
 use Rattle.std.proofs.Math.Seq.{set-append_seam}
 use Rattle.std.specs.Fmt.{digit_glyph}
 use Rattle.std.specs.Int.Digits.{AllBelowBase, digits_of}
 use Rattle.std.specs.List.{AllByRecursion}
 use Rattle.std.specs.Prelude.{replicate}
-use Rattle.std.specs.Str.{IsUtf8}
+use Rattle.std.specs.Str.{IsAscii}
 use Rattle.defmt_hints.specs.Digits.{digits, number_text, zero_filled}
 use Rattle.defmt_hints.proofs.DigitsLaws.{are_digits, number_text_zero, number_text_some}
 
@@ -143,9 +142,8 @@ ascii_at [] h i = omega arith
 ascii_at (c ∷ cs) h zero = h.0
 ascii_at (c ∷ cs) h (suc i) = ascii_at cs h.1 i
 
-pub utf8_digits : (base width n : ℕ) (upper : Bool) → 2 ≤ base → base ≤ 16 → IsUtf8 (zero_filled width (number_text base upper n))
+pub ascii_digits : (base width n : ℕ) (upper : Bool) → 2 ≤ base → base ≤ 16 → IsAscii (zero_filled width (number_text base upper n))
 unfolding zero_filled number_text
-utf8_digits base width n upper two most =
-    IsUtf8-from_ascii (zero_filled width (number_text base upper n))
-    (ascii_at (zero_filled width (number_text base upper n))
-    (ascii_append (replicate (width - length (number_text base upper n)) 48) (number_text base upper n) (ascii_zeros (width - length (number_text base upper n))) (ascii_glyphs base upper (digits base n) most (are_digits base n two).below)))
+ascii_digits base width n upper two most =
+    ascii_at (zero_filled width (number_text base upper n))
+    (ascii_append (replicate (width - length (number_text base upper n)) 48) (number_text base upper n) (ascii_zeros (width - length (number_text base upper n))) (ascii_glyphs base upper (digits base n) most (are_digits base n two).below))

@@ -6,3 +6,4 @@ pub mod RunLaws
 pub mod EscapesLaws
 pub mod ListLaws
 pub mod SignLaws
+pub mod PartsLaws

@@ -2,7 +2,7 @@
 
 ghost use Rattle.std.specs.Prelude.{◌≡◌, ◌<◌, ◌≤◌, ◌/◌, ◌%◌, ◌^◌, ℕ, List, Bool, length};
 ghost use Rattle.std.specs.Fmt.{digit_glyph};
-ghost use Rattle.std.specs.Str.{IsUtf8};
+ghost use Rattle.std.specs.Str.{IsAscii, IsUtf8};
 ghost use Rattle.defmt_hints.specs.Appends.{Appends};
 ghost use Rattle.defmt_hints.specs.Digits.{AreDigits, digits, number_text, zero_filled};
 
@@ -16,6 +16,9 @@ const ROOM: usize = 255;
 pub fn push(out: &mut Text, text: &str) -> Result<(), Memory>
     ensures { Appends result out.old out.new text.now }
 {
+    if text.is_empty() {
+        return Ok(());
+    }
     out.push_str(text)
 }
 
@@ -28,6 +31,17 @@ pub fn push_bytes(out: &mut Text, bytes: &[u8]) -> Result<(), Memory>
         Ok(text) => push(out, text),
         Err(_) => unreachable!(),
     }
+}
+
+/// Appends bytes that are characters of one byte each.
+fn push_ascii(out: &mut Text, bytes: &[u8]) -> Result<(), Memory>
+    requires { IsAscii bytes.now }
+    ensures { Appends result out.old out.new bytes.now }
+{
+    for byte in bytes {
+        out.push(char::from(*byte))?;
+    }
+    Ok(())
 }
 
 /// The character of a digit below 16.
@@ -82,7 +96,7 @@ pub fn push_digits(
     }
     // The digit of 0 is one of the zeros that fill the buffer.
     let first = start.min(ROOM - usize::from(width.max(1)));
-    push_bytes(out, &buffer[first..])
+    push_ascii(out, &buffer[first..])
 }
 
 /// A number has one list of digits, whose weighted sum it is and which has no leading zero. Its text has these

@@ -1,6 +1,6 @@
 //! Numbers.
 
-ghost use Rattle.std.specs.Prelude.{◌≡◌, ◌<◌, ◌+◌, ◌^◌, length};
+ghost use Rattle.std.specs.Prelude.{◌≡◌, ◌<◌, ◌≤◌, ◌+◌, ◌^◌, length};
 ghost use Rattle.defmt_hints.specs.Appends.{Appends};
 ghost use Rattle.defmt_grammar.specs.Sizes.{size_bits, IsSigned};
 ghost use Rattle.defmt_hints.specs.Printed.{twos_complement, base_number, base_prefix, is_upper, prefix_text, radix_text, fraction_text, decimal_text, signed_text, printed_uint, printed_int};
@@ -66,15 +66,20 @@ pub fn push_radix(
     )
 }
 
-/// Appends a value divided by a unit, with so many digits after the point.
+/// Appends a value divided by a unit, with as many digits after the point as the unit has zeros.
 fn push_fraction(out: &mut Text, value: u128, unit: u64, places: u8) -> Result<(), Memory>
-    requires { 0 < unit }
+    requires some { 0 < places }
+    requires unit { unit ≡ 10 ^ places }
+    requires small { unit ≤ 1000000 }
     ensures { Appends result out.old out.new (fraction_text unit places value) }
 {
     let (units, parts) = divided(value, unit);
     push_decimal(out, units)?;
     push(out, ".")?;
-    push_digits(out, parts as u128, 10, false, places)
+    // The digits of this sum are a one, and behind it those of the parts with their zeros.
+    let mut buffer = Buffer::new();
+    let sum = buffer.format(unit + parts);
+    push(out, &sum[1..])
 }
 
 /// Appends an unsigned number under a display hint of the defmt book: in decimal, in the hint's base as Rust prints it,

@@ -1,9 +1,10 @@
 -- Numbers of digits.
-use Rattle.std.proofs.Common.{◌≡◌, ◌<◌, ◌≤◌, ◌^◌, ◌-◌, ◌&&◌, inl, inr, ℕ, Bool, true, false, ltb, min, List, length, Result, Ok, Err, refl, arith}
+use Rattle.std.proofs.Common.{◌≡◌, [], ◌∷◌, get_or, ◌<◌, ◌≤◌, ◌^◌, ◌-◌, ◌&&◌, inl, inr, ℕ, Bool, true, false, ltb, leb, min, List, length, Result, Ok, Err, refl, arith}
 use Rattle.std.specs.Result.{OkIff, result_unwrap_or}
+use Rattle.std.specs.Char.{digit_value}
 use Rattle.std.specs.Str.{all_ascii_digits}
 use Rattle.std.specs.Str.Parse.{digits_value, ParsesUnsigned}
-use Rattle.std.proofs.lemmas.Bool.{cases_lt, ltb-true}
+use Rattle.std.proofs.lemmas.Bool.{cases_lt, le-ltb, leb-true, lt-ltb, ltb-true}
 use Rattle.std.proofs.lemmas.Str.Parse.{parse_digits}
 use Rattle.defmt_grammar.proofs.Cuts.{own}
 use Rattle.defmt_lines.specs.Number.{is_digits}
@@ -31,3 +32,22 @@ pub value_parse : {E : Type 0} (text : List ℕ) (r : Result ℕ E) (n : ℕ) �
 value_parse text r n h digits e =
     let p = digits_parts text digits in
     parsed (digits_value 10 text) r n (narrow r (digits_value 10 text) (length text) p.0 (parse_digits own 64 text r h p.1)) e
+
+one_value : (d : ℕ) → 48 ≤ d → d < 58 → digits_value 10 (d ∷ []) ≡ d - 48
+one_value d low high = let e : digit_value d ≡ d - 48 = rw (le-ltb d 48 low, lt-ltb d 58 high) refl in omega (arith, e)
+
+-- what one digit stands for
+pub record IsOneDigit (text : List ℕ) : Type 0 where
+  pub digit : 48 ≤ get_or text 0 0
+  pub value : get_or text 0 0 - 48 ≡ min (digits_value 10 text) (2 ^ 64 - 1)
+
+pub one_digit : (text : List ℕ) → is_digits text ≡ true → length text ≡ 1 → IsOneDigit text
+one_digit [] digits one = absurd (omega arith)
+one_digit (d ∷ e ∷ text) digits one = absurd (omega arith)
+one_digit (d ∷ []) digits one =
+    let all = digits_parts (d ∷ []) digits in
+    let is = both (leb 48 d && leb d 57) true all.1 in
+    let range = both (leb 48 d) (leb d 57) is.0 in
+    let low : 48 ≤ d = leb-true 48 d range.0 in
+    let high : d ≤ 57 = leb-true d 57 range.1 in
+    record { digit = low; value = omega (arith, one_value d low (omega arith)) }

@@ -34,7 +34,11 @@ fn value_of(text: &str) -> u64
     requires { is_digits text.now ≡ true }
     ensures { result ≡ min (digits_value 10 text.now) (2 ^ 64 - 1) }
 {
-    text.parse().unwrap_or(u64::MAX)
+    match text.as_bytes() {
+        // Most numbers are writers, of one digit.
+        [digit] => u64::from(*digit - b'0'),
+        _ => text.parse().unwrap_or(u64::MAX),
+    }
 }
 
 // The number that digits stand for, where it lies in the range.

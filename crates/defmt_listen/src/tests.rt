@@ -1,8 +1,8 @@
-ghost use Rattle.std.specs.Prelude.{[], ◌∷◌, true, false, length, if◌then◌else◌};
+ghost use Rattle.std.specs.Prelude.{[], ◌∷◌, true, false, None, length, if◌then◌else◌};
 
 use crate::{ListenFault, Listener, listen};
 use defmt_framing::{Framer, Teller};
-use dl_io::{Bytes, MemSink, MemSource, Memory, RepeatSource, Source};
+use dl_io::{Bytes, Failed, MemSink, MemSource, Memory, RepeatSource, Source};
 use std::alloc::Global;
 use std::test::Fail;
 
@@ -95,6 +95,28 @@ impl Listener for Ear {
     }
 }
 
+// A source that knows for how many bytes it was asked at most at a time.
+#[derive(Drop)]
+struct Asked {
+    source: RepeatSource,
+    most: usize,
+}
+
+impl Source for Asked {
+    ghost left = { λ _. None };
+
+    ghost faults = { λ _. 0 };
+
+    fn read(&mut self, buf: &mut [u8]) -> Result<usize, Failed> {
+        self.most = self.most.max(buf.len());
+        self.source.read(buf)
+    }
+
+    fn faults(&self) -> u64 {
+        0
+    }
+}
+
 #[derive(Drop)]
 struct Listened {
     answer: Result<u64, ListenFault>,
@@ -156,5 +178,17 @@ fn one_byte_more_is_too_long(rt: HostRuntime) -> Result<(), Fail> {
     let listened = listen_to(rt.alloc(), &mut RepeatSource::new(0, 268_435_457), b"")?;
     assert_eq!(rt; listened.answer, Err(ListenFault::Long));
     assert_eq!(rt; listened.written.len(), 0);
+    Ok(())
+}
+
+#[test]
+fn at_most_65536_bytes_are_read_at_a_time(rt: HostRuntime) -> Result<(), Fail> {
+    let mut source = Asked {
+        source: RepeatSource::new(0, 200_000),
+        most: 0,
+    };
+    let listened = listen_to(rt.alloc(), &mut source, b"")?;
+    assert_eq!(rt; listened.answer, Ok(0));
+    assert_eq!(rt; source.most, 65_536);
     Ok(())
 }

@@ -1,6 +1,7 @@
 // Sites that are made and refused, and the messages that the macros put.
 ghost use Rattle.std.specs.Prelude.{◌≡◌, ◌≤◌, ◌<◌, ◌+◌, ◌^◌, ◌∷◌, [], length, take};
 ghost use Rattle.defmt_encode.specs.Carry.{bytes_val, message_of, stamp_args};
+ghost use Rattle.defmt_grammar.specs.Sizes.{IsSigned};
 ghost use Rattle.defmt_grammar.specs.declared.kind.IntSize.TheVariants as sizes;
 ghost use Rattle.defmt_grammar.specs.declared.kind.Kind.TheVariants as kinds;
 ghost use Rattle.defmt_grammar.specs.declared.slot.Slot.{Slot as AnySlot};
@@ -185,15 +186,17 @@ fn put_unsigned(frame: &mut Frame, table: &Table, a: u16, b: u32, c: u64)
     put!(frame, table, u64 c);
 }
 
-fn put_signed(frame: &mut Frame, table: &Table, a: i8, b: i16, c: i32, d: i64)
+fn put_signed(frame: &mut Frame, table: &Table, a: i8, b: i16, c: i32, d: i64, e: isize)
     requires start { frame.old.at ≤ 10 }
-    requires slots { frame.old.left.now ≡ slots.One (kinds.Int sizes.W8) ∷ slots.One (kinds.Int sizes.W16) ∷ slots.One (kinds.Int sizes.W32) ∷ slots.One (kinds.Int sizes.W64) ∷ [] }
-    ensures { frame.new.at ≡ frame.old.at + 15 }
+    requires slots { frame.old.left.now ≡ slots.One (kinds.Int sizes.W8) ∷ slots.One (kinds.Int sizes.W16) ∷ slots.One (kinds.Int sizes.W32) ∷ slots.One (kinds.Int sizes.W64) ∷ slots.One (kinds.Int sizes.Native) ∷ [] }
+    requires range { IsSigned 32 e }
+    ensures { frame.new.at ≡ frame.old.at + 19 }
 {
     put!(frame, table, i8 a);
     put!(frame, table, i16 b);
     put!(frame, table, i32 c);
     put!(frame, table, i64 d);
+    put!(frame, table, isize e);
 }
 
 // The message of a statement of a site, by the macro of the site's tag with all arguments.

@@ -22,7 +22,6 @@ ghost use Rattle.defmt_values.specs.Fits.{Fits};
 
 use crate::fault::LineFault;
 use crate::script::{Script, Statements};
-use defmt_encode::message;
 use defmt_grammar::Text;
 use defmt_intern::{Entry, Table, TableFault, Tag};
 use defmt_lines::{Cause, EntryLine, Form, Line, Settings, StatementLine, is_name, judge};
@@ -173,8 +172,7 @@ fn arguments_of(
 fn is_long(table: &Table, stamp: Option<(u64, u64)>, stm: &Statement) -> bool
     ensures { result ≡ nat_lt message_limit (length (first_message table.now stamp stm.now)) }
 {
-    let mut buffer = [0u8; 2000];
-    message(table, base_of(stamp), stm, &mut buffer).is_err()
+    defmt_encode::is_long(table, base_of(stamp), stm)
 }
 
 fn base_of(stamp: Option<(u64, u64)>) -> Option<u64>

@@ -107,6 +107,10 @@ fn messages_texts_and_values_have_limits(rt: HostRuntime) -> Result<(), Fail> {
         (dump, "00", 255, "", (0, 0, 0)),
         (dump, "00", 256, "", (2, 12, 0)),
         ("s e defmt_prim {", "|", 255, "", (1, 10, 0)),
+        ("s t defmt_info ", "t", 4096, "", (0, 0, 0)),
+        ("s t defmt_info ", "t", 4097, "", (1, 10, 0)),
+        ("s hi defmt_info\n", "w 0 hi\n", 4096, "", (0, 0, 0)),
+        ("s hi defmt_info\n", "w 0 hi\n", 4097, "", (4098, 11, 0)),
         (nested, "n(", 15, fifteen, (0, 0, 0)),
         (nested, "n(", 16, sixteen, (4, 4, 6)),
     ] {

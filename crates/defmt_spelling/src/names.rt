@@ -1,7 +1,8 @@
 //! Names of entries.
-ghost use Rattle.std.specs.Prelude.{◌≡◌, Option, OnOk, OnErr};
+ghost use Rattle.std.specs.Prelude.{◌≡◌, Some, true, Option, OnOk, OnErr};
 ghost use Rattle.std.specs.Option.{option_copied};
 ghost use Rattle.std.specs.FinMap as map;
+ghost use Rattle.std.specs.Str.{is_utf8};
 ghost use Rattle.defmt_spelling.specs.Names.{name_of};
 
 use dl_io::Memory;
@@ -13,19 +14,33 @@ use std::marker::Model;
 #[derive(Drop)]
 pub struct Names {
     alloc: Global,
-    names: BTreeMap<String, u16>,
+    // By their bytes, which the tree compares faster than texts as short as names.
+    names: BTreeMap<Vec<u8>, u16>,
 }
 
 impl Model for Names {
     ghost use Rattle.std.specs.FinMap as map;
     ghost use Rattle.std.specs.Coded.{coded_list, coded_ℕ};
-    ghost use Rattle.defmt_spelling.specs.Names.{NameMap, names_of};
+    ghost use Rattle.defmt_spelling.specs.Names.{AreTexts, NameMap, names_of};
 
     ghost Value = { NameMap };
 
     ghost coded = { map.code (coded_list coded_ℕ) coded_ℕ };
 
     ghost view = { λ n. names_of n.names.entries };
+
+    ghost invariant = { λ n. AreTexts n.names.entries };
+}
+
+// The text of these bytes.
+fn text_of(bytes: &[u8]) -> Option<&str>
+    requires { is_utf8 bytes.now ≡ true }
+    ensures { option_copied result ≡ Some bytes.now }
+{
+    match str::from_utf8(bytes) {
+        Ok(text) => Some(text),
+        Err(_) => None,
+    }
 }
 
 impl Names {
@@ -44,7 +59,7 @@ impl Names {
         ensures ok { OnOk result (self.new ≡ map.insert self.old name.now index) }
         ensures err { OnErr result (self.new ≡ self.old) }
     {
-        let key = String::from_str(self.alloc, name)?;
+        let key = Vec::from_slice(self.alloc, name.as_bytes())?;
         self.names.insert(key, index)?;
         Ok(())
     }
@@ -53,7 +68,7 @@ impl Names {
     pub fn get(&self, name: &str) -> Option<u16>
         ensures { result ≡ map.get self.now name.now }
     {
-        self.names.get(name).copied()
+        self.names.get(name.as_bytes()).copied()
     }
 
     /// The name of an index, and of several the least in the order of bytes. `None` exactly where no name has the
@@ -63,7 +78,7 @@ impl Names {
     {
         for (name, at) in self.names.iter() {
             if *at == index {
-                return Some(name.as_str());
+                return text_of(name.as_slice());
             }
         }
         None

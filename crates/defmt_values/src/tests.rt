@@ -35,7 +35,8 @@ fn one(alloc: Global, value: Value) -> Result<Args, Fail> {
 }
 
 fn two(alloc: Global, first: Value, second: Value) -> Result<Args, Fail> {
-    let mut args = one(alloc, first)?;
+    let mut args = Args::with_room(alloc, 2)?;
+    args.push(first)?;
     args.push(second)?;
     Ok(args)
 }

@@ -31,7 +31,7 @@ abbrev pub group_rule : Rule
 group_rule = record (new_rule (codes "group")) { long = Some (codes "group"); action = Some SetTrue }
 
 abbrev pub command_line : App
-command_line = with_rule (with_rule (with_rule (with_rule (new_app (codes "defmt")) command_rule) number_rule) table_rule) group_rule
+command_line = with_rule (with_rule (with_rule (with_rule (new_app (codes "defmtl")) command_rule) number_rule) table_rule) group_rule
 
 -- the kinds of error for which `clap` refuses the words (help and version too): none where it takes them
 unfoldable pub refusals : List Text → Kinds

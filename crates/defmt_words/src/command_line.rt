@@ -17,7 +17,7 @@ fn command_line<'a>(alloc: Global) -> Result<Command<'a>, AllocError>
     let group = Arg::new(alloc, "group")
         .long("group")
         .action(ArgAction::SetTrue);
-    let line = Command::new(alloc, "defmt").arg(command)?;
+    let line = Command::new(alloc, "defmtl").arg(command)?;
     let line = line.arg(number)?;
     let line = line.arg(table)?;
     let line = line.arg(group)?;

@@ -14,10 +14,17 @@ fn words_of(alloc: Global, text: &str) -> Result<Vec<String>, Fail> {
 #[test]
 fn words_ask_for_their_job(rt: HostRuntime) -> Result<(), Fail> {
     let cases = [
-        ("defmt --group run", Job::Run { group: true }),
-        ("defmt print", Job::Print),
-        ("defmt decode --table=t.elf", Job::Decode { table: "t.elf" }),
-        ("defmt gen 4096", Job::Generate { count: 4096 }),
+        ("defmtl --group run", Job::Run { group: true }),
+        ("defmtl print", Job::Print),
+        (
+            "defmtl decode --table=t.elf",
+            Job::Decode { table: "t.elf" },
+        ),
+        (
+            "defmtl decode --table t.elf",
+            Job::Decode { table: "t.elf" },
+        ),
+        ("defmtl gen 4096", Job::Generate { count: 4096 }),
     ];
     for (text, want) in cases {
         let words = words_of(rt.alloc(), text)?;
@@ -28,7 +35,18 @@ fn words_ask_for_their_job(rt: HostRuntime) -> Result<(), Fail> {
 
 #[test]
 fn other_words_ask_for_nothing(rt: HostRuntime) -> Result<(), Fail> {
-    for text in ["defmt frob", "defmt gen 0", "defmt decode", "defmt --help"] {
+    for text in [
+        "defmtl frob",
+        "defmtl gen 0",
+        "defmtl gen 4097",
+        "defmtl gen 007",
+        "defmtl gen",
+        "defmtl run 5",
+        "defmtl run --table t.elf",
+        "defmtl print --group",
+        "defmtl decode",
+        "defmtl --help",
+    ] {
         let words = words_of(rt.alloc(), text)?;
         assert_eq!(rt; job_of(rt.alloc(), &words)?, None, "{text}");
     }

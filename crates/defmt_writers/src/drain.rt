@@ -1,5 +1,5 @@
 // The reader.
-ghost use Rattle.std.specs.Prelude.{◌≡◌, ◌+◌, ◌≤◌, true, [], ◌++◌, length, take};
+ghost use Rattle.std.specs.Prelude.{◌≡◌, ◌+◌, ◌≤◌, true, [], ◌++◌, length, take, IfOk};
 
 use crate::gate::Gate;
 use defmt_logger::Naming;
@@ -53,12 +53,18 @@ fn capture<D: DownEnd>(down: &mut D, captured: &mut Bytes, buffer: &mut [u8]) ->
 
 impl<K: Naming, D: DownEnd> Drain<K, D> {
     // A reader that has taken nothing, with room for so many bytes.
-    pub fn new(alloc: Global, down: D, late: bool, room: usize) -> Result<Drain<K, D>, Memory>
+    pub(crate) fn new(
+        alloc: Global,
+        down: D,
+        late: bool,
+        room: usize,
+    ) -> Result<Drain<K, D>, Memory>
     where
         D: Drop,
         requires split { (D.view down).split ≡ K.split }
         requires got { (D.view down).got ≡ [] }
         requires late { late ≡ K.script.settings.late }
+        ensures room { IfOk result (λ drain. drain.captured.room ≡ room) }
     {
         let mut captured = Bytes::new(alloc);
         captured.reserve(room)?;
@@ -71,7 +77,7 @@ impl<K: Naming, D: DownEnd> Drain<K, D> {
     }
 
     // Takes bytes that are there, as far as there is room for them, and tells the gate. A late reader takes none.
-    pub fn take<G: Gate>(&mut self, gate: &G) -> usize
+    pub(crate) fn take<G: Gate>(&mut self, gate: &G) -> usize
         ensures { self.new.captured.room + result ≡ self.old.captured.room }
     {
         let Drain {
@@ -93,7 +99,7 @@ impl<K: Naming, D: DownEnd> Drain<K, D> {
     }
 
     // Takes until nothing is there, or there is no room.
-    pub fn take_all<G: Gate>(&mut self, gate: &G) {
+    pub(crate) fn take_all<G: Gate>(&mut self, gate: &G) {
         while self.take(gate) > 0 {}
     }
 }

@@ -179,24 +179,62 @@ fn nothing_is_dropped_beside_a_reader_that_takes_in_time(rt: HostRuntime) -> Res
     Ok(())
 }
 
-#[test]
-fn a_late_reader_takes_nothing(rt: HostRuntime) -> Result<(), Fail> {
-    let run = run_words(
-        &rt,
-        rt.alloc(),
-        b"ring 16\nmode trim\nreader late\ns hi defmt_info hello\nw 0 hi\nw 0 hi\nw 0 hi\nw 0 hi",
-        &OpenGate,
-    )?;
+// Runs five statements whose frames have four bytes over a ring of 16 with a late reader. The first three fit, and of the
+// others the tape has these fates.
+fn run_late<R: Threads + Wait + Abort + Sync>(
+    rt: &R,
+    alloc: Global,
+    text: &[u8],
+    fates: [Fate; 2],
+    rest: &[u8],
+) -> Result<(), Fail>
+    requires { length text.now < 2 ^ 32 }
+{
+    let run = run_words(rt, alloc, text, &OpenGate)?;
     let whole = Fate::Whole;
-    let cut = Fate::Cut { need: 4, room: 3 };
     assert_eq!(rt;
         run.tape.as_slice(),
-        [mark(0, whole), mark(1, whole), mark(2, whole), mark(3, cut)].as_slice()
+        [
+            mark(0, whole),
+            mark(1, whole),
+            mark(2, whole),
+            mark(3, fates[0]),
+            mark(4, fates[1])
+        ]
+        .as_slice()
     );
     assert_eq!(rt; run.captured.len(), 0);
-    assert_eq!(rt;
-        run.rest.as_slice(),
-        [0, 1, 0x7e, 0, 0, 1, 0x7e, 0, 0, 1, 0x7e, 0, 0, 1, 0x7e].as_slice()
-    );
+    assert_eq!(rt; run.rest.as_slice(), rest);
+    Ok(())
+}
+
+#[test]
+fn beside_a_late_reader_frames_are_dropped_or_cut(rt: HostRuntime) -> Result<(), Fail> {
+    let alloc = rt.alloc();
+    let dropped = Fate::Dropped { need: 4, room: 3 };
+    run_late(
+        &rt,
+        alloc,
+        b"ring 16\nmode skip\nreader late\ns hi defmt_info hello\nw 0 hi\nw 0 hi\nw 0 hi\nw 0 hi\nw 0 hi",
+        [dropped, dropped],
+        &[0, 1, 0x7e, 0, 0, 1, 0x7e, 0, 0, 1, 0x7e, 0],
+    )?;
+    run_late(
+        &rt,
+        alloc,
+        b"ring 16\nmode trim\nreader late\ns hi defmt_info hello\nw 0 hi\nw 0 hi\nw 0 hi\nw 0 hi\nw 0 hi",
+        [
+            Fate::Cut { need: 4, room: 3 },
+            Fate::Cut { need: 4, room: 0 },
+        ],
+        &[0, 1, 0x7e, 0, 0, 1, 0x7e, 0, 0, 1, 0x7e, 0, 0, 1, 0x7e],
+    )
+}
+
+#[test]
+fn a_script_without_lines_sends_nothing(rt: HostRuntime) -> Result<(), Fail> {
+    let run = run_words(&rt, rt.alloc(), b"", &OpenGate)?;
+    assert_eq!(rt; run.tape.len(), 0);
+    assert_eq!(rt; run.settled.sent_len(), 0);
     Ok(())
 }

@@ -14,7 +14,7 @@ use std::thread;
 use std::thread::{Scope, Threads};
 
 // Logs the statements that the pen has left, and asks the gate before each.
-pub fn write<
+pub(crate) fn write<
     B: Books,
     K: Naming,
     U: UpEnd,
@@ -81,7 +81,7 @@ fn start<
 }
 
 // Starts a thread for each writer that has statements, lends it its pen, and reads until all have ended.
-pub fn work<
+pub(crate) fn work<
     L0: Ledger + Send + Sync,
     L1: Ledger + Send + Sync,
     L2: Ledger + Send + Sync,

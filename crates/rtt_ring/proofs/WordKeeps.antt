@@ -1,5 +1,6 @@
 -- What the two ends keep, over plain data.
 use Rattle.std.proofs.Common.{◌≡◌, ◌⊎◌, ℕ, ◌+◌, ◌-◌, ◌%◌, ◌^◌, ◌<◌, ◌≤◌, min, List, [], ◌∷◌, ◌++◌, length, length-take-le, length-drop, get_or-take, get_or-drop, ◌*◌, ◌/◌, div-add-mod', take, drop, length-append, append-nil, sym, refl, ap, ◌∙◌, subst, ⊎_elim, mod-lt, add_assoc, arith}
+use Rattle.std.proofs.lemmas.List.{get_or_past}
 use Rattle.std.proofs.lemmas.Nat.{le_bytes_8}
 use Rattle.std.specs.Int.{from_le_bytes, to_le_bytes, w64}
 use Rattle.std.specs.Prelude.{slice_index}
@@ -146,6 +147,16 @@ module _ {S : Type 0} (z : TableId) (key : ℕ) (of of' : TableId) (m m' : Me S 
 pub lanes_long : (w : ℕ) → length (lanes w) ≡ 8
 unfolding lanes
 lanes_long w = refl
+
+-- a word of which each byte is written
+pub whole : (old new l : ℕ) (bs : List ℕ) → l + length bs ≤ 8 → length bs ≡ 8 → lanes new ≡ bs → Mixes old new l bs
+whole old new l bs inside eight is =
+    record {
+      inside = inside;
+      new_ones = λ t h. ap (λ (x : List ℕ). slice_index x (l + t)) is ∙ ap (λ (k : ℕ). slice_index bs k) (omega (arith, inside, eight));
+      before = λ j h. absurd (omega (arith, h, inside, eight));
+      after = λ j h. get_or_past (lanes new) j 0 (omega (arith, lanes_long new)) ∙ sym (get_or_past (lanes old) j 0 (omega (arith, lanes_long old)));
+    }
 
 -- how many bytes are taken of a word
 pub next_long : (d : DownView) (count w : ℕ) → length d.got % d.size % 8 + count ≤ 8 → length (next_bytes d count w) ≡ count

@@ -1,9 +1,10 @@
-pub mod Bits
-pub mod Padding
-pub mod OneReading
-pub mod Greedy
 pub mod Backwards
-pub mod Steps
-pub mod Gathering
 pub mod Behind
+pub mod Bits
+pub mod Gathering
+pub mod Greedy
+pub mod OneReading
+pub mod Padding
+pub mod Several
 pub mod Sizes
+pub mod Steps

@@ -94,6 +94,7 @@ impl<'a> Encoder<'a> {
             (message ++ byte ∷ []) }
         ensures length { length self.new.out.now ≡ length self.old.out.now }
         ensures stored { self.new.stored ≤ self.old.stored + 1 }
+        ensures count { self.new.count ≡ self.old.count + 1 }
         ensures behind { GoesOn self.old self.new }
     {
         if byte == 0 {
@@ -103,6 +104,54 @@ impl<'a> Encoder<'a> {
             self.stored += 1;
         }
         self.count += 1;
+    }
+
+    // Adds bytes that are no more than a block of the first form has, where none is gathered.
+    #[inline]
+    fn gather_all(&mut self, bytes: &[u8])
+        requires none { self.old.count ≡ 0 }
+        requires few { length bytes.now ≤ 7 }
+        requires room { (message : List ℕ) × Holds self.old message
+            × (bound_of (length message + length bytes.now) ≤ length self.old.out.now) }
+        ensures same_buffer { self.new.out.ghost_name ≡ self.old.out.ghost_name }
+        ensures more { (message : List ℕ) → Holds self.old message
+            → Gathers self.new.out.now self.new.stored self.new.count self.new.zeros
+            (message ++ bytes.now) }
+        ensures count { self.new.count ≡ length bytes.now }
+        ensures length { length self.new.out.now ≡ length self.old.out.now }
+        ensures behind { GoesOn self.old self.new }
+    {
+        for byte in bytes {
+            self.gather(*byte);
+        }
+    }
+
+    // Puts the next bytes, and answers how many: where none is gathered those of a block of the
+    // first form, or all where there are fewer, else one.
+    #[inline]
+    pub(crate) fn put_some(&mut self, bytes: &[u8]) -> usize
+        requires some { 0 < length bytes.now }
+        requires room { (message : List ℕ) × Holds self.old message
+            × (bound_of (length message + length bytes.now) ≤ length (buffer_of self.old)) }
+        ensures same_buffer { self.new.out.ghost_name ≡ self.old.out.ghost_name }
+        ensures some { 0 < result }
+        ensures within { result ≤ length bytes.now }
+        ensures more { (message : List ℕ) → Holds self.old message
+            → Holds self.new (message ++ take result bytes.now) }
+        ensures length { length (buffer_of self.new) ≡ length (buffer_of self.old) }
+        ensures behind { GoesOn self.old self.new }
+    {
+        if self.count > 0 {
+            self.put(bytes[0]);
+            return 1;
+        }
+        if bytes.len() < 7 {
+            self.gather_all(bytes);
+            return bytes.len();
+        }
+        self.gather_all(&bytes[..7]);
+        self.close();
+        7
     }
 
     // Closes a block of the first or the third form, where the gathered bytes are one.

@@ -29,7 +29,8 @@ fn put_all(encoder: &mut Encoder, message: &[u8])
     ensures length { length (buffer_of encoder.new) ≡ length (buffer_of encoder.old) }
     ensures behind { GoesOn encoder.old encoder.new }
 {
-    for byte in message {
-        encoder.put(*byte);
+    let mut at = 0usize;
+    'some: while at < message.len() {
+        at += encoder.put_some(&message[at..]);
     }
 }

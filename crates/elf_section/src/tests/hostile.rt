@@ -91,6 +91,9 @@ fn a_changed_header_gives_its_refusal(rt: HostRuntime) -> Result<(), Fail> {
         (true, Some(5), 9, b"\x08", 6, Part::Nothing, 0),
         (false, Some(6), 9, b"\x08", 6, Part::Nothing, 0),
         (true, Some(6), 9, b"\x08", 6, Part::Nothing, 0),
+        // The strings lie over the symbol table, where no name is a marker.
+        (false, Some(6), 16, b"\x1f\x01\0\0", 7, Part::Nothing, 0),
+        (true, Some(6), 24, b"\x2b\x01\0\0", 7, Part::Nothing, 0),
         // The strings end in front of the last name's zero, or are empty; the sections' names are empty.
         (false, Some(6), 20, b"\xba", 4, Part::SymbolName, 8),
         (false, Some(6), 20, NONE, 4, Part::SymbolName, 1),
@@ -103,13 +106,13 @@ fn a_changed_header_gives_its_refusal(rt: HostRuntime) -> Result<(), Fail> {
     Ok(())
 }
 
-/// A file of 60,000 symbols more, whose names begin like quoted markers and all end at the end of
+/// A file of 65,536 symbols more, whose names begin like quoted markers and all end at the end of
 /// one text of 4 MB.
 fn crowded(alloc: Global) -> Result<Vec<u8>, Fail> {
     const FRONT: &[u8] = b"\"_defmt_version_ = ";
     let rows = marked(b"_defmt_version_ = 4", b"_defmt_encoding_ = rzcobs");
     let (mut table, mut strings) = tables(alloc, false, &rows)?;
-    for _ in 0..60000 {
+    for _ in 0..65536 {
         for (len, number) in [(4, strings.len() as u64), (8, 0), (2, 0), (2, 3)] {
             put(&mut table, len, number)?;
         }

@@ -10,6 +10,10 @@ pub(crate) fn with_lanes(old: u64, lane: usize, bytes: &[u8]) -> u64
     ensures { Mixes old result lane bytes.now }
 {
     let mut lanes = old.to_le_bytes();
+    if bytes.len() == 8 {
+        lanes.copy_from_slice(bytes);
+        return u64::from_le_bytes(lanes);
+    }
     for i in 0..bytes.len() {
         lanes[lane + i] = bytes[i];
     }
@@ -22,6 +26,10 @@ pub(crate) fn copy_lanes(word: u64, lane: usize, buf: &mut [u8], from: usize, co
     ensures { take (from + count) buf.new ≡ take from buf.old ++ take count (drop lane (lanes word)) }
 {
     let found = word.to_le_bytes();
+    if count == 8 {
+        buf[from..from + 8].copy_from_slice(&found);
+        return;
+    }
     for i in 0..count {
         buf[from + i] = found[lane + i];
     }

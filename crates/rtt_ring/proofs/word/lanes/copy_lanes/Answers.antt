@@ -1,4 +1,6 @@
-use Rattle.std.proofs.Common.{◌≡◌, ℕ, suc, List, [], ◌∷◌, ◌+◌, ◌<◌, ◌++◌, length, get_or, set, take, drop, arith, sym, ap, ◌∙◌, append_assoc, take-suc, take-suc-set, get_or-drop, length-drop, add-one}
+use Rattle.std.proofs.Common.{◌≡◌, ℕ, suc, List, [], ◌∷◌, ◌+◌, ◌<◌, ◌++◌, length, get_or, set, take, drop, arith, sym, ap, ◌∙◌, append_assoc, take-suc, take-suc-set, get_or-drop, length-drop, add-one, take_all}
+use Rattle.std.proofs.lemmas.Slice.{take-put_mid}
+use Rattle.rtt_ring.specs.WordRule.{lanes}
 use Rattle.rtt_ring.proofs.WordKeeps.{lanes_to, lanes_long}
 use Rattle.rtt_ring.proofs.word.lanes.copy_lanes.Goals as goal
 
@@ -23,3 +25,15 @@ returns c =
     let i : c.loop-i.i ≡ c.args.count = omega arith in
     ap (λ (n : ℕ). take (c.args.from + n) c.loop-i.buf) (sym i) ∙ c.loop-i.invariant ∙ ap (λ (n : ℕ). take c.args.from c.args.buf.now ++ take n (drop c.args.lane c.to_le_bytes-found.result)) i
     ∙ ap (λ (l : List ℕ). take c.args.from c.args.buf.now ++ take c.args.count (drop c.args.lane l)) (sym (lanes_to _ _ c.to_le_bytes-found.ensures))
+
+-- a whole word
+pub returns-then-count-eq8 : goal.returns-then-count-eq8
+returns-then-count-eq8 c =
+    let r = c.requires in
+    let zero : c.args.lane ≡ 0 = omega arith in
+    let is : c.copy_from_slice.new.self ≡ c.to_le_bytes-found.result = c.copy_from_slice.ensures.after in
+    let found : lanes c.args.word ≡ c.to_le_bytes-found.result = lanes_to _ _ c.to_le_bytes-found.ensures in
+    let eight : length c.copy_from_slice.new.self ≡ 8 = ap length (is ∙ sym found) ∙ lanes_long c.args.word in
+    let all : take c.args.count (drop c.args.lane (lanes c.args.word)) ≡ lanes c.args.word = ap (λ (l : ℕ). take c.args.count (drop l (lanes c.args.word))) zero ∙ take_all c.args.count (lanes c.args.word) (omega (arith, lanes_long c.args.word)) in
+    take-put_mid c.args.from _ c.args.buf.now c.copy_from_slice.new.self (c.args.from + c.args.count) (omega arith) (omega arith)
+    ∙ ap (λ (l : List ℕ). take c.args.from c.args.buf.now ++ l) (is ∙ sym found ∙ sym all)
