@@ -1,24 +1,34 @@
 #!/bin/sh
-# Counts the instructions that single parts of the way of a statement cost, in the product's own `record` and `decode`.
+# Counts the instructions that the parts of a statement's way cost, in the product's own `record` and `decode`, and holds two sums of them
+# against what is due.
 #
 #   bench/parts.sh        at the repository's top, once ./defmtl has built the program; needs valgrind
 #
 # Each row is one function with all that it calls: what its calls cost together, divided by their number, over the script of `gen 4096`.
-# `message` and `frame` are the whole way from a statement to its frame; `decode_piece` and `Heard::hear` the whole way from a piece to a
-# statement.
+# The compiler puts a function that is called in one place into its caller, and then it has no count of its own. So the two sums are taken of
+# the first of these that are there:
+#   from a statement to its frame     `write_frame` of the logger; or `message` and `frame`
+#   from a piece to its statement     `tell_piece`, which prints the line too, less `line`; or `decode_piece` and `hear`
 
 . "$(dirname "$0")/common.sh"
 need valgrind
 
-# calls FILE NAME: what the calls of a function cost on the average, in a file of callgrind
+# profile FILE WORD..: counts these words on the standard input into a file of callgrind
+profile() {
+    file=$1
+    shift
+    valgrind --tool=callgrind --callgrind-out-file="$file" "$program" "$@" > "$work/out" 2> "$work/log" || { echo "$* ended with a fault" >&2; exit 1; }
+}
+
+# calls FILE NAME: how often a function was called, and what a call cost on the average; nothing where it has no count
 calls() {
     awk -v name="$2" '
-        # cfn=(12) a::name, or cfn=(12) for a name that was given before
+        # cfn=(12) a::name, or cfn=(12) for a name that was given before; a generic function has a mark of its types behind its name
         function known(text) {
             number = text
             sub(/^[^(]*\(/, "", number)
             sub(/\).*/, "", number)
-            if (text ~ /\) ./) { sub(/^[^)]*\) /, "", text); names[number] = text }
+            if (text ~ /\) ./) { sub(/^[^)]*\) /, "", text); sub(/::<.*/, "", text); names[number] = text }
             return names[number]
         }
         /^fn=/ { known($0) }
@@ -28,15 +38,20 @@ calls() {
             getline
             if (called == name) { count += part[2]; cost += $NF }
         }
-        END { if (count) printf "%-44s %10d %10d\n", name, count, cost / count; else printf "%-44s %10s\n", name, "inlined" }
+        END { if (count) printf "%d %d\n", count, cost / count }
     ' "$1"
 }
 
-# profile FILE WORD..: counts these words on the standard input into a file of callgrind
-profile() {
-    file=$1
-    shift
-    valgrind --tool=callgrind --callgrind-out-file="$file" "$program" "$@" > "$work/out" 2> "$work/log" || { echo "$* ended with a fault" >&2; exit 1; }
+# row FILE NAME: prints these of a function, and leaves the cost of a call in `cost`
+row() {
+    counts=$(calls "$1" "$2")
+    cost=${counts#* }
+    printf '%-44s %10s %10s\n' "$2" "${counts% *}" "${cost:-inlined}"
+}
+
+# due NAME VALUE MOST: judges a sum, where there is one
+due() {
+    if [ -n "$2" ]; then judge "$@"; else echo "$1: not counted"; worst=1; fi
 }
 
 generated 4096 > "$work/script"
@@ -45,7 +60,18 @@ profile "$work/recorded" record < "$work/script"
 profile "$work/decoded" decode --table "$work/table.elf" < "$work/stream"
 
 printf '%-44s %10s %10s\n' function calls "a call"
-calls "$work/recorded" defmt_encode::writing::message
-calls "$work/recorded" defmt_encode::framing::frame
-calls "$work/decoded" defmt_framing::decoded::decode_piece
-calls "$work/decoded" defmt_encode::heard::Heard::hear
+row "$work/recorded" defmt_encode::writing::message; message=$cost
+row "$work/recorded" defmt_encode::framing::frame; frame=$cost
+row "$work/recorded" defmt_logger::framing::write_frame; encoding=$cost
+row "$work/decoded" defmt_framing::decoded::decode_piece; decode=$cost
+row "$work/decoded" defmt_encode::heard::Heard::hear; hear=$cost
+row "$work/decoded" defmt_framing::framer::tell_piece; piece=$cost
+row "$work/decoded" defmt_eager::printed::line; line=$cost
+
+[ -n "$encoding" ] || [ -z "$message" ] || [ -z "$frame" ] || encoding=$((message + frame))
+decoding=
+[ -z "$decode" ] || [ -z "$hear" ] || decoding=$((decode + hear))
+[ -z "$piece" ] || [ -z "$line" ] || decoding=$((piece - line))
+due "instructions from a statement to its frame" "$encoding" 600
+due "instructions from a piece to its statement" "$decoding" 1200
+exit "$worst"

@@ -1,5 +1,5 @@
 #!/bin/sh
-# Counts the instructions that a statement costs in `record`, `print`, `run` and `decode`.
+# Counts the instructions that a statement costs in `record`, `print`, `run` and `decode`, and holds them against what is due.
 #
 #   bench/statements.sh        at the repository's top, once ./defmtl has built the program; needs valgrind
 #
@@ -21,5 +21,15 @@ for command in record print run "decode --table $work/table.elf"; do
     input=$work/script
     [ "${command%% *}" = decode ] && input=$work/stream
     small=$(counted $command < "$input.1024") && large=$(counted $command < "$input.4096") || exit 1
-    awk -v name="${command%% *}" -v small="$small" -v large="$large" 'BEGIN { printf "%-8s %14d %14d %14d\n", name, small, large, (large - small) / 3072 }'
+    each=$(((large - small) / 3072))
+    printf '%-8s %14d %14d %14d\n' "${command%% *}" "$small" "$large" "$each"
+    case $command in
+        record) record=$each ;;
+        print) print=$each ;;
+        decode*) decode=$each ;;
+    esac
 done
+judge "instructions of record a statement" "$record" 4000
+judge "instructions of print a statement" "$print" 4000
+judge "instructions of decode a frame" "$decode" 2500
+exit "$worst"

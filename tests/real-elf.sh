@@ -2,8 +2,8 @@
 # Compares the table that defmtl reads from really linked ELF files with what readelf lists.
 #
 # Run at the top of the repository after 'rt ci'. DEFMTL names the program (./defmtl where unset).
-# It needs gcc, GNU ld and readelf; clang, ld.lld and arm-none-eabi's tools are used where they are
-# installed. The last line is 'N passed, M failed'.
+# It needs gcc, GNU ld and readelf; clang, ld.lld, ld.gold and arm-none-eabi's tools are used where they
+# are installed. The last line is 'N passed, M failed'.
 set -u
 program=${DEFMTL:-./defmtl}
 work=$(mktemp -d)
@@ -43,11 +43,18 @@ c_text() {
   printf 'char outside __asm__("{\\"not\\":\\"in .defmt\\"}") = 1;\nvoid _start(void) {}\n'
 }
 
-# The linker script: the levels one after the other from address 1 on, with marks between them, and
-# the two markers, here or outside of .defmt. Some linkers put .defmt at 0 even so.
+# The two markers in the object, as local symbols whose names stand in double quotes.
+marked_text() {
+  assembly_text
+  printf '.local "\\"%s\\""\n.set "\\"%s\\"", 1\n' '_defmt_version_ = 4' '_defmt_version_ = 4' '_defmt_encoding_ = rzcobs' '_defmt_encoding_ = rzcobs'
+}
+
+# The linker script: .defmt has this type, and in it are the levels one after the other from address 1
+# on, with marks between them. The two markers are made here inside or outside of .defmt, or not at
+# all. Some linkers put .defmt at 0 even so.
 script_text() {
   printf 'SECTIONS {\n .text : { *(.text .text.*) }\n .data : { *(.data .data.*) }\n'
-  printf ' .defmt 1 (INFO) : {\n . = 1;\n *(.defmt.prim.*)\n __DEFMT_MARKER_TRACE_START = .;\n *(.defmt.trace.*)\n'
+  printf ' .defmt 1 %s : {\n . = 1;\n *(.defmt.prim.*)\n __DEFMT_MARKER_TRACE_START = .;\n *(.defmt.trace.*)\n' "$type"
   printf ' __DEFMT_MARKER_TRACE_END = .;\n *(.defmt.info.*)\n *(.defmt.warn.*)\n *(.defmt.error.*)\n *(.defmt.println.*)\n'
   [ "$1" = inside ] && printf ' %s = 1;\n' "$markers"
   printf ' }\n'
@@ -55,12 +62,13 @@ script_text() {
   printf '}\n'
 }
 markers='"_defmt_version_ = 4" = 1; "_defmt_encoding_ = rzcobs"'
+type='(INFO)' places='inside outside'
 
-# listed FILE: what readelf lists in .defmt, as lines 'VALUE NAME' in the order of the values
+# listed FILE: what readelf lists of .symtab in .defmt, as lines 'VALUE NAME' in the order of the values
 listed() {
   local number
   number=$(readelf -SW "$1" | sed -n 's/^ *\[ *\([0-9]*\)\] \.defmt .*/\1/p')
-  readelf -sW "$1" | awk -v n="$number" '$7 == n && $8 ~ /^\{/ { name = $8; for (i = 9; i <= NF; i++) name = name " " $i; print $2, name }' |
+  readelf -sW "$1" | awk -v n="$number" '/^Symbol table/ { whole = /\.symtab/ } whole && $7 == n && $8 ~ /^\{/ { name = $8; for (i = 9; i <= NF; i++) name = name " " $i; print $2, name }' |
     while read -r value name; do echo "$((16#$value)) $name"; done | sort -n
 }
 
@@ -115,13 +123,13 @@ refused() {
   if [ $status -eq 6 ] && [ ! -s "$work/got" ]; then pass "$1: $(cat "$work/said")"; else fail "$1: status $status"; fi
 }
 
-# linked NAME LINKER..: links the object and compares, with the markers inside and outside of .defmt
+# linked NAME LINKER..: links the object and compares, with the markers in each of the places
 linked() {
   local name=$1 place
   shift
-  for place in inside outside; do
+  for place in $places; do
     script_text $place > "$work/$place.x"
-    if "$@" -T "$work/$place.x" "$work/object.o" -o "$work/$place.elf" 2> "$work/errors"; then
+    if "$@" -T "$work/$place.x" "$work/${object:-object}.o" -o "$work/$place.elf" 2> "$work/errors"; then
       if $knows; then compare "$name, markers $place" "$work/$place.elf"; else pass "$name, markers $place: linked"; fi
     else
       fail "$name, markers $place: not linked"; cat "$work/errors"
@@ -133,12 +141,18 @@ linked() {
 if [ $? -eq 6 ]; then knows=true; else knows=false; echo "skipped: $program doesn't know 'decode --table', so files are only linked"; fi
 
 assembly_text > "$work/source.s"
+marked_text > "$work/marked.s"
 c_text > "$work/source.c"
 if has gcc 'an assembler' && has ld 'GNU ld' && has readelf 'readelf'; then
   for form in 64:elf_x86_64 32:elf_i386; do
     gcc -c -m"${form%:*}" "$work/source.s" -o "$work/object.o" || { fail "gcc -m${form%:*}"; continue; }
     linked "GNU ld, ELF${form%:*}" ld -m "${form#*:}"
+    type='(NOLOAD)' places=inside linked "GNU ld, .defmt without bits, ELF${form%:*}" ld -m "${form#*:}"
+    type='' places=inside linked "GNU ld, .defmt without a type, ELF${form%:*}" ld -m "${form#*:}"
+    places=inside linked "GNU ld, shared with .dynsym in front, ELF${form%:*}" ld -m "${form#*:}" -shared
+    has ld.gold "gold, ELF${form%:*}" && type='' linked "gold, ELF${form%:*}" ld.gold -m "${form#*:}"
     has ld.lld "LLD, ELF${form%:*}" && linked "LLD, ELF${form%:*}" ld.lld -m "${form#*:}" -e _start
+    gcc -c -m"${form%:*}" "$work/marked.s" -o "$work/marked.o" && places=none object=marked linked "GNU ld, markers in the object, local and in quotes, ELF${form%:*}" ld -m "${form#*:}"
     if has clang "clang, ELF${form%:*}"; then
       clang -c -fno-pic -fno-asynchronous-unwind-tables -m"${form%:*}" "$work/source.c" -o "$work/object.o" && linked "clang and GNU ld, ELF${form%:*}" ld -m "${form#*:}"
     fi

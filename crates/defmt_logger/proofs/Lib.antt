@@ -3,3 +3,5 @@ mod Counted
 pub mod Frames
 mod Next
 pub mod Room
+mod SiteLaws
+mod Stamps

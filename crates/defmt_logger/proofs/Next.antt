@@ -6,6 +6,7 @@ use Rattle.defmt_logger.proofs.Room.{tape_fits, writer_below}
 use Rattle.defmt_logger.specs.Kept.{Counts, IsClockOf, IsKept, IsWorking, Reel, SendsIn, Sheet, next_mark}
 use Rattle.defmt_logger.specs.Tape.{count, first_stamp, frame_at, marks_of, stamp_number}
 use Rattle.defmt_logger.specs.declared.mark.Mark.{Mark}
+use Rattle.defmt_logger.specs.declared.sites.Sites.{Sites}
 use Rattle.defmt_script.specs.Lawful.{IsLawful as HoldsOfScripts}
 use Rattle.defmt_script.specs.Script.{Script, count_all}
 use Rattle.rtt_modes.specs.declared.fate.Fate.{Fate}
@@ -63,8 +64,8 @@ next_by d places w place stamp fate now v k counts more here place_is stamp_is m
       counts = counts_append places (slice_index_or places w 0 + 1) tape now.marks m counts is (ap (λ (n : ℕ). n + 1) here);
     }
 
-pub next_is : (d : Sheet) (places : List ℕ) (base step : ℕ) (ready : ℕ → Type 0) (gives : ℕ → ℕ → Type 0) (message frame : List ℕ) (w t stamp : ℕ) (fate : Fate) (now : Reel) (v : Up)
-    → IsWorking d places base step ready gives message frame
+pub next_is : (d : Sheet) (sites : Sites) (places : List ℕ) (base step : ℕ) (ready : ℕ → Type 0) (gives : ℕ → ℕ → Type 0) (message frame : List ℕ) (w t stamp : ℕ) (fate : Fate) (now : Reel) (v : Up)
+    → IsWorking d sites places base step ready gives message frame
     → HoldsOfScripts d.script
     → marks_of w d.tape.marks < count d.script w
     → t ≡ length d.tape.marks
@@ -73,7 +74,7 @@ pub next_is : (d : Sheet) (places : List ℕ) (base step : ℕ) (ready : ℕ →
     → now.room + 1 ≡ d.tape.room
     → SendsIn d.script.settings.mode d.up v (frame_at d.script w (slice_index_or places w 0) stamp) fate
     → Next d places w fate now v
-next_is d places base step ready gives message frame w t stamp fate now v k h more t_is given marks room sends =
+next_is d sites places base step ready gives message frame w t stamp fate now v k h more t_is given marks room sends =
     let here : slice_index_or places w 0 ≡ marks_of w d.tape.marks = k.counts.1 w (writer_is d.script d.tape.marks w h more) in
     let few : t ≤ 4096 = omega (arith, t_is, k.kept.room) in
     let now_is : stamp ≡ stamp_number d.script (length d.tape.marks) = stamp_is d.script base step ready gives t stamp k.clock few given ∙ ap (stamp_number d.script) t_is in

@@ -3,8 +3,10 @@ use Rattle.std.specs.Prelude.{◌≡◌, ℕ, ◌+◌, ◌<◌, ◌≤◌, true,
 use Rattle.defmt_hooks.specs.Even.{RunsEvenly}
 use Rattle.defmt_lines.specs.declared.settings.RingMode.{RingMode}
 use Rattle.defmt_lines.specs.declared.settings.RingMode.TheVariants.{Block, Skip, Trim}
+use Rattle.defmt_logger.specs.Sites.{HasSites}
 use Rattle.defmt_logger.specs.Tape.{IsLawful, Released, first_stamp, marks_of, stamp_number, stamp_step, stream_of}
 use Rattle.defmt_logger.specs.declared.mark.Mark.{Mark}
+use Rattle.defmt_logger.specs.declared.sites.Sites.{Sites}
 use Rattle.defmt_script.specs.Lawful.{statements_limit}
 use Rattle.defmt_script.specs.Script.{Script}
 use Rattle.rtt_modes.specs.Fates.{ByLook, SkippedBy, TrimmedBy}
@@ -85,10 +87,11 @@ Counts xs tape = (length xs ≡ 8) × ((w : ℕ) → w < 8 → slice_index_or xs
 abbrev pub next_mark : Script → List Mark → ℕ → Fate → Mark
 next_mark s tape w fate = record { writer = w; place = marks_of w tape; stamp = stamp_number s (length tape); fate = fate }
 
--- what a desk keeps of its parts: the sheet, the writers' next places, the clock's meanings, and the buffers for a
--- message and a frame
-pub record IsWorking (d : Sheet) (places : List ℕ) (base step : ℕ) (ready : ℕ → Type 0) (gives : ℕ → ℕ → Type 0) (message frame : List ℕ) : Type 0 where
+-- what a desk keeps of its parts: the sheet, the sites of the script, the writers' next places, the clock's meanings, and
+-- the buffers for a message and a frame
+pub record IsWorking (d : Sheet) (sites : Sites) (places : List ℕ) (base step : ℕ) (ready : ℕ → Type 0) (gives : ℕ → ℕ → Type 0) (message frame : List ℕ) : Type 0 where
   pub kept : IsKept d
+  pub sites_are : HasSites d.script sites
   pub counts : Counts places d.tape.marks
   pub clock : IsClockOf d.script.settings.stamp base step ready gives
   pub message_size : length message ≡ 2000

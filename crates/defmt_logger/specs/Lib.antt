@@ -1,3 +1,4 @@
 pub mod Tape
+pub mod Sites
 pub mod Kept
 pub mod Codes

@@ -1,11 +1,13 @@
 // The desk.
 ghost use Rattle.std.specs.Prelude.{◌≡◌, ◌^◌, ◌<◌, [], ◌∷◌, ◌++◌, IfOk, length};
 ghost use Rattle.defmt_logger.specs.Kept.{IsClockOf, IsKept, SendsIn, TellsIn, next_mark};
+ghost use Rattle.defmt_logger.specs.Sites.{HasSites};
 ghost use Rattle.defmt_logger.specs.Tape.{count, frame_at, marks_of, stamp_number};
 ghost use Rattle.rtt_ring.specs.Views.{new_up};
 
 use crate::framing::write_frame;
 use crate::mark::Mark;
+use crate::sites::Sites;
 use crate::tape::Tape;
 use defmt_hooks::Clock;
 use defmt_script::{RingMode, Script};
@@ -23,12 +25,14 @@ const FRAME_SIZE: usize = 2288;
 
 const STATEMENTS: usize = 4096;
 
-/// A script, the tape of those of its statements that were logged, and the end of a ring that their frames go to.
+/// A script, the sites of its strings, the tape of those of its statements that were logged, and the end of a ring that
+/// their frames go to.
 ///
 /// Between two calls the tape is lawful, what was sent is its stream, and nothing is staged.
 #[derive(Drop)]
 pub struct Desk<U: UpEnd, C: Clock> {
     script: Script,
+    sites: Sites,
     tape: Tape,
     places: [u32; 8],
     stamp: C,
@@ -47,7 +51,7 @@ impl<U: UpEnd, C: Clock> Model for Desk<U, C> {
 
     ghost view = { λ d. record { script = d.script; tape = d.tape; up = U.view d.up } };
 
-    ghost invariant = { λ d. IsWorking (record { script = d.script; tape = d.tape; up = U.view d.up }) d.places (C.base d.stamp) (C.step d.stamp) (C.ready d.stamp) (C.gives d.stamp) d.message.items d.frame.items };
+    ghost invariant = { λ d. IsWorking (record { script = d.script; tape = d.tape; up = U.view d.up }) d.sites d.places (C.base d.stamp) (C.step d.stamp) (C.ready d.stamp) (C.gives d.stamp) d.message.items d.frame.items };
 }
 
 // Sends a frame in a mode. It waits in blocking mode alone.
@@ -79,6 +83,7 @@ fn send_statement<U: UpEnd, R: Relief, W: Wait>(
     rt: &W,
     up: &mut U,
     script: &Script,
+    sites: &Sites,
     writer: u8,
     place: u32,
     stamp: u64,
@@ -87,19 +92,20 @@ fn send_statement<U: UpEnd, R: Relief, W: Wait>(
     relief: &mut R,
 ) -> Fate
     requires staged { (U.view up.old).staged ≡ [] }
+    requires sites { HasSites script.now sites.now }
     requires place { place < count script.now writer }
     requires buffers { (length message.old ≡ 2000) × (length frame.old ≡ 2288) }
     requires relief { R.kept relief.old }
     ensures sent { SendsIn script.now.settings.mode (U.view up.old) (U.view up.new) (frame_at script.now writer place stamp) result }
     ensures relief { R.kept relief.new }
 {
-    let size = write_frame(script, writer, place, stamp, message, frame);
+    let size = write_frame(script, sites, writer, place, stamp, message, frame);
     send(rt, up, script.mode(), &frame[..size], relief)
 }
 
 impl<U: UpEnd, C: Clock> Desk<U, C> {
-    /// Logs the next statement of a writer that has one left: its frame goes to the ring in the script's mode, and a mark
-    /// on the tape. Waits in blocking mode alone, for the reader. Takes no memory.
+    /// Logs the next statement of a writer that has one left, by the macro of its string's tag: its frame goes to the ring
+    /// in the script's mode, and a mark on the tape. Waits in blocking mode alone, for the reader. Takes no memory.
     pub fn append<R: Relief, W: Wait>(&mut self, rt: &W, writer: u8, relief: &mut R) -> Fate
         requires place { marks_of writer self.old.tape.marks < count self.old.script writer }
         requires relief { R.kept relief.old }
@@ -118,6 +124,7 @@ impl<U: UpEnd, C: Clock> Desk<U, C> {
             rt,
             &mut self.up,
             &self.script,
+            &self.sites,
             writer,
             place,
             stamp,
@@ -152,12 +159,14 @@ impl<U: UpEnd + Drop, C: Clock + Drop> Desk<U, C> {
         ensures up { IfOk result (λ desk. desk.up ≡ U.view up) }
         ensures kept { IfOk result (λ desk. IsKept desk) }
     {
+        let sites = Sites::of(alloc, &script)?;
         let mut tape = Tape::new(alloc);
         tape.reserve(STATEMENTS)?;
         let message = vec![in alloc; 0u8; MESSAGE_SIZE]?;
         let frame = vec![in alloc; 0u8; FRAME_SIZE]?;
         Ok(Desk {
             script,
+            sites,
             tape,
             places: [0; 8],
             stamp,
@@ -176,6 +185,7 @@ impl<U: UpEnd + Drop, C: Clock + Drop> Desk<U, C> {
     {
         let Desk {
             script,
+            sites: _,
             tape,
             places: _,
             stamp: _,

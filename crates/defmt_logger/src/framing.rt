@@ -1,32 +1,34 @@
 // The frames of statements.
 ghost use Rattle.std.specs.Prelude.{◌≡◌, ◌<◌, ◌≤◌, length, take};
 ghost use Rattle.defmt_encode.specs.Carry.{frame_of, message_of, stamp_args};
+ghost use Rattle.defmt_logger.specs.Sites.{HasSites, Writes};
 ghost use Rattle.defmt_logger.specs.Tape.{count, frame_at, stamp_in};
 
-use defmt_encode::{frame, message};
+use crate::sites::Sites;
+use defmt_encode::frame;
 use defmt_intern::Table;
+use defmt_macros::{Site, log};
 use defmt_script::Script;
-use defmt_values::Statement;
+use defmt_values::Args;
 
-// Writes the frame of a statement's message to the front of a buffer, and answers how many bytes it has. The other buffer
-// is for the message.
-fn write_statement(
+// Logs values by the macro of their site's tag, writes the frame of the message to the front of a buffer, and answers how
+// many bytes it has. The other buffer is for the message.
+fn write_values(
     table: &Table,
+    site: &Site,
     stamp: Option<u64>,
-    statement: &Statement,
+    args: &Args,
     message_out: &mut [u8],
     frame_out: &mut [u8],
 ) -> usize
     requires buffers { (length message_out.old ≡ 2000) × (length frame_out.old ≡ 2288) }
-    requires short { length (message_of table.now (stamp_args stamp) statement.now.index statement.now.args) ≤ 2000 }
-    ensures frame { take result frame_out.new ≡ frame_of (message_of table.now (stamp_args stamp) statement.now.index statement.now.args) }
+    requires writes { Writes table.now site.now stamp args.now }
+    ensures frame { take result frame_out.new ≡ frame_of (message_of table.now (stamp_args stamp) site.now.index args.now) }
     ensures some { 0 < result }
     ensures size { result ≤ 2288 }
 {
-    match message(table, stamp, statement, message_out) {
-        Ok(count) => frame(&message_out[..count], frame_out),
-        Err(_) => unreachable!(),
-    }
+    let count = log(message_out, table, site, stamp, args);
+    frame(&message_out[..count], frame_out)
 }
 
 // The stamp that a message carries: none where the script has no stamps.
@@ -42,12 +44,14 @@ fn carried_stamp(script: &Script, stamp: u64) -> Option<u64>
 // The same of a writer's statement, which carries the stamp where the script has stamps.
 pub fn write_frame(
     script: &Script,
+    sites: &Sites,
     writer: u8,
     place: u32,
     stamp: u64,
     message_out: &mut [u8],
     frame_out: &mut [u8],
 ) -> usize
+    requires sites { HasSites script.now sites.now }
     requires place { place < count script.now writer }
     requires buffers { (length message_out.old ≡ 2000) × (length frame_out.old ≡ 2288) }
     ensures frame { take result frame_out.new ≡ frame_at script.now writer place stamp }
@@ -55,11 +59,19 @@ pub fn write_frame(
     ensures size { result ≤ 2288 }
 {
     script.lawful();
+    let Some(statement) = script.statement(writer, place) else {
+        unreachable!()
+    };
+    let Some(site) = sites.get(statement.index) else {
+        unreachable!()
+    };
     let carried = carried_stamp(script, stamp);
-    match script.statement(writer, place) {
-        Some(statement) => {
-            write_statement(script.table(), carried, statement, message_out, frame_out)
-        }
-        None => unreachable!(),
-    }
+    write_values(
+        script.table(),
+        site,
+        carried,
+        &statement.args,
+        message_out,
+        frame_out,
+    )
 }

@@ -15,6 +15,7 @@ mod locked;
 mod logger;
 mod mark;
 mod pen;
+mod sites;
 mod tape;
 
 pub use books::{Books, Eight, Seat, W0, W1, W2, W3, W4, W5, W6, W7, Writer};

@@ -18,8 +18,7 @@ use Rattle.defmt_logger.proofs.Room.{writer_below}
 use Rattle.defmt_logger.specs.Tape.{IsLawful as IsLawfulTape, first_stamp, frame_at, frame_with, line_by, line_with, lines_of, mark_frame, mark_line, stamp_in, stamp_step, statements_of, stream_of}
 use Rattle.defmt_logger.specs.declared.mark.Mark.{Mark}
 use Rattle.defmt_run.proofs.Marks.{AreGood, IsGood, IsKept, are_good, sound_at, there}
-use Rattle.defmt_run.proofs.Stamped.{Fit, carries, message_short, prints}
-use Rattle.defmt_run.specs.Printed.{Prints}
+use Rattle.defmt_run.proofs.Stamped.{Fit}
 use Rattle.defmt_run.specs.Told.{AreLines, LinesIn}
 use Rattle.defmt_script.specs.Lawful.{IsLawful, IsSound}
 use Rattle.defmt_script.specs.Script.{Script}
@@ -96,16 +95,15 @@ is_sent s known short m good =
     let stm = statement_at s m good in
     let found = (there (statements_of s m.writer) m.place good.placed).1 in
     let sound : IsSound s.table s.settings.stamp stm = sound_at s m.writer m.place stm known.lawful found in
-    let prints_it : Prints s.table (stamp_in s.settings.stamp m.stamp) stm = prints known.fit s known.lawful m.stamp good.small stm sound in
     let below : m.writer < 8 = omega (arith, writer_below s.writers m.writer m.place good.placed, known.lawful.eight) in
     record {
-      stamp_fits = carries known.fit s known.lawful m.stamp good.small;
+      stamp_fits = known.fit.message s m.stamp known.lawful good.small;
       fits = sound.fits;
       logged = sound.logged;
       stamp_sound = stamp_sound (stamp_in s.settings.stamp m.stamp);
       sound = known.sound m.writer m.place stm below found;
-      narrow = prints_it.narrow;
-      short = short s.table (mark_sent s m good) (message_short s m.stamp stm sound);
+      narrow = known.fit.narrow s m.stamp stm known.lawful good.small sound;
+      short = short s.table (mark_sent s m good) (sound.short m.stamp);
     }
 
 sent_more : (t : Map) (fate : Fate) (x : Sent) (xs : List Sent) → IsSent t x → AreSent t xs → AreSent t (sent_by fate x ++ xs)

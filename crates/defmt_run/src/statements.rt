@@ -24,20 +24,23 @@ pub fn statement_lines(alloc: Global, script: &Script) -> Result<Bytes, Memory>
 {
     script.lawful();
     let mut out = Bytes::new(alloc);
+    let mut args = Args::new(alloc);
     let mut number = 0u32;
     for writer in 0..WRITERS {
-        let after = add_writer(alloc, script, writer, number, &mut out)?;
+        let after = add_writer(alloc, script, writer, number, &mut args, &mut out)?;
         number = after;
     }
     Ok(out)
 }
 
-// Appends the lines of a writer's statements, of which the first has this number. Answers the number behind them.
+// Appends the lines of a writer's statements, of which the first has this number. Answers the number behind them. The list takes
+// the arguments of one stamp after the other.
 fn add_writer(
     alloc: Global,
     script: &Script,
     writer: u8,
     number: u32,
+    args: &mut Args,
     out: &mut Bytes,
 ) -> Result<u32, Memory>
     requires writer { writer < length script.now.writers }
@@ -52,7 +55,7 @@ fn add_writer(
         let Some(statement) = script.statement(writer, place) else {
             unreachable!();
         };
-        add_statement(alloc, script, statement, number + place, out)?;
+        add_statement(alloc, script, statement, number + place, args, out)?;
     }
     Ok(number + count)
 }
@@ -63,6 +66,7 @@ fn add_statement(
     script: &Script,
     statement: &Statement,
     number: u32,
+    args: &mut Args,
     out: &mut Bytes,
 ) -> Result<(), Memory>
     requires sound { IsSound script.now.table script.now.settings.stamp statement.now }
@@ -74,7 +78,7 @@ fn add_statement(
     let table = script.table();
     let stamp = stamp_number(script, number);
     let carried = stamp_in(script, stamp);
-    add_line(alloc, table, carried, statement, out)
+    add_line(alloc, table, carried, statement, args, out)
 }
 
 // The stamp of a number, 0 without stamps.
@@ -103,23 +107,25 @@ pub fn add_mark_line(
         unreachable!();
     };
     let carried = stamp_in(script, mark.stamp);
-    add_line(alloc, table, carried, statement, out)
+    let mut args = Args::new(alloc);
+    add_line(alloc, table, carried, statement, &mut args, out)
 }
 
-// Appends the line of a statement with a stamp or none, and a newline.
+// Appends the line of a statement with a stamp or none, and a newline. The list takes the stamp's arguments.
 fn add_line(
     alloc: Global,
     table: &Table,
     stamp: Option<u64>,
     statement: &Statement,
+    args: &mut Args,
     out: &mut Bytes,
 ) -> Result<(), Memory>
     requires { Prints table.now stamp statement.now }
     ensures { OnOk result (out.new.items ≡ out.old.items
         ++ ended (eager_line table.now (stamp_args stamp) statement.now.index statement.now.args)) }
 {
-    let args = stamp_args(alloc, stamp)?;
-    match line(alloc, table, &args, statement) {
+    put_stamp(stamp, args)?;
+    match line(alloc, table, args, statement) {
         Ok(text) => out.extend_from_slice(text.as_str().as_bytes())?,
         Err(EagerFault::Wide) => unreachable!(),
         Err(EagerFault::Memory) => return Err(Memory),
@@ -138,13 +144,13 @@ pub fn stamp_in(script: &Script, stamp: u64) -> Option<u64>
     }
 }
 
-// The arguments of a stamp.
-fn stamp_args(alloc: Global, stamp: Option<u64>) -> Result<Args, Memory>
-    ensures { IfOk result (λ args. args ≡ stamp_args stamp) }
+// Makes the list that of a stamp's arguments.
+fn put_stamp(stamp: Option<u64>, args: &mut Args) -> Result<(), Memory>
+    ensures { OnOk result (args.new ≡ stamp_args stamp) }
 {
-    let mut args = Args::new(alloc);
-    if let Some(number) = stamp {
-        args.push(Value::Uint(u128::from(number)))?;
+    args.clear();
+    match stamp {
+        Some(number) => args.push(Value::Uint(u128::from(number))),
+        None => Ok(()),
     }
-    Ok(args)
 }

@@ -1,5 +1,5 @@
 -- A logger may be lent to other threads, since each of its parts may go to one. A closure may go there with its five captures.
-use denote.Param.Send.{IsSend, IsSync, sendable}
+use denote.Param.Send.{IsSend, IsSync, sendable, view_send}
 use denote.Param.SendFields.{as_row_send, declared_send}
 use denote.RattleType.{RattleType}
 use denote.Struct.Field.{row_field}
@@ -9,8 +9,10 @@ use mir.Syntax.{Sym}
 use Rattle.std.proofs.Crossing.{crosses}
 use Rattle.defmt_hooks.specs.declared.clock.Clock as clock
 use Rattle.defmt_intern.proofs.table.Table.TheSendSync.{the_send as table_send}
+use Rattle.defmt_logger.proofs.sites.Sites.TheSendSync.{the_send as sites_send}
 use Rattle.defmt_logger.proofs.tape.Tape.TheSendSync.{the_send as tape_send}
 use Rattle.defmt_logger.specs.contracts.desk.Desk.{the_row as desk_row}
+use Rattle.defmt_logger.specs.contracts.desk.Desk.TheInside.{the_type as inside_type}
 use Rattle.defmt_logger.specs.contracts.locked.Locked.{the_row as locked_row}
 use Rattle.defmt_logger.specs.contracts.logger.Logger.{the_row as logger_row}
 use Rattle.defmt_logger.specs.declared.books.Books as books
@@ -32,7 +34,30 @@ script_send : IsSend script_row
 script_send = search (sendable, crosses, table_send, names_send, statements_send) depth 60
 
 desk_send : (U C : RattleType) (u : up.Ghosts U.Denot) (k : clock.Ghosts C.Denot) → IsSend U → IsSend C → IsSend (desk_row U C u k)
-desk_send U C u k a b = search (sendable, crosses, script_send, tape_send) depth 60
+desk_send U C u k a b =
+    view_send _ _ _ _ _
+    (declared_send (inside_type U C u k) (
+      search (sendable, script_send) depth 60,
+      (
+        search (sendable, sites_send) depth 60,
+        (
+          search (sendable, tape_send) depth 60,
+          (
+            search sendable depth 60,
+            (
+              search sendable depth 60,
+              (
+                search (sendable, crosses) depth 60,
+                (
+                  search (sendable, crosses) depth 60,
+                  (search sendable depth 60, tt),
+                ),
+              ),
+            ),
+          ),
+        ),
+      ),
+    ))
 
 locked_send : (B K U C : RattleType) (b : books.Ghosts B.Denot) (n : naming.Ghosts K.Denot) (u : up.Ghosts U.Denot) (k : clock.Ghosts C.Denot)
     → IsSend B → IsSend K → IsSend U → IsSend C → IsSend (locked_row B K U C b n u k)

@@ -7,7 +7,7 @@ use Rattle.defmt_logger.specs.Tape.{mark_line, statements_of}
 use Rattle.defmt_run.specs.Output.{ended}
 use Rattle.defmt_run.proofs.Lines.{line_is}
 use Rattle.defmt_run.proofs.Marks.{is_there, sound_at}
-use Rattle.defmt_run.proofs.Stamped.{prints_so}
+use Rattle.defmt_run.proofs.Stamped.{prints}
 use Rattle.defmt_run.proofs.statements.add_mark_line.Goals as goal
 
 pub unreachable-requires : goal.unreachable-requires
@@ -15,7 +15,7 @@ unreachable-requires c = is_there (statements_of c.args.script.now c.args.mark.n
 
 pub add_line-requires : goal.add_line-requires
 add_line-requires c =
-    prints_so (record { message = c.stamps_fit.ensures.message; line = c.stamps_fit.ensures.line; narrow = c.stamps_fit.ensures.narrow }) c.args.script.now c.lawful.ensures c.table-table.result.now c.args.mark.now.stamp c.stamp_in-carried.result c.in-Some.statement.now
+    prints (record { message = c.stamps_fit.ensures.message; line = c.stamps_fit.ensures.line; narrow = c.stamps_fit.ensures.narrow }) c.args.script.now c.lawful.ensures c.table-table.result.now c.args.mark.now.stamp c.stamp_in-carried.result c.in-Some.statement.now
     c.table-table.ensures c.stamp_in-carried.ensures.carried c.stamp_in-carried.ensures.small
     (sound_at c.args.script.now c.args.mark.now.writer c.args.mark.now.place c.in-Some.statement.now c.lawful.ensures (sym c.in-Some.ensures))
 

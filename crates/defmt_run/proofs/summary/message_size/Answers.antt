@@ -7,7 +7,6 @@ use Rattle.defmt_values.specs.declared.value.Statement.{Statement}
 use Rattle.defmt_run.specs.Printed.{carried_message, message_size}
 use Rattle.defmt_run.proofs.Marks.{sound_at}
 use Rattle.defmt_run.proofs.Sizes.{never_long}
-use Rattle.defmt_run.proofs.Stamped.{message_short}
 use Rattle.defmt_run.proofs.summary.message_size.Goals as goal
 
 pub returns-in_default-clause-size : goal.returns-in_default-clause-size
@@ -18,8 +17,7 @@ returns-in_default-clause-size c =
 pub unreachable-requires : goal.unreachable-requires
 unreachable-requires c =
     let short : length (message_of c.args.script.now.table (stamp_args (stamp_in c.args.script.now.settings.stamp c.args.mark.now.stamp)) c.in-Some.statement.now.index c.in-Some.statement.now.args) ≤ 2000 =
-    message_short c.args.script.now c.args.mark.now.stamp c.in-Some.statement.now
-    (sound_at c.args.script.now c.args.mark.now.writer c.args.mark.now.place c.in-Some.statement.now c.lawful.ensures (sym c.in-Some.ensures)) in
+    (sound_at c.args.script.now c.args.mark.now.writer c.args.mark.now.place c.in-Some.statement.now c.lawful.ensures (sym c.in-Some.ensures)).short c.args.mark.now.stamp in
     let there : length (message_of c.table-table.result.now (stamp_args c.stamp_in-carried.result) c.in-Some.statement.now.index c.in-Some.statement.now.args) ≤ 2000 =
     subst (λ (m : Map). length (message_of m (stamp_args c.stamp_in-carried.result) c.in-Some.statement.now.index c.in-Some.statement.now.args) ≤ 2000) (sym c.table-table.ensures)
     (subst (λ (o : Option ℕ). length (message_of c.args.script.now.table (stamp_args o) c.in-Some.statement.now.index c.in-Some.statement.now.args) ≤ 2000) (sym c.stamp_in-carried.ensures.carried) short) in

@@ -42,10 +42,11 @@ invariant_of-self g c =
     let v : Up = g.U.UpEnd.view c.send_statement-fate.new.up in
     let more : marks_of w s.tape.marks < count s.script w = subst (λ (x : Sheet). marks_of w x.tape.marks < count x.script w) (sym c.self.view_is) c.requires.place in
     let n : Next d s.places w c.send_statement-fate.result c.push_reserved.new.self v =
-    next_is d s.places (g.C.Clock.base s.stamp) (g.C.Clock.step s.stamp) (g.C.Clock.ready s.stamp) (g.C.Clock.gives s.stamp) s.message.items s.frame.items w c.len.result c.tick-stamp.result c.send_statement-fate.result c.push_reserved.new.self v
+    next_is d s.sites s.places (g.C.Clock.base s.stamp) (g.C.Clock.step s.stamp) (g.C.Clock.ready s.stamp) (g.C.Clock.gives s.stamp) s.message.items s.frame.items w c.len.result c.tick-stamp.result c.send_statement-fate.result c.push_reserved.new.self v
     c.self.invariant c.lawful.ensures more c.len.ensures c.tick-stamp.ensures c.push_reserved.ensures.marks c.push_reserved.ensures.room c.send_statement-fate.ensures.sent in
     record {
       kept = n.kept;
+      sites_are = c.self.invariant.sites_are;
       counts = n.counts;
       clock = c.self.invariant.clock;
       message_size = first_of (search rules, grind (arith, common_steps));
@@ -60,7 +61,7 @@ returns-clause-mark g c =
     let v : Up = g.U.UpEnd.view c.send_statement-fate.new.up in
     let more : marks_of w s.tape.marks < count s.script w = subst (λ (x : Sheet). marks_of w x.tape.marks < count x.script w) (sym c.self.view_is) c.requires.place in
     let n : Next d s.places w c.send_statement-fate.result c.push_reserved.new.self v =
-    next_is d s.places (g.C.Clock.base s.stamp) (g.C.Clock.step s.stamp) (g.C.Clock.ready s.stamp) (g.C.Clock.gives s.stamp) s.message.items s.frame.items w c.len.result c.tick-stamp.result c.send_statement-fate.result c.push_reserved.new.self v
+    next_is d s.sites s.places (g.C.Clock.base s.stamp) (g.C.Clock.step s.stamp) (g.C.Clock.ready s.stamp) (g.C.Clock.gives s.stamp) s.message.items s.frame.items w c.len.result c.tick-stamp.result c.send_statement-fate.result c.push_reserved.new.self v
     c.self.invariant c.lawful.ensures more c.len.ensures c.tick-stamp.ensures c.push_reserved.ensures.marks c.push_reserved.ensures.room c.send_statement-fate.ensures.sent in
     subst (λ (x : Sheet). c.push_reserved.new.self.marks ≡ x.tape.marks ++ next_mark x.script x.tape.marks w c.send_statement-fate.result ∷ []) c.self.view_is n.marks
 
@@ -72,7 +73,7 @@ returns-clause-sent g c =
     let v : Up = g.U.UpEnd.view c.send_statement-fate.new.up in
     let more : marks_of w s.tape.marks < count s.script w = subst (λ (x : Sheet). marks_of w x.tape.marks < count x.script w) (sym c.self.view_is) c.requires.place in
     let n : Next d s.places w c.send_statement-fate.result c.push_reserved.new.self v =
-    next_is d s.places (g.C.Clock.base s.stamp) (g.C.Clock.step s.stamp) (g.C.Clock.ready s.stamp) (g.C.Clock.gives s.stamp) s.message.items s.frame.items w c.len.result c.tick-stamp.result c.send_statement-fate.result c.push_reserved.new.self v
+    next_is d s.sites s.places (g.C.Clock.base s.stamp) (g.C.Clock.step s.stamp) (g.C.Clock.ready s.stamp) (g.C.Clock.gives s.stamp) s.message.items s.frame.items w c.len.result c.tick-stamp.result c.send_statement-fate.result c.push_reserved.new.self v
     c.self.invariant c.lawful.ensures more c.len.ensures c.tick-stamp.ensures c.push_reserved.ensures.marks c.push_reserved.ensures.room c.send_statement-fate.ensures.sent in
     subst (λ (x : Sheet). SendsIn x.script.settings.mode x.up v (frame_at x.script w (marks_of w x.tape.marks) (stamp_number x.script (length x.tape.marks))) c.send_statement-fate.result) c.self.view_is n.sends
 
@@ -84,6 +85,6 @@ returns-clause-kept g c =
     let v : Up = g.U.UpEnd.view c.send_statement-fate.new.up in
     let more : marks_of w s.tape.marks < count s.script w = subst (λ (x : Sheet). marks_of w x.tape.marks < count x.script w) (sym c.self.view_is) c.requires.place in
     let n : Next d s.places w c.send_statement-fate.result c.push_reserved.new.self v =
-    next_is d s.places (g.C.Clock.base s.stamp) (g.C.Clock.step s.stamp) (g.C.Clock.ready s.stamp) (g.C.Clock.gives s.stamp) s.message.items s.frame.items w c.len.result c.tick-stamp.result c.send_statement-fate.result c.push_reserved.new.self v
+    next_is d s.sites s.places (g.C.Clock.base s.stamp) (g.C.Clock.step s.stamp) (g.C.Clock.ready s.stamp) (g.C.Clock.gives s.stamp) s.message.items s.frame.items w c.len.result c.tick-stamp.result c.send_statement-fate.result c.push_reserved.new.self v
     c.self.invariant c.lawful.ensures more c.len.ensures c.tick-stamp.ensures c.push_reserved.ensures.marks c.push_reserved.ensures.room c.send_statement-fate.ensures.sent in
     n.kept

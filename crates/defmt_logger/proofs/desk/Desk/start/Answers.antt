@@ -12,6 +12,7 @@ invariant_of-result g c =
     let fresh = c.requires.fresh in
     record {
       kept = kept_first c.args.script c.reserve.new.self u none room (ap (λ (x : Up). x.sent) fresh) (ap (λ (x : Up). x.staged) fresh) (ap (λ (x : Up). x.size) fresh) (ap (λ (x : Up). x.looks) fresh) c.requires.told;
+      sites_are = c.in_ok-sites.ensures;
       counts = no_counts c.reserve.new.self.marks none;
       clock = c.requires.clock;
       message_size = search rules;

@@ -1,0 +1,67 @@
+//! Sends frames through a word ring and through a queue ring, each from one thread to another, and tells what went through:
+//! `ring_bench SIZE FRAME COUNT ROUNDS [timed]`.
+//!
+//! Each round tries both rings, and prints a line for each: its name, its size, the bytes of a frame and all bytes that went
+//! through. With `timed` behind it, there stands also how many nanoseconds it took, from the making of the ring to its
+//! settling.
+#![tactic(auto)]
+
+mod passage;
+mod plan;
+
+use crate::passage::pass;
+use crate::plan::{Plan, plan_of};
+use rtt_ring::{Channel, QueueRing, RingFault, WordRing};
+use std::process::ExitCode;
+use std::rt::Clock;
+use std::sync::Wait;
+use std::thread::Threads;
+use std::time::Instant;
+use std::{env, io};
+
+// One round with one ring.
+fn try_ring<C: Channel, R: Threads + Wait + Sync + Clock + Print + AllocGlobal>(
+    rt: &R,
+    ring: &str,
+    plan: &Plan,
+) -> io::Result<()> {
+    let Plan {
+        size,
+        frame,
+        count,
+        timed,
+        ..
+    } = *plan;
+    let bytes = Vec::from_elem(rt.alloc(), 7, frame)?;
+    let begin = Instant::now(rt)?;
+    let passed = pass::<C, R>(rt, rt.alloc(), size, bytes.as_slice(), u64::from(count));
+    let time = begin.elapsed(rt)?.as_nanos();
+    let Ok(settled) = passed else {
+        return Err(io::Error::from(io::ErrorKind::OutOfMemory));
+    };
+    let bytes = settled.got_len();
+    if timed {
+        println!(rt; "{ring} {size} {frame} {bytes} {time}")
+    } else {
+        println!(rt; "{ring} {size} {frame} {bytes}")
+    }
+}
+
+fn main(rt: HostRuntime) -> io::Result<ExitCode> {
+    let mut words = Vec::new(rt.alloc());
+    for word in env::args(&rt)? {
+        words.push(word)?;
+    }
+    let Some(plan) = plan_of(words.as_slice()) else {
+        eprintln!(rt; "ring_bench SIZE FRAME COUNT ROUNDS [timed]")?;
+        return Ok(ExitCode::from(2));
+    };
+    for _ in 0..plan.rounds {
+        try_ring::<WordRing, _>(&rt, "word", &plan)?;
+        try_ring::<QueueRing, _>(&rt, "queue", &plan)?;
+    }
+    Ok(ExitCode::from(0))
+}
+
+#[cfg(test)]
+mod tests;
