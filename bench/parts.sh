@@ -8,7 +8,7 @@
 # The compiler puts a function that is called in one place into its caller, and then it has no count of its own. So the two sums are taken of
 # the first of these that are there:
 #   from a statement to its frame     `write_frame` of the logger; or `message` and `frame`
-#   from a piece to its statement     `tell_piece`, which prints the line too, less `line`; or `decode_piece` and `hear`
+#   from a piece to its statement     `decode_piece` and `hear`; or `tell_piece`, which prints the line too, less `line`
 
 . "$(dirname "$0")/common.sh"
 need valgrind
@@ -70,8 +70,8 @@ row "$work/decoded" defmt_eager::printed::line; line=$cost
 
 [ -n "$encoding" ] || [ -z "$message" ] || [ -z "$frame" ] || encoding=$((message + frame))
 decoding=
-[ -z "$decode" ] || [ -z "$hear" ] || decoding=$((decode + hear))
 [ -z "$piece" ] || [ -z "$line" ] || decoding=$((piece - line))
+[ -z "$decode" ] || [ -z "$hear" ] || decoding=$((decode + hear))
 due "instructions from a statement to its frame" "$encoding" 600
 due "instructions from a piece to its statement" "$decoding" 1200
 exit "$worst"
