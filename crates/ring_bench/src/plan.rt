@@ -1,5 +1,5 @@
 //! What the words ask for.
-ghost use Rattle.std.specs.Prelude.{◌<◌, ◌≤◌, ◌^◌};
+ghost use Rattle.std.specs.Prelude.{◌<◌, ◌≤◌, ◌^◌, IfSome, length};
 
 /// The longest frame.
 pub const MOST: usize = 2000;
@@ -22,7 +22,9 @@ pub struct Plan {
 
 /// What the words SIZE FRAME COUNT ROUNDS ask for, and `timed` behind them where times are to be told. A size is from 16 to
 /// 65,536 bytes, a frame has 1 to 2,000.
-pub fn plan_of(words: &[String]) -> Option<Plan> {
+pub(crate) fn plan_of(words: &[String]) -> Option<Plan>
+    ensures words { IfSome result (λ plan. (5 ≤ length words.now) × (length words.now ≤ 6)) }
+{
     let (first, timed) = match words {
         [_, first @ .., last] if last.as_str() == "timed" => (first, true),
         [_, first @ ..] => (first, false),
