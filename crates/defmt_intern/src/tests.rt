@@ -1,7 +1,7 @@
 //! Tables, what their texts stand for, and symbol names.
 use super::*;
 use crate::entry::copy_of;
-use defmt_grammar::{Kind, Piece, Text};
+use defmt_grammar::{Kind, Mode, Piece, Text, parse};
 use std::alloc::Global;
 use std::test::Fail;
 
@@ -170,11 +170,15 @@ fn count_of_variants(alloc: Global, bars: usize) -> Result<usize, Fail> {
 }
 
 #[test]
-fn more_than_255_variants_are_unsupported(rt: HostRuntime) -> Result<(), Fail> {
+fn variants_are_listed_up_to_255(rt: HostRuntime) -> Result<(), Fail> {
     let alloc = rt.alloc();
     for (bars, count) in [(1, 2), (254, 255), (255, 0)] {
         assert_eq!(rt; count_of_variants(alloc, bars)?, count);
     }
+    let mut forms = Forms::new(alloc);
+    forms.push(parse(alloc, "b {=u8}", Mode::Lenient)?)?;
+    let body = Parsed::Variants(forms);
+    assert_eq!(rt; body_text(alloc, Some(&body))?.as_str(), "|b <uint>");
     Ok(())
 }
 

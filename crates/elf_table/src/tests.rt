@@ -58,18 +58,78 @@ fn listing(alloc: Global, table: &Table) -> Result<String, Fail> {
     Ok(all)
 }
 
+/// The file of a table of one entry.
+fn hello_file(alloc: Global) -> Result<Bytes, Fail> {
+    let mut table = Table::new(alloc);
+    table.add(entry_of(alloc, Tag::Info, "hello")?)?;
+    file_of(alloc, &table)
+}
+
 #[test]
 fn one_entry_makes_472_bytes_that_read_back(rt: HostRuntime) -> Result<(), Fail> {
     let alloc = rt.alloc();
-    let mut table = Table::new(alloc);
-    table.add(entry_of(alloc, Tag::Info, "hello")?)?;
-    let file = file_of(alloc, &table)?;
+    let file = hello_file(alloc)?;
     assert_eq!(rt; file.as_slice().len(), 472);
     let back = table_of(alloc, file.as_slice())?;
     assert_eq!(rt; listing(alloc, &back)?.as_str(), "1 defmt_info hello; ");
     let found = back.get(1).ok_or("no entry")?;
     assert_eq!(rt; found.package.as_str(), "script");
     assert_eq!(rt; found.disambiguator.as_str(), "1");
+    Ok(())
+}
+
+/// What is done to a file.
+#[derive(Clone, Copy, Drop)]
+enum Damage {
+    /// It ends behind so many bytes.
+    Cut(usize),
+    /// The byte at a place is another.
+    Byte(usize, u8),
+}
+
+fn damaged(alloc: Global, file: &[u8], damage: Damage) -> Result<Vec<u8>, Fail> {
+    let mut copy = Vec::from_slice(alloc, file)?;
+    match damage {
+        Damage::Cut(len) => copy.truncate(len),
+        Damage::Byte(at, byte) if at < copy.len() => copy[at] = byte,
+        Damage::Byte(..) => {}
+    }
+    Ok(copy)
+}
+
+#[test]
+fn a_damaged_file_is_refused_with_its_cause_and_place(rt: HostRuntime) -> Result<(), Fail> {
+    let alloc = rt.alloc();
+    let whole = hello_file(alloc)?;
+    for (damage, cause, part, place) in [
+        (Damage::Cut(15), 1, Part::Nothing, 0),
+        (Damage::Byte(4, 0x03), 2, Part::Nothing, 0),
+        (Damage::Byte(5, 0x02), 3, Part::Nothing, 0),
+        (Damage::Cut(51), 4, Part::Header, 0),
+        (Damage::Byte(46, 0x40), 4, Part::Header, 1),
+        (Damage::Byte(48, 0x00), 5, Part::Nothing, 0),
+        (Damage::Byte(239, 0x78), 5, Part::Nothing, 0),
+        (Damage::Cut(471), 4, Part::Sections, 0),
+        (Damage::Byte(50, 0x05), 4, Part::Names, 5),
+        (Damage::Byte(312, 0x22), 4, Part::SectionName, 1),
+        (Damage::Byte(356, 0x01), 6, Part::Nothing, 0),
+        (Damage::Byte(361, 0x08), 6, Part::Nothing, 0),
+        (Damage::Byte(388, 0x18), 4, Part::Symbols, 2),
+        (Damage::Byte(376, 0x01), 4, Part::Symbols, 2),
+        (Damage::Byte(135, 0x33), 7, Part::Nothing, 0),
+        (Damage::Byte(156, 0x52), 8, Part::Nothing, 0),
+    ] {
+        let fault = LoadFault::Elf { cause, part, place };
+        let file = damaged(alloc, whole.as_slice(), damage)?;
+        assert_eq!(rt; fault_of(alloc, &file), Some(fault));
+    }
+    for (damage, cause) in [(Damage::Byte(164, 0x20), 3), (Damage::Byte(106, 0x01), 6)] {
+        let fault = LoadFault::Names { cause, symbol: 0 };
+        let file = damaged(alloc, whole.as_slice(), damage)?;
+        assert_eq!(rt; fault_of(alloc, &file), Some(fault));
+    }
+    let unlisted = damaged(alloc, whole.as_slice(), Damage::Byte(163, 0x78))?;
+    assert_eq!(rt; table_of(alloc, &unlisted)?.len(), 0);
     Ok(())
 }
 
