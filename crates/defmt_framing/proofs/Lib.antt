@@ -4,3 +4,4 @@ pub mod Truncating
 pub mod Standing
 pub mod FrameCodes
 pub mod Agree
+pub mod InFrames

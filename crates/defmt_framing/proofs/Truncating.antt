@@ -8,32 +8,32 @@ use Rattle.defmt_framing.specs.Frames.{frame_of, frames, AreCodes, beginning_fro
 use Rattle.defmt_framing.proofs.Cutting.{front-end, tail-mid}
 use Rattle.defmt_framing.proofs.Telling.{told_piece, begun-none, begun-piece, begun-open, begun-front, events-is, events-mid, events-closed, ending}
 
-has_zero-drop : (n : ℕ) (c : List ℕ) → has_zero c ≡ false → has_zero (drop n c) ≡ false
+pub has_zero-drop : (n : ℕ) (c : List ℕ) → has_zero c ≡ false → has_zero (drop n c) ≡ false
 unfolding has_zero
 has_zero-drop zero c none = none
 has_zero-drop (suc n) [] none = none
 has_zero-drop (suc n) (zero ∷ c) none = absurd (true≢false none)
 has_zero-drop (suc n) (suc x ∷ c) none = has_zero-drop n c none
 
-has_zero-take : (n : ℕ) (c : List ℕ) → has_zero c ≡ false → has_zero (take n c) ≡ false
+pub has_zero-take : (n : ℕ) (c : List ℕ) → has_zero c ≡ false → has_zero (take n c) ≡ false
 unfolding has_zero
 has_zero-take zero c none = refl
 has_zero-take (suc n) [] none = none
 has_zero-take (suc n) (zero ∷ c) none = absurd (true≢false none)
 has_zero-take (suc n) (suc x ∷ c) none = has_zero-take n c none
 
-size_of : (c : List ℕ) → length (frame_of c) ≡ length c + 2
+pub size_of : (c : List ℕ) → length (frame_of c) ≡ length c + 2
 size_of c = omega (arith, length-append c (0 ∷ []))
 
-frame_then : (c u : List ℕ) → frame_of c ++ u ≡ 0 ∷ (c ++ 0 ∷ u)
+pub frame_then : (c u : List ℕ) → frame_of c ++ u ≡ 0 ∷ (c ++ 0 ∷ u)
 frame_then c u = ap (λ (l : List ℕ). 0 ∷ l) (append_assoc c (0 ∷ []) u)
 
-drop-past : (xs ys : List ℕ) (n : ℕ) → length xs ≤ n → drop n (xs ++ ys) ≡ drop (n - length xs) ys
+pub drop-past : (xs ys : List ℕ) (n : ℕ) → length xs ≤ n → drop n (xs ++ ys) ≡ drop (n - length xs) ys
 drop-past [] ys n le = ap (λ (k : ℕ). drop k ys) (let e : n ≡ n - 0 = omega arith in e)
 drop-past (x ∷ xs) ys zero le = absurd (omega arith)
 drop-past (x ∷ xs) ys (suc n) le = drop-past xs ys n (omega arith) ∙ ap (λ (k : ℕ). drop k ys) (let e : n - length xs ≡ suc n - suc (length xs) = omega arith in e)
 
-take-past : (xs ys : List ℕ) (n : ℕ) → length xs ≤ n → take n (xs ++ ys) ≡ xs ++ take (n - length xs) ys
+pub take-past : (xs ys : List ℕ) (n : ℕ) → length xs ≤ n → take n (xs ++ ys) ≡ xs ++ take (n - length xs) ys
 take-past [] ys n le = ap (λ (k : ℕ). take k ys) (let e : n ≡ n - 0 = omega arith in e)
 take-past (x ∷ xs) ys zero le = absurd (omega arith)
 take-past (x ∷ xs) ys (suc n) le = ap (λ (l : List ℕ). x ∷ l) (take-past xs ys n (omega arith) ∙ ap (λ (k : ℕ). xs ++ take k ys) (let e : n - length xs ≡ suc n - suc (length xs) = omega arith in e))
@@ -42,30 +42,30 @@ from-yes : (place at : ℕ) (c : List ℕ) (codes : List (List ℕ)) → place �
 unfolding beginning_from
 from-yes place at c codes le = ap (λ (b : Bool). cond b (c ∷ []) [] ++ beginning_from place (at + length (frame_of c)) codes) (le-leb place at le)
 
-from-no : (place at : ℕ) (c : List ℕ) (codes : List (List ℕ)) → at < place → beginning_from place at (c ∷ codes) ≡ beginning_from place (at + length (frame_of c)) codes
+pub from-no : (place at : ℕ) (c : List ℕ) (codes : List (List ℕ)) → at < place → beginning_from place at (c ∷ codes) ≡ beginning_from place (at + length (frame_of c)) codes
 unfolding beginning_from
 from-no place at c codes lt = ap (λ (b : Bool). cond b (c ∷ []) [] ++ beginning_from place (at + length (frame_of c)) codes) (lt-leb place at lt)
 
-from-all : (place at : ℕ) (codes : List (List ℕ)) → place ≤ at → beginning_from place at codes ≡ codes
+pub from-all : (place at : ℕ) (codes : List (List ℕ)) → place ≤ at → beginning_from place at codes ≡ codes
 unfolding beginning_from
 from-all place at [] le = refl
 from-all place at (c ∷ codes) le = from-yes place at c codes le ∙ ap (λ (l : List (List ℕ)). c ∷ l) (from-all place (at + length (frame_of c)) codes (omega arith))
 
-by-yes : (place at : ℕ) (c : List ℕ) (codes : List (List ℕ)) → at + length (frame_of c) ≤ place → ending_by place at (c ∷ codes) ≡ c ∷ ending_by place (at + length (frame_of c)) codes
+pub by-yes : (place at : ℕ) (c : List ℕ) (codes : List (List ℕ)) → at + length (frame_of c) ≤ place → ending_by place at (c ∷ codes) ≡ c ∷ ending_by place (at + length (frame_of c)) codes
 unfolding ending_by
 by-yes place at c codes le = ap (λ (b : Bool). cond b (c ∷ []) [] ++ ending_by place (at + length (frame_of c)) codes) (le-leb (at + length (frame_of c)) place le)
 
-by-no : (place at : ℕ) (c : List ℕ) (codes : List (List ℕ)) → place < at + length (frame_of c) → ending_by place at (c ∷ codes) ≡ ending_by place (at + length (frame_of c)) codes
+pub by-no : (place at : ℕ) (c : List ℕ) (codes : List (List ℕ)) → place < at + length (frame_of c) → ending_by place at (c ∷ codes) ≡ ending_by place (at + length (frame_of c)) codes
 unfolding ending_by
 by-no place at c codes lt = ap (λ (b : Bool). cond b (c ∷ []) [] ++ ending_by place (at + length (frame_of c)) codes) (lt-leb (at + length (frame_of c)) place lt)
 
-by-none : (place at : ℕ) (codes : List (List ℕ)) → place ≤ at → ending_by place at codes ≡ []
+pub by-none : (place at : ℕ) (codes : List (List ℕ)) → place ≤ at → ending_by place at codes ≡ []
 unfolding ending_by
 by-none place at [] le = refl
 by-none place at (c ∷ codes) le = by-no place at c codes (omega (arith, size_of c)) ∙ by-none place (at + length (frame_of c)) codes (omega arith)
 
 -- nothing, or a zero first
-StartsFrame : List ℕ → Type 0
+unfoldable pub StartsFrame : List ℕ → Type 0
 StartsFrame u = (u ≡ []) ⊎ ((v : List ℕ) × (u ≡ 0 ∷ v))
 
 starts : (n : ℕ) (codes : List (List ℕ)) → StartsFrame (take n (frames codes))
@@ -92,12 +92,12 @@ module _ {E : Type 0} (t : Tells E) where
   unfolding has_zero
   two_zeros u = events-mid t (0 ∷ []) u ∙ ap (λ (l : List E). l ++ events t (0 ∷ u)) (begun-piece t [] refl)
 
-  before_frame : (u : List ℕ) → StartsFrame u → events t (0 ∷ u) ≡ events t u
+  pub before_frame : (u : List ℕ) → StartsFrame u → events t (0 ∷ u) ≡ events t u
   unfolding StartsFrame
   before_frame u (inl none) = ap (λ (l : List ℕ). events t (0 ∷ l)) none ∙ events-zero ∙ sym events-nil ∙ ap (events t) (sym none)
   before_frame u (inr s) = ap (λ (l : List ℕ). events t (0 ∷ l)) s.1 ∙ two_zeros s.0 ∙ ap (events t) (sym s.1)
 
-  one_frame : (c u : List ℕ) → has_zero c ≡ false → 0 < length c → events t (frame_of c ++ u) ≡ (of_piece t) c ∷ events t (0 ∷ u)
+  pub one_frame : (c u : List ℕ) → has_zero c ≡ false → 0 < length c → events t (frame_of c ++ u) ≡ (of_piece t) c ∷ events t (0 ∷ u)
   one_frame c u none some =
       ap (events t) (frame_then c u) ∙ events-mid t (0 ∷ c) u ∙ ap (λ (l : List E). l ++ events t (0 ∷ u)) (begun-piece t c none ∙ told-some c some)
 

@@ -1,4 +1,4 @@
-ghost use Rattle.std.specs.Prelude.{◌≡◌, ◌<◌, ◌++◌, ◌∷◌, [], List, ℕ, length, map, take, drop, true, false};
+ghost use Rattle.std.specs.Prelude.{◌≡◌, ◌<◌, ◌≤◌, ◌+◌, ◌++◌, ◌∷◌, [], List, ℕ, length, map, take, drop, true, false};
 ghost use Rattle.rzcobs_core.specs.Canon.{canon};
 ghost use Rattle.defmt_framing.specs.Cut.{has_zero, front, gaps, pieces, tail, nonempty};
 ghost use Rattle.defmt_framing.specs.Places.{ended, LackZeros};
@@ -45,6 +45,37 @@ pub fn without_end<E>()
         → let left = take place (frames codes) in
         events tells left
         ≡ map (of_piece tells) (ending_by place 0 codes) ++ cut_off (of_tail tells) (tail left) }
+{}
+
+/// A stream of frames that is cut between two frames, or at one of its ends: behind the cut stand the frames that begin
+/// at or after it, and in front of it those that end at or before it.
+pub fn cut_between_frames<E>()
+    ensures rest { (tells : Tells E) (before after : List (List ℕ)) → AreCodes (before ++ after)
+        → events tells (drop (length (frames before)) (frames (before ++ after))) ≡ map (of_piece tells) after }
+    ensures start { (tells : Tells E) (before after : List (List ℕ)) → AreCodes (before ++ after)
+        → events tells (take (length (frames before)) (frames (before ++ after))) ≡ map (of_piece tells) before }
+    ensures from { (before after : List (List ℕ))
+        → beginning_from (length (frames before)) 0 (before ++ after) ≡ after }
+    ensures by { (before after : List (List ℕ))
+        → ending_by (length (frames before)) 0 (before ++ after) ≡ before }
+{}
+
+/// A stream of frames that is cut within one of them, `n` bytes into its code: behind the cut stand what is left of the
+/// code, as a front, and the frames behind that one, and in front of it the frames before that one and the first `n` bytes
+/// of the code, as a tail.
+pub fn cut_within_a_frame<E>()
+    ensures rest { (tells : Tells E) (n : ℕ) (before after : List (List ℕ)) (c : List ℕ)
+        → AreCodes (before ++ c ∷ after) → n ≤ length c
+        → events tells (drop (length (frames before) + 1 + n) (frames (before ++ c ∷ after)))
+        ≡ cut_off (of_front tells) (drop n c) ++ map (of_piece tells) after }
+    ensures start { (tells : Tells E) (n : ℕ) (before after : List (List ℕ)) (c : List ℕ)
+        → AreCodes (before ++ c ∷ after) → n ≤ length c
+        → events tells (take (length (frames before) + 1 + n) (frames (before ++ c ∷ after)))
+        ≡ map (of_piece tells) before ++ cut_off (of_tail tells) (take n c) }
+    ensures from { (n : ℕ) (before after : List (List ℕ)) (c : List ℕ) → n ≤ length c
+        → beginning_from (length (frames before) + 1 + n) 0 (before ++ c ∷ after) ≡ after }
+    ensures by { (n : ℕ) (before after : List (List ℕ)) (c : List ℕ) → n ≤ length c
+        → ending_by (length (frames before) + 1 + n) 0 (before ++ c ∷ after) ≡ before }
 {}
 
 /// However a stream is cut into the bytes of the calls, a new framer tells over them all what is

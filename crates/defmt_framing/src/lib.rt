@@ -9,7 +9,6 @@
 mod decoded;
 mod framer;
 mod laws;
-mod parts;
 mod places;
 mod teller;
 #[cfg(test)]
@@ -18,8 +17,7 @@ mod tests;
 pub use decoded::{decode_piece, decoded_is};
 pub use framer::Framer;
 pub use laws::{
-    always_laid_out, any_cutting, cut_by_places, intact_frames, messages_have_codes, without_end,
-    without_front,
+    always_laid_out, any_cutting, cut_between_frames, cut_by_places, cut_within_a_frame,
+    intact_frames, messages_have_codes, without_end, without_front,
 };
-pub use parts::feed_all;
 pub use teller::Teller;

@@ -1,7 +1,7 @@
 ghost use Rattle.std.specs.Prelude.{length};
 ghost use Rattle.defmt_framing.specs.declared.tests.Part.TheVariants.{Front, Piece, Long, Tail};
 
-use crate::{Framer, Teller, decode_piece, feed_all};
+use crate::{Framer, Teller, decode_piece};
 use dl_io::Memory;
 use rzcobs_core::encode;
 use std::test::Fail;
@@ -45,12 +45,26 @@ impl Teller for Sizes {
     }
 }
 
+// Feeds all the bytes, and appends what they tell.
+fn feed_all(framer: &mut Framer, bytes: &[u8], parts: &mut Vec<Part>) -> Result<(), Fail> {
+    let mut rest = bytes;
+    'parts: while !rest.is_empty() {
+        let (taken, part) = framer.feed(&mut Sizes, rest)?;
+        if let Some(part) = part {
+            parts.push(part)?;
+        }
+        let (_, behind) = rest.split_at(taken);
+        rest = behind;
+    }
+    Ok(())
+}
+
 // What a stream tells that is fed in two parts.
 fn parts_of(rt: &HostRuntime, first: &[u8], second: &[u8]) -> Result<Vec<Part>, Fail> {
     let mut framer = Framer::new(rt.alloc());
     let mut parts = Vec::new(rt.alloc());
-    feed_all(&mut framer, &mut Sizes, first, &mut parts)?;
-    feed_all(&mut framer, &mut Sizes, second, &mut parts)?;
+    feed_all(&mut framer, first, &mut parts)?;
+    feed_all(&mut framer, second, &mut parts)?;
     if let Some(part) = framer.finish(&Sizes) {
         parts.push(part)?;
     }

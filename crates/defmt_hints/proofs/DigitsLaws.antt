@@ -76,7 +76,7 @@ digits_after base m (d ∷ ds) two some h =
     ∙ ap (λ (t : List ℕ). t ++ ds) (digits_after_one base m d two some h.0)
     ∙ append_assoc (digits_of base m) (d ∷ []) ds
 
-one_digit : (base d : ℕ) → 2 ≤ base → 0 < d → d < base → digits_of base d ≡ d ∷ []
+pub one_digit : (base d : ℕ) → 2 ≤ base → 0 < d → d < base → digits_of base d ≡ d ∷ []
 one_digit base d two some lt =
     let q : d / base ≡ 0 = div-eq_of_lt lt in
     let r : d % base ≡ d = mod-eq_of_lt lt in

@@ -7,3 +7,4 @@ pub mod EscapesLaws
 pub mod ListLaws
 pub mod SignLaws
 pub mod PartsLaws
+pub mod PairLaws

@@ -1,6 +1,6 @@
 //! Digits of numbers.
 
-ghost use Rattle.std.specs.Prelude.{◌≡◌, ◌<◌, ◌≤◌, ◌/◌, ◌%◌, ◌^◌, ℕ, List, Bool, length};
+ghost use Rattle.std.specs.Prelude.{◌≡◌, ◌<◌, ◌≤◌, ◌/◌, ◌%◌, ◌^◌, ℕ, List, [], ◌∷◌, Bool, length, encode_utf8};
 ghost use Rattle.std.specs.Fmt.{digit_glyph};
 ghost use Rattle.std.specs.Str.{IsAscii, IsUtf8};
 ghost use Rattle.defmt_hints.specs.Appends.{Appends};
@@ -20,6 +20,13 @@ pub fn push(out: &mut Text, text: &str) -> Result<(), Memory>
         return Ok(());
     }
     out.push_str(text)
+}
+
+/// Appends a character.
+pub fn push_char(out: &mut Text, character: char) -> Result<(), Memory>
+    ensures { Appends result out.old out.new (encode_utf8 character) }
+{
+    out.push(character)
 }
 
 /// Appends bytes that are a text.
@@ -58,6 +65,22 @@ fn glyph(digit: u8, upper: bool) -> u8
     }
 }
 
+/// Appends the character of a digit below 16.
+fn push_glyph(out: &mut Text, digit: u8, upper: bool) -> Result<(), Memory>
+    requires { digit < 16 }
+    ensures { Appends result out.old out.new (digit_glyph upper digit ∷ []) }
+{
+    out.push(char::from(glyph(digit, upper)))
+}
+
+/// Appends a byte in two hexadecimal digits.
+fn push_hex_pair(out: &mut Text, byte: u8, upper: bool) -> Result<(), Memory>
+    ensures { Appends result out.old out.new (zero_filled 2 (number_text 16 upper byte)) }
+{
+    push_glyph(out, byte / 16, upper)?;
+    push_glyph(out, byte % 16, upper)
+}
+
 /// The quotient and the remainder of a division, in 64 bits wherever they hold the number.
 pub fn divided(number: u128, by: u64) -> (u128, u64)
     requires { 0 < by }
@@ -85,6 +108,9 @@ pub fn push_digits(
     requires most { base ≤ 16 }
     ensures { Appends result out.old out.new (zero_filled width (number_text base upper value)) }
 {
+    if base == 16 && width == 2 && value < 256 {
+        return push_hex_pair(out, value as u8, upper);
+    }
     let mut buffer = [b'0'; ROOM];
     let mut start = ROOM;
     let mut rest = value;

@@ -5,7 +5,7 @@ ghost use Rattle.defmt_hints.specs.Appends.{Appends};
 ghost use Rattle.defmt_grammar.specs.Sizes.{size_bits, IsSigned};
 ghost use Rattle.defmt_hints.specs.Printed.{twos_complement, base_number, base_prefix, is_upper, prefix_text, radix_text, fraction_text, decimal_text, signed_text, printed_uint, printed_int};
 
-use crate::digits::{divided, push, push_digits};
+use crate::digits::{divided, push, push_char, push_digits};
 use defmt_grammar::{Base, Hint, IntSize, Memory, Text};
 use itoa::Buffer;
 
@@ -75,7 +75,7 @@ fn push_fraction(out: &mut Text, value: u128, unit: u64, places: u8) -> Result<(
 {
     let (units, parts) = divided(value, unit);
     push_decimal(out, units)?;
-    push(out, ".")?;
+    push_char(out, '.')?;
     // The digits of this sum are a one, and behind it those of the parts with their zeros.
     let mut buffer = Buffer::new();
     let sum = buffer.format(unit + parts);

@@ -1,17 +1,15 @@
 -- What fits is passed.
-use Rattle.std.proofs.Common.{◌≡◌, ◌<◌, ◌≤◌, ◌⊎◌, inl, inr, ◌^◌, ◌+◌, ◌-◌, ◌*◌, ◌%◌, ◌==◌, ◌&&◌, nat_lt, nat_le, ℕ, zero, suc, ℤ, pos, negsuc, Bool, true, false, List, [], ◌∷◌, length, Option, Some, None, Result, Ok, Err, OnOk, refl, sym, ap, ◌∙◌, subst, arith, add_assoc, add-zero, cond}
-use Rattle.std.proofs.lemmas.Bool.{lt-ltb, le-leb, eq-eqb}
+use Rattle.std.proofs.Common.{◌≡◌, ◌<◌, ◌≤◌, inl, inr, ◌^◌, ◌+◌, ◌-◌, ◌*◌, ℕ, ℤ, pos, negsuc, true, false, List, length, Option, Some, None, Result, Ok, Err, OnOk, refl, sym, ap, ◌∙◌, subst, arith, add_assoc, add-zero}
+use Rattle.std.proofs.lemmas.Bool.{lt-ltb, eq-eqb}
 use Rattle.defmt_values.specs.Plain.{Val, uint, int, flag, char, str, istr, bytes, bits, format, seq, Vals, no_vals, val, Elems, no_elems, elem, elems_len, elems_empty}
-use Rattle.defmt_values.specs.Fits.{IsForm, HasPieces, IsList, FitsVal, FitsVals, FitsElems, weigh_val, weigh_vals, weigh_elems, Fits}
-use Rattle.defmt_values.specs.Scan.{◌>>=◌, list_cause, count_cause, form_at, pick, add, node_places, index_or, own_form, own_in, scan_val, scan_vals, scan_elems, scan_own, own_cause}
-use Rattle.defmt_values.specs.Entries.{look, is_format, is_interned, variant_at, Place, places_of, places_from}
+use Rattle.defmt_values.specs.Fits.{IsForm, IsList, FitsVal, FitsVals, FitsElems, weigh_val, weigh_vals, weigh_elems, Fits}
+use Rattle.defmt_values.specs.Scan.{list_cause, count_cause, form_at, node_places, index_or, own_form, own_in, scan_val, scan_vals, scan_elems, scan_own, own_cause}
+use Rattle.defmt_values.specs.Entries.{look, Place, places_of}
 use Rattle.defmt_grammar.specs.Sizes.{size_bits, is_signed, IsSigned}
 use Rattle.defmt_values.proofs.Forms.{form_there, pieces_there, places_are, adds}
-use Rattle.defmt_values.proofs.Found.{bound, vals_found, Sums}
+use Rattle.defmt_values.proofs.Found.{bound, vals_found}
 use Rattle.defmt_grammar.specs.declared.piece.Piece.{Piece}
 use Rattle.defmt_grammar.specs.declared.slot.Slot.{Slot}
-use Rattle.defmt_grammar.specs.declared.slot.Slot.TheVariants as slots
-use Rattle.defmt_grammar.specs.declared.kind.Kind.TheVariants as kinds
 use Rattle.defmt_intern.specs.Body.{body_of}
 use Rattle.defmt_intern.specs.Table.{Map}
 use Rattle.defmt_intern.specs.declared.entry.Entry.{Entry}

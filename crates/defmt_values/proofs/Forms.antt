@@ -1,18 +1,15 @@
 -- Entries that suit Format values, and their pieces.
-use Rattle.std.proofs.Common.{◌≡◌, ◌<◌, ◌≤◌, ◌+◌, ℕ, Bool, true, false, nat_lt, nat_le, List, ◌∷◌, Option, Some, None, Result, Ok, Err, refl, sym, ap, ◌∙◌, subst, arith, cond}
+use Rattle.std.proofs.Common.{◌≡◌, ◌<◌, ◌≤◌, ◌+◌, ℕ, Bool, true, false, nat_lt, List, Option, Some, None, Ok, refl, cond}
 use Rattle.std.specs.FinMap as map
 use Rattle.std.specs.List.{slice_get}
-use Rattle.std.proofs.lemmas.Bool.{ltb-true, le-leb, leb-true}
-use Rattle.defmt_values.specs.Fits.{IsForm, HasPieces, IsInterned}
-use Rattle.defmt_values.specs.Scan.{◌>>=◌, form_in, form_of, form_at, pick, add, places_in, node_places, there}
-use Rattle.defmt_values.specs.Entries.{look, is_format, is_interned, variant_at, Place, places_of, places_from}
+use Rattle.std.proofs.lemmas.Bool.{ltb-true, le-leb}
+use Rattle.defmt_values.specs.Fits.{IsForm, HasPieces}
+use Rattle.defmt_values.specs.Scan.{form_at, pick, add, node_places}
+use Rattle.defmt_values.specs.Entries.{look, variant_at, places_of}
 use Rattle.defmt_grammar.specs.declared.piece.Piece.{Piece}
-use Rattle.defmt_intern.specs.Body.{body_of}
 use Rattle.defmt_intern.specs.Table.{Map}
 use Rattle.defmt_intern.specs.declared.entry.Entry.{Entry}
-use Rattle.defmt_intern.specs.declared.entry.Tag.TheVariants as tags
 use Rattle.defmt_intern.specs.declared.parsed.Parsed.{Parsed}
-use Rattle.defmt_intern.specs.declared.parsed.Parsed.TheVariants.{One, Variants}
 
 guarded : {T : Type 0} (b : Bool) (o : Option T) (x : T) → cond {A = Option T} b o None ≡ Some x → b ≡ true
 guarded true o x h = refl

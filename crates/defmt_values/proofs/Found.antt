@@ -1,12 +1,12 @@
 -- What a scan passes fits, and what fits is passed, with the sum of the weights.
-use Rattle.std.proofs.Common.{◌≡◌, ◌<◌, ◌≤◌, ◌⊎◌, inl, inr, ◌^◌, ◌+◌, ◌-◌, ◌*◌, ◌%◌, ◌==◌, ◌&&◌, nat_lt, nat_le, ℕ, zero, suc, ℤ, pos, negsuc, Bool, true, false, List, [], ◌∷◌, length, Option, Some, None, Result, Ok, Err, refl, sym, ap, ◌∙◌, subst, arith, add_assoc, add-zero, cond}
-use Rattle.std.proofs.lemmas.Bool.{ltb-true, leb-true, lt-ltb, le-leb, eqb-true, eq-eqb}
+use Rattle.std.proofs.Common.{◌≡◌, ◌<◌, ◌≤◌, inl, inr, ◌^◌, ◌+◌, ◌-◌, ◌*◌, ◌%◌, ◌==◌, ◌&&◌, nat_lt, nat_le, ℕ, ℤ, pos, negsuc, Bool, true, false, List, [], ◌∷◌, length, Option, Some, None, Result, Ok, Err, refl, sym, ap, ◌∙◌, subst, arith, add-zero, cond}
+use Rattle.std.proofs.lemmas.Bool.{ltb-true, leb-true, eqb-true}
 use Rattle.defmt_values.specs.Plain.{Val, uint, int, flag, char, str, istr, bytes, bits, format, seq, Vals, no_vals, val, Elems, no_elems, elem, elems_len, elems_empty}
 use Rattle.defmt_values.specs.Fits.{IsUint, IsInt, IsBytes, IsBits, IsInterned, IsForm, HasPieces, IsList, FitsVal, FitsVals, FitsElems, weigh_val, weigh_vals, weigh_elems}
 use Rattle.defmt_values.specs.Scan.{◌>>=◌, test, uint_cause, int_cause, flag_cause, char_cause, str_cause, istr_cause, bytes_cause, bits_cause, node_cause, list_cause, count_cause, interned_of, form_in, form_of, form_at, pick, there, add, list_form, no_index, node_places, index_or, end_of, scan_val, scan_vals, scan_elems}
-use Rattle.defmt_values.specs.Entries.{look, is_format, is_interned, variant_at, Place, places_of, places_from}
+use Rattle.defmt_values.specs.Entries.{look, is_format, variant_at, Place, places_of}
 use Rattle.defmt_grammar.specs.Sizes.{size_bits, is_signed, IsSigned}
-use Rattle.defmt_values.proofs.Forms.{form_there, pieces_there, places_are, adds}
+use Rattle.defmt_values.proofs.Forms.{places_are}
 use Rattle.defmt_grammar.specs.declared.piece.Piece.{Piece}
 use Rattle.defmt_grammar.specs.declared.slot.Slot.{Slot}
 use Rattle.defmt_grammar.specs.declared.slot.Slot.TheVariants as slots
@@ -14,8 +14,6 @@ use Rattle.defmt_grammar.specs.declared.kind.Kind.TheVariants as kinds
 use Rattle.defmt_intern.specs.Body.{body_of}
 use Rattle.defmt_intern.specs.Table.{Map}
 use Rattle.defmt_intern.specs.declared.entry.Entry.{Entry}
-use Rattle.defmt_intern.specs.declared.entry.Tag.{Tag}
-use Rattle.defmt_intern.specs.declared.entry.Tag.TheVariants as tags
 use Rattle.defmt_intern.specs.declared.parsed.Parsed.{Parsed}
 use Rattle.defmt_intern.specs.declared.parsed.Parsed.TheVariants.{Unsupported, Raw, One, Variants}
 

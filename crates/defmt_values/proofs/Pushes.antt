@@ -1,13 +1,12 @@
 -- What the list types show of the values that they hold.
-use Rattle.std.proofs.Common.{ℕ, zero, suc, Option, Some, None, ◌+◌, ◌==◌, length, arith, sym, ◌∙◌, ◌≡◌, List, [], ◌∷◌, ◌++◌, map, refl, ap}
+use Rattle.std.proofs.Common.{ℕ, zero, suc, Option, Some, None, ◌==◌, length, arith, sym, ◌∙◌, ◌≡◌, List, [], ◌∷◌, ◌++◌, map, refl, ap}
 use Rattle.std.specs.Borrow.{Bor}
 use Rattle.std.specs.List.{slice_get}
 use Rattle.std.specs.Option.{option_copied, option_map}
-use Rattle.defmt_values.specs.Plain.{Val, Vals, vals_get, val, snoc, Elems, elem, snoc_elem, elems_len, elems_empty, vals_len, vals_empty}
+use Rattle.defmt_values.specs.Plain.{Vals, vals_get, val, snoc, elem, snoc_elem, elems_len, elems_empty, vals_len, vals_empty}
 use Rattle.defmt_values.specs.View.{plain, vals_of, elems_of}
 use Rattle.defmt_values.specs.declared.value.Value.{Value}
 use Rattle.defmt_values.specs.declared.value.Item.{Item}
-use Rattle.std.proofs.lemmas.Grind.{common_steps}
 use Rattle.std.proofs.lemmas.Bool.Decides.{nat_tests}
 
 pub vals_push : (vs : List Value) (v : Value) → vals_of (map plain (vs ++ v ∷ [])) ≡ snoc (vals_of (map plain vs)) (plain v)

@@ -1,5 +1,5 @@
 -- Scans of lists, one step at a time.
-use Rattle.std.proofs.Common.{◌≡◌, ◌<◌, ◌≤◌, ◌⊎◌, inl, inr, ℕ, ◌+◌, ◌-◌, ◌*◌, ◌^◌, nat_le, Bool, true, false, min, List, [], ◌∷◌, length, map, Result, Ok, Err, refl, sym, subst, arith, Some, None}
+use Rattle.std.proofs.Common.{◌≡◌, ◌<◌, ◌≤◌, ℕ, ◌+◌, ◌-◌, ◌*◌, ◌^◌, nat_le, Bool, true, false, min, List, [], ◌∷◌, length, map, Ok, Err, refl, subst, arith}
 use Rattle.std.proofs.lemmas.Bool.{leb-true, leb-false, lt-leb}
 use Rattle.defmt_grammar.specs.Slots.{uses_at}
 use Rattle.defmt_grammar.specs.declared.piece.Piece.{Piece}

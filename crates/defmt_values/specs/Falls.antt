@@ -1,5 +1,5 @@
 -- A list inside a value is smaller than the list that the value stands in.
-use Rattle.std.specs.Prelude.{◌≤◌, ◌+◌, max, List, [], ◌∷◌, map}
+use Rattle.std.specs.Prelude.{◌≤◌, max, List, [], ◌∷◌, map}
 use Rattle.std.proofs.Common.{arith}
 use denote.Param.Weighed.{most}
 use Rattle.defmt_values.specs.Plain.{val_size, vals_size, elems_size}
