@@ -1,4 +1,5 @@
 mod Bytes
 mod Deciding
+mod InFrames
 mod Sending
 mod Stamps

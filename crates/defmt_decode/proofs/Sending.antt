@@ -50,7 +50,7 @@ sent_line t s sent = only t (code_of t s) (line_of t s) (sent_event t s sent)
 
 -- ---- many
 
-sent_codes : (t : Map) (sent : List Sent) → AreCodes (map (code_of t) sent)
+pub sent_codes : (t : Map) (sent : List Sent) → AreCodes (map (code_of t) sent)
 sent_codes t [] = tt
 sent_codes t (s ∷ sent) = (code_none t s, code_some t s, sent_codes t sent)
 
@@ -76,12 +76,12 @@ lines_by t place at (s ∷ sent) are =
 
 -- ---- streams
 
-front_is : (t : Map) (bytes : List ℕ) → cut_off (of_front (tells t)) bytes ≡ front_event bytes
+pub front_is : (t : Map) (bytes : List ℕ) → cut_off (of_front (tells t)) bytes ≡ front_event bytes
 unfolding of_front tells
 front_is t [] = refl
 front_is t (b ∷ bytes) = refl
 
-tail_is : (t : Map) (bytes : List ℕ) → cut_off (of_tail (tells t)) bytes ≡ tail_event bytes
+pub tail_is : (t : Map) (bytes : List ℕ) → cut_off (of_tail (tells t)) bytes ≡ tail_event bytes
 unfolding of_tail tells
 tail_is t [] = refl
 tail_is t (b ∷ bytes) = refl

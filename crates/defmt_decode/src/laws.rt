@@ -1,6 +1,6 @@
 //! What holds of the events of streams.
 
-ghost use Rattle.std.specs.Prelude.{◌≡◌, ◌<◌, ◌≤◌, ◌++◌, ◌∷◌, [], List, ℕ, length, map, take, drop, false, All};
+ghost use Rattle.std.specs.Prelude.{◌≡◌, ◌<◌, ◌≤◌, ◌+◌, ◌++◌, ◌∷◌, [], List, ℕ, length, map, take, drop, false, All};
 ghost use Rattle.defmt_framing.specs.Calls.{Calls};
 ghost use Rattle.defmt_framing.specs.Cut.{has_zero, front, pieces, tail};
 ghost use Rattle.defmt_framing.specs.Framing.{Framing, Stands};
@@ -79,4 +79,35 @@ pub fn without_end()
     ensures { (t : Map) (place : ℕ) (sent : List Sent) → AreSent t sent
         → let left = take place (stream_of t sent) in
         events_of t left ≡ map (line_of t) (sent_by t place 0 sent) ++ tail_event (tail left) }
+{}
+
+/// A stream of frames that is cut between two frames, or at one of its ends: behind the cut stand the frames that begin
+/// at or after it, and give their lines, and in front of it those that end at or before it, and give theirs.
+pub fn cut_between_frames()
+    ensures rest { (t : Map) (before after : List Sent) → AreSent t (before ++ after)
+        → events_of t (drop (length (stream_of t before)) (stream_of t (before ++ after))) ≡ map (line_of t) after }
+    ensures start { (t : Map) (before after : List Sent) → AreSent t (before ++ after)
+        → events_of t (take (length (stream_of t before)) (stream_of t (before ++ after))) ≡ map (line_of t) before }
+    ensures from { (t : Map) (before after : List Sent)
+        → sent_from t (length (stream_of t before)) 0 (before ++ after) ≡ after }
+    ensures by { (t : Map) (before after : List Sent)
+        → sent_by t (length (stream_of t before)) 0 (before ++ after) ≡ before }
+{}
+
+/// A stream of frames that is cut within one of them, `n` bytes into its code. Behind the cut what is left of the code gives
+/// a cut front, where something is left, and the frames behind that one give their lines. In front of the cut the frames
+/// before that one give their lines, and the first `n` bytes of the code a cut tail, where `n` isn't 0.
+pub fn cut_within_a_frame()
+    ensures rest { (t : Map) (n : ℕ) (before after : List Sent) (s : Sent)
+        → AreSent t (before ++ s ∷ after) → n ≤ length (code_of t s)
+        → events_of t (drop (length (stream_of t before) + 1 + n) (stream_of t (before ++ s ∷ after)))
+        ≡ front_event (drop n (code_of t s)) ++ map (line_of t) after }
+    ensures start { (t : Map) (n : ℕ) (before after : List Sent) (s : Sent)
+        → AreSent t (before ++ s ∷ after) → n ≤ length (code_of t s)
+        → events_of t (take (length (stream_of t before) + 1 + n) (stream_of t (before ++ s ∷ after)))
+        ≡ map (line_of t) before ++ tail_event (take n (code_of t s)) }
+    ensures from { (t : Map) (n : ℕ) (before after : List Sent) (s : Sent) → n ≤ length (code_of t s)
+        → sent_from t (length (stream_of t before) + 1 + n) 0 (before ++ s ∷ after) ≡ after }
+    ensures by { (t : Map) (n : ℕ) (before after : List Sent) (s : Sent) → n ≤ length (code_of t s)
+        → sent_by t (length (stream_of t before) + 1 + n) 0 (before ++ s ∷ after) ≡ before }
 {}

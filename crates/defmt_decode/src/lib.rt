@@ -17,6 +17,6 @@ mod tests;
 pub use event::{Event, Events};
 pub use host::Host;
 pub use laws::{
-    any_cutting, events_by_parts, frames_read_back, intact_frames, one_event, without_end,
-    without_front,
+    any_cutting, cut_between_frames, cut_within_a_frame, events_by_parts, frames_read_back,
+    intact_frames, one_event, without_end, without_front,
 };

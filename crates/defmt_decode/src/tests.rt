@@ -67,6 +67,20 @@ fn told(alloc: Global, entries: &[(&str, &str)], stream: &[u8]) -> Result<String
 
 const HELLO: [(&str, &str); 1] = [("defmt_info", "hello")];
 
+const FLAGS: [(&str, &str); 1] = [("defmt_bitflags", "x")];
+
+const WIDE: [(&str, &str); 1] = [("defmt_info", "{=u128}")];
+
+const TRUTH: [(&str, &str); 1] = [("defmt_info", "{=bool}")];
+
+const LETTER: [(&str, &str); 1] = [("defmt_info", "{=char}")];
+
+const TEXT: [(&str, &str); 1] = [("defmt_info", "{=str}")];
+
+const CHOICE: [(&str, &str); 2] = [("defmt_info", "{=?}"), ("defmt_prim", "a|b")];
+
+const NESTED: [(&str, &str); 2] = [("defmt_info", "{=?}"), ("defmt_prim", "{=?}")];
+
 #[test]
 fn parts_are_told_in_their_order(rt: HostRuntime) -> Result<(), Fail> {
     let alloc = rt.alloc();
@@ -101,20 +115,54 @@ fn a_host_goes_on_behind_a_fault(rt: HostRuntime) -> Result<(), Fail> {
 }
 
 #[test]
-fn pieces_that_are_no_message_are_refused(rt: HostRuntime) -> Result<(), Fail> {
+fn each_fault_of_a_piece_is_told_by_its_number(rt: HostRuntime) -> Result<(), Fail> {
     let alloc = rt.alloc();
-    let stream = [
-        0, 1, 0x7f, 0, 0x7f, 0, 0x41, 0x7e, 0, 1, 5, 0x7a, 0, 1, 0x7e, 0x7f, 0,
-    ];
-    assert_eq!(rt;
-        told(alloc, &HELLO, &stream)?.as_str(),
-        "E1; E2; E2; E11; E11; "
-    );
-    let nested = [("defmt_info", "{=?}"), ("defmt_prim", "{=?}")];
     let deep = [
-        0, 1, 2, 2, 2, 0x2a, 2, 2, 2, 0x55, 2, 2, 2, 2, 0x2a, 2, 2, 2, 0x55, 2, 2, 2, 0x6a, 0,
+        1, 2, 2, 2, 0x2a, 2, 2, 2, 0x55, 2, 2, 2, 2, 0x2a, 2, 2, 2, 0x55, 2, 2, 2, 0x6a,
     ];
-    assert_eq!(rt; told(alloc, &nested, &deep)?.as_str(), "E10; ");
+    for (entries, piece, event) in [
+        (HELLO.as_slice(), [1u8, 0x7f].as_slice(), "E1; "),
+        (HELLO.as_slice(), [0x7f].as_slice(), "E2; "),
+        (HELLO.as_slice(), [0x41, 0x7e].as_slice(), "E2; "),
+        (HELLO.as_slice(), [1, 5, 0x7a].as_slice(), "E11; "),
+        (HELLO.as_slice(), [1, 0x7e, 0x7f].as_slice(), "E11; "),
+        (FLAGS.as_slice(), [1, 0x7e].as_slice(), "E4; "),
+        (WIDE.as_slice(), [1, 0x7e].as_slice(), "E5; "),
+        (TRUTH.as_slice(), [1, 2, 0x7a].as_slice(), "E6; "),
+        (LETTER.as_slice(), [1, 0xd8, 0x76].as_slice(), "E7; "),
+        (TEXT.as_slice(), [1, 1, 0xff, 0x3a].as_slice(), "E8; "),
+        (CHOICE.as_slice(), [1, 2, 2, 0x6a].as_slice(), "E9; "),
+        (NESTED.as_slice(), deep.as_slice(), "E10; "),
+    ] {
+        let mut stream = vec![in alloc; 0u8; 1]?;
+        stream.extend_from_slice(piece)?;
+        stream.push(0)?;
+        assert_eq!(rt; told(alloc, entries, &stream)?.as_str(), event);
+    }
+    Ok(())
+}
+
+#[test]
+fn a_stream_cut_at_any_place_loses_the_frame_that_the_cut_falls_in(
+    rt: HostRuntime,
+) -> Result<(), Fail> {
+    let alloc = rt.alloc();
+    let stream = [0, 1, 0x7e, 0, 0, 1, 0x7e, 0];
+    for (place, rest, start) in [
+        (0, "1: INFO  hello; 1: INFO  hello; ", ""),
+        (1, "front 2; 1: INFO  hello; ", ""),
+        (2, "front 1; 1: INFO  hello; ", "tail 1; "),
+        (3, "1: INFO  hello; ", "tail 2; "),
+        (4, "1: INFO  hello; ", "1: INFO  hello; "),
+        (5, "front 2; ", "1: INFO  hello; "),
+        (6, "front 1; ", "1: INFO  hello; tail 1; "),
+        (7, "", "1: INFO  hello; tail 2; "),
+        (8, "", "1: INFO  hello; 1: INFO  hello; "),
+    ] {
+        let (front, behind) = stream.split_at(place);
+        assert_eq!(rt; told(alloc, &HELLO, behind)?.as_str(), rest);
+        assert_eq!(rt; told(alloc, &HELLO, front)?.as_str(), start);
+    }
     Ok(())
 }
 

@@ -101,7 +101,7 @@ fn front_of(
     };
     push_space(&mut out, at)?;
     out.push_str(level)?;
-    out.push_str(" ")?;
+    out.push(' ')?;
     Ok(out)
 }
 

@@ -12,6 +12,7 @@ pub mod MetBack
 pub mod MetFound
 pub mod Most
 pub mod Numbers
+pub mod Own
 pub mod Puts
 pub mod ReadsBack
 pub mod Signed

@@ -218,6 +218,10 @@ abbrev pub one_in : Parsed → Read (List Piece)
 one_in (One ps) = Ok ps
 one_in body = Err causes.Unsupported
 
+-- the values of a text whose only argument is an unsigned number
+abbrev pub only_at : IntSize → List ℕ → Read (Vals × ℕ × List ℕ)
+only_at size bytes = number_at (size_bytes size) bytes ⇒ λ r. Ok (val (uint r.0) no_vals, 0, r.1)
+
 abbrev pub logged_of : Option Entry → Read (List Piece)
 logged_of None = Err causes.NoEntry
 logged_of (Some e) = suited (is_logged e.tag) e.tag ⇒ λ _. one_in (body_of e)

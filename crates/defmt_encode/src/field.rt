@@ -23,6 +23,7 @@ pub fn chunk(bytes: &[u8], count: usize) -> Result<(&[u8], &[u8]), Cause>
 }
 
 // The number in the first bytes.
+#[inline(always)]
 fn low_first(bytes: &[u8], width: usize) -> u128
     requires { (0 < width) × (width ≤ 16) × (width ≤ length bytes.now) }
     ensures { result ≡ little_number width bytes.now }
@@ -37,6 +38,7 @@ fn low_first(bytes: &[u8], width: usize) -> u128
 }
 
 // A number of so many bytes, and those behind it.
+#[inline(always)]
 pub fn number(bytes: &[u8], width: u8) -> Result<(u128, &[u8]), Cause>
     requires { width ≤ 16 }
     ensures value { pair_now result ≡ number_at width bytes.now }

@@ -11,7 +11,7 @@ ghost use Rattle.defmt_encode.specs.Stamp.{stamp_of};
 
 use crate::cause::{Cause, Fault};
 use crate::field::index;
-use crate::read::{read_into, suited};
+use crate::read::{read_own, suited};
 use crate::writing::stamp_index;
 use defmt_grammar::Pieces;
 use defmt_intern::{Parsed, Table, Tag};
@@ -110,7 +110,7 @@ fn read_stamp<'b>(
         }
         Some(index) => {
             let pieces = stamp_form(table, index)?;
-            let (_, rest) = read_into(alloc, table, pieces, 16, 1, 0, bytes, stamp)?;
+            let (_, rest) = read_own(alloc, table, pieces, bytes, stamp)?;
             Ok(rest)
         }
     }
@@ -137,7 +137,7 @@ fn read_whole(alloc: Global, table: &Table, bytes: &[u8], heard: &mut Heard) -> 
     let (index, rest) = index(bytes)?;
     let pieces = logged(table, index)?;
     let rest = read_stamp(alloc, table, rest, &mut heard.stamp)?;
-    let (_, rest) = read_into(alloc, table, pieces, 16, 1, 0, rest, &mut heard.stm.args)?;
+    let (_, rest) = read_own(alloc, table, pieces, rest, &mut heard.stm.args)?;
     if !is_padding(rest) {
         return Err(Fault::Bad(Cause::Trailing));
     }

@@ -1,8 +1,10 @@
 //! Values read from the bytes of a message.
-ghost use Rattle.std.specs.Prelude.{◌≡◌, ◌≤◌, ◌<◌, ◌+◌, ◌^◌, ◌*◌, IfOk, ℕ};
+ghost use Rattle.std.specs.Prelude.{◌≡◌, ◌≤◌, ◌<◌, ◌+◌, ◌^◌, ◌*◌, [], ◌∷◌, IfOk, IfSome, ℕ};
 ghost use Rattle.defmt_grammar.specs.Slots.{IsSound};
+ghost use Rattle.defmt_grammar.specs.declared.kind.Kind.TheVariants.{Uint};
+ghost use Rattle.defmt_grammar.specs.declared.slot.Slot.TheVariants.{One};
 ghost use Rattle.defmt_values.specs.Entries.{look, is_format, is_interned, places_of};
-ghost use Rattle.defmt_encode.specs.Read.{suited, interned_of, istr_at, form_in, form_of, add, variant_of, uint_at, int_at, flag_at, char_at, str_at, slice_at, array_at, window_at, each_at, elem_at, elems_at, node_at, list_at, some_at, slot_at, value_at, below};
+ghost use Rattle.defmt_encode.specs.Read.{suited, interned_of, istr_at, form_in, form_of, add, variant_of, uint_at, int_at, flag_at, char_at, str_at, slice_at, array_at, window_at, only_at, each_at, elem_at, elems_at, node_at, list_at, some_at, slot_at, value_at, below};
 ghost use Rattle.defmt_encode.specs.Reads.{now_of, variant_now, ReadsVal, ReadsVals, ReadsElem, ReadsElems, SumSmall, with_vals};
 
 use crate::cause::{Cause, Fault};
@@ -347,7 +349,7 @@ fn read_list<'b>(
 
 // The values of a text's arguments, in a text that has this weight, read into a list in place of what it had.
 #[cycle(read)]
-pub fn read_into<'b>(
+fn read_into<'b>(
     alloc: Global,
     table: &Table,
     pieces: &Pieces,
@@ -457,4 +459,57 @@ fn read_item<'b>(
     let (variant, pieces, rest) = variant_of(form, bytes)?;
     let (args, sum, rest) = read_args(alloc, table, pieces, left, weight, sum, rest)?;
     Ok((Item { variant, args }, sum, rest))
+}
+
+// The size of an unsigned number.
+fn uint_size(slot: Slot) -> Option<IntSize>
+    ensures { IfSome result (λ size. slot ≡ One (Uint size)) }
+{
+    match slot {
+        Slot::One(Kind::Uint(size)) => Some(size),
+        _ => None,
+    }
+}
+
+// The size of the only argument, where that is an unsigned number.
+fn only_uint(slots: &[Slot]) -> Option<IntSize>
+    ensures { IfSome result (λ size. slots.now ≡ One (Uint size) ∷ []) }
+{
+    let Some((slot, others)) = cut(slots) else {
+        return None;
+    };
+    let Some(size) = uint_size(*slot) else {
+        return None;
+    };
+    match cut(others) {
+        None => Some(size),
+        Some(_) => None,
+    }
+}
+
+// The value of the only argument, an unsigned number.
+fn read_only<'b>(size: IntSize, bytes: &'b [u8], args: &mut Args) -> Result<(u128, &'b [u8]), Fault>
+    ensures { ReadsVals (with_vals args.new result) (only_at size bytes.now) }
+{
+    let (n, rest) = number(bytes, size_bytes(size))?;
+    args.clear();
+    args.push(Value::Uint(n))?;
+    Ok((0, rest))
+}
+
+// The values of the arguments of an entry's own text, read into a list in place of what it had. Most
+// stamps, and many statements, have one unsigned number, which is read without a walk over slots.
+pub fn read_own<'b>(
+    alloc: Global,
+    table: &Table,
+    pieces: &Pieces,
+    bytes: &'b [u8],
+    args: &mut Args,
+) -> Result<(u128, &'b [u8]), Fault>
+    ensures { ReadsVals (with_vals args.new result) (each_at (value_at table.now 16) (places_of pieces.now) 1 0 bytes.now) }
+{
+    match only_uint(pieces.slots()) {
+        Some(size) => read_only(size, bytes, args),
+        None => read_into(alloc, table, pieces, 16, 1, 0, bytes, args),
+    }
 }
