@@ -155,6 +155,13 @@ impl Table {
         ensures { MatchOption result (map.get self.now index ≡ None)
             (λ p. (map.get self.now index ≡ Some p.0.now) × (p.1.now ≡ body_of p.0.now)) }
     {
+        // The entry at the greatest index is found without a search: that is where a script's timestamp stands, which
+        // each statement asks for.
+        if let Some((last, kept)) = self.entries.last_key_value()
+            && *last == index
+        {
+            return Some((&kept.entry, &kept.parsed));
+        }
         match self.entries.get(&index) {
             Some(kept) => Some((&kept.entry, &kept.parsed)),
             None => None,
