@@ -1,2 +1,3 @@
+mod Capture
 pub mod Ends
 pub mod Sends

@@ -1,5 +1,5 @@
 // The reader.
-ghost use Rattle.std.specs.Prelude.{◌≡◌, ◌+◌, ◌≤◌, true, [], ◌++◌, length, take, IfOk};
+ghost use Rattle.std.specs.Prelude.{◌≡◌, ◌+◌, ◌≤◌, true, [], length, IfOk};
 
 use crate::gate::Gate;
 use defmt_logger::Naming;
@@ -25,6 +25,35 @@ impl Relief for Yields {
     }
 }
 
+// Takes bytes into the buffer, and captures them.
+fn take_into<D: DownEnd>(down: &mut D, capture: &mut Bytes, buffer: &mut [u8]) -> usize
+    requires room { length buffer.old ≤ capture.old.room }
+    requires got { (D.view down.old).got ≡ capture.old.items }
+    ensures split { (D.view down.new).split ≡ (D.view down.old).split }
+    ensures got { (D.view down.new).got ≡ capture.new.items }
+    ensures room { capture.new.room + result ≡ capture.old.room }
+{
+    let count = down.take(buffer);
+    capture.extend_reserved(&buffer[..count]);
+    count
+}
+
+// Takes bytes that are there, as far as the capture has room for them, and tells the gate.
+pub fn take<D: DownEnd, G: Gate>(down: &mut D, capture: &mut Bytes, gate: &G) -> usize
+    requires got { (D.view down.old).got ≡ capture.old.items }
+    ensures split { (D.view down.new).split ≡ (D.view down.old).split }
+    ensures got { (D.view down.new).got ≡ capture.new.items }
+    ensures room { capture.new.room + result ≡ capture.old.room }
+{
+    let mut buffer = [0; PIECE];
+    let size = capture.spare().min(PIECE);
+    let count = take_into(down, capture, &mut buffer[..size]);
+    if count > 0 {
+        gate.took(capture.len() as u64);
+    }
+    count
+}
+
 // The lower end of the ring, with what was captured of it. A late reader captures nothing.
 #[derive(Drop)]
 pub struct Drain<K: Naming, D: DownEnd> {
@@ -36,19 +65,6 @@ pub struct Drain<K: Naming, D: DownEnd> {
     ghost got: { (D.view down).got ≡ captured.items },
     ghost late_is: { late ≡ K.script.settings.late },
     ghost idle: { late ≡ true → captured.items ≡ [] },
-}
-
-// Takes bytes into the buffer, and captures them.
-fn capture<D: DownEnd>(down: &mut D, captured: &mut Bytes, buffer: &mut [u8]) -> usize
-    requires room { length buffer.old ≤ captured.old.room }
-    requires got { (D.view down.old).got ≡ captured.old.items }
-    ensures split { (D.view down.new).split ≡ (D.view down.old).split }
-    ensures got { (D.view down.new).got ≡ captured.new.items }
-    ensures room { captured.new.room + result ≡ captured.old.room }
-{
-    let count = down.take(buffer);
-    captured.extend_reserved(&buffer[..count]);
-    count
 }
 
 impl<K: Naming, D: DownEnd> Drain<K, D> {
@@ -89,31 +105,11 @@ impl<K: Naming, D: DownEnd> Drain<K, D> {
         if *late {
             return 0;
         }
-        let mut buffer = [0; PIECE];
-        let size = captured.spare().min(PIECE);
-        let count = capture(down, captured, &mut buffer[..size]);
-        if count > 0 {
-            gate.took(captured.len() as u64);
-        }
-        count
+        take(down, captured, gate)
     }
 
     // Takes until nothing is there, or there is no room.
     pub(crate) fn take_all<G: Gate>(&mut self, gate: &G) {
         while self.take(gate) > 0 {}
-    }
-}
-
-// A reader that reads while its own thread logs.
-pub struct Reading<'g, K: Naming, D: DownEnd, G: Gate> {
-    pub(crate) drain: Drain<K, D>,
-    pub(crate) gate: &'g G,
-}
-
-impl<'g, K: Naming, D: DownEnd, G: Gate> Relief for Reading<'g, K, D, G> {
-    ghost kept = { λ _. Unit {0} };
-
-    fn ease(&mut self) {
-        self.drain.take(self.gate);
     }
 }

@@ -2,15 +2,18 @@
 //!
 //! [`run_script`] splits a ring, starts a logger over its upper end, and lends each writer's pen to a thread that logs the
 //! writer's statements. The calling thread reads at the lower end meanwhile, logs what is left, and settles the ring.
+//! [`serve_here`] logs what one pen has left on the calling thread, which reads meanwhile.
 #![tactic(auto)]
 
 mod drain;
 mod gate;
 mod script_run;
+mod serving;
 mod writers;
 
 pub use gate::{Gate, OpenGate};
 pub use script_run::{Run, run_script};
+pub use serving::serve_here;
 
 #[cfg(test)]
 mod tests;

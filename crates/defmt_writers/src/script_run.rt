@@ -1,17 +1,21 @@
 // How a run goes.
-ghost use Rattle.std.specs.Prelude.{◌≡◌, IfOk, slice_index_or, length};
+ghost use Rattle.std.specs.Prelude.{◌≡◌, ◌≤◌, List, IfOk, length};
 ghost use Rattle.defmt_logger.specs.Kept.{IsClockOf, TellsIn};
+ghost use Rattle.defmt_logger.specs.Tape.{IsLawful, stream_of};
+ghost use Rattle.defmt_logger.specs.declared.mark.Mark.{Mark};
 ghost use Rattle.defmt_writers.specs.Runs.{IsRun, ModeFits};
 ghost use Rattle.rtt_ring.specs.Views.{new_down, new_up};
 
-use crate::drain::{Drain, Reading};
+use crate::drain::{Drain, Yields};
 use crate::gate::Gate;
+use crate::serving::serve_here;
 use crate::writers::{work, write};
 use defmt_hooks::Clock;
-use defmt_logger::{Eight, Logger, Naming, Pens, Tape};
+use defmt_logger::{Books, Eight, Logger, Naming, Pen, Pens, Seat, Tape};
 use defmt_script::Script;
 use dl_io::{Bytes, Memory};
-use rtt_ring::{Channel, DownEnd, RingFault, Settled, UpEnd};
+use rtt_ring::{Channel, RingFault, Settled, UpEnd};
+use rzcobs_core::canonical_size;
 use std::alloc::Global;
 use std::marker::Brand;
 use std::sync::Wait;
@@ -38,17 +42,56 @@ pub struct Run {
     pub looks: u64,
 }
 
-// How many bytes the frames of all statements have at most.
-fn frames_size(script: &Script) -> usize {
-    let mut size = 0usize;
+// How many bytes are enough for the stream of any tape of the script: as many as the largest frames of all its statements have.
+#[tactic(auto, using(crate::proofs::Capture::count_next, crate::proofs::Capture::count_part))]
+fn frames_size(script: &Script) -> usize
+    ensures { (tape : List Mark) → IsLawful script.now tape → length (stream_of script.now tape) ≤ result }
+{
+    script.lawful();
+    canonical_size();
+    let mut count = 0;
     for writer in 0..8u8 {
-        size = size.saturating_add((script.count(writer) as usize).saturating_mul(FRAME_SIZE));
+        count += script.count(writer);
     }
-    size
+    count as usize * FRAME_SIZE
 }
 
-// Logs the statements that the pens have left, with a relief that reads.
+// Logs the statements that a pen has left. A live reader reads meanwhile, and a late one takes nothing.
+fn finish_pen<
+    H: Channel,
+    B: Books,
+    K: Naming,
+    C: Clock,
+    S: Seat<B, L>,
+    L: Ledger,
+    G: Gate,
+    R: Wait,
+>(
+    rt: &R,
+    logger: &Logger<B, K, H::Up, C>,
+    pen: &mut Pen<S, L, K>,
+    gate: &G,
+    drain: &mut Drain<K, H::Down>,
+)
+    ensures place { pen.new.place ≡ pen.new.total }
+{
+    let count = pen.total();
+    let Drain {
+        down,
+        captured,
+        late,
+        of: _,
+    } = drain;
+    if *late {
+        write(rt, logger, count, pen, gate, &mut Yields);
+        return;
+    }
+    serve_here::<H, B, K, C, S, L, G, R>(rt, logger, count, pen, down, captured, gate);
+}
+
+// Logs the statements that the pens have left.
 fn finish<
+    H: Channel,
     L0: Ledger + Send + Sync,
     L1: Ledger + Send + Sync,
     L2: Ledger + Send + Sync,
@@ -58,17 +101,15 @@ fn finish<
     L6: Ledger + Send + Sync,
     L7: Ledger + Send + Sync,
     K: Naming,
-    U: UpEnd,
     C: Clock,
-    D: DownEnd,
     G: Gate,
     R: Wait,
 >(
     rt: &R,
-    logger: &Logger<Eight<L0, L1, L2, L3, L4, L5, L6, L7>, K, U, C>,
+    logger: &Logger<Eight<L0, L1, L2, L3, L4, L5, L6, L7>, K, H::Up, C>,
     pens: &mut Pens<L0, L1, L2, L3, L4, L5, L6, L7, K>,
     gate: &G,
-    reading: &mut Reading<K, D, G>,
+    drain: &mut Drain<K, H::Down>,
 )
     ensures p0 { pens.new.p0.place ≡ pens.new.p0.total }
     ensures p1 { pens.new.p1.place ≡ pens.new.p1.total }
@@ -79,14 +120,14 @@ fn finish<
     ensures p6 { pens.new.p6.place ≡ pens.new.p6.total }
     ensures p7 { pens.new.p7.place ≡ pens.new.p7.total }
 {
-    write(rt, logger, &mut pens.p0, gate, reading);
-    write(rt, logger, &mut pens.p1, gate, reading);
-    write(rt, logger, &mut pens.p2, gate, reading);
-    write(rt, logger, &mut pens.p3, gate, reading);
-    write(rt, logger, &mut pens.p4, gate, reading);
-    write(rt, logger, &mut pens.p5, gate, reading);
-    write(rt, logger, &mut pens.p6, gate, reading);
-    write(rt, logger, &mut pens.p7, gate, reading);
+    finish_pen::<H, _, _, _, _, _, _, _>(rt, logger, &mut pens.p0, gate, drain);
+    finish_pen::<H, _, _, _, _, _, _, _>(rt, logger, &mut pens.p1, gate, drain);
+    finish_pen::<H, _, _, _, _, _, _, _>(rt, logger, &mut pens.p2, gate, drain);
+    finish_pen::<H, _, _, _, _, _, _, _>(rt, logger, &mut pens.p3, gate, drain);
+    finish_pen::<H, _, _, _, _, _, _, _>(rt, logger, &mut pens.p4, gate, drain);
+    finish_pen::<H, _, _, _, _, _, _, _>(rt, logger, &mut pens.p5, gate, drain);
+    finish_pen::<H, _, _, _, _, _, _, _>(rt, logger, &mut pens.p6, gate, drain);
+    finish_pen::<H, _, _, _, _, _, _, _>(rt, logger, &mut pens.p7, gate, drain);
 }
 
 // Runs a script over the two ends of one split, under their names.
@@ -144,10 +185,8 @@ fn run_named<
         alloc, blank0, blank1, blank2, blank3, blank4, blank5, blank6, blank7, script, clock, up,
     )?;
     let drain = Drain::<K, H::Down>::new(alloc, down, late, room)?;
-    let drain = work(rt, &logger, &mut pens, gate, drain);
-    let mut reading = Reading { drain, gate };
-    finish(rt, &logger, &mut pens, gate, &mut reading);
-    let Reading { mut drain, gate: _ } = reading;
+    let mut drain = work(rt, &logger, &mut pens, gate, drain);
+    finish::<H, _, _, _, _, _, _, _, _, _, _, _, _>(rt, &logger, &mut pens, gate, &mut drain);
     drain.take_all(gate);
     let (tape, up, script) = logger.close(pens);
     let looks = up.looks();
@@ -173,7 +212,8 @@ fn run_named<
 ///
 /// The clock counts by the script's stamps, and by 0 and 0 without them. In skip and trim mode the ring tells how many bytes
 /// were released. The gate is asked before each statement is logged, and told of each take that took something. A late reader
-/// takes nothing. A writer whose thread couldn't be started is run by the calling thread. The call waits for its threads.
+/// takes nothing. A writer whose thread couldn't be started is run by the calling thread, with a live reader by [`serve_here`].
+/// The call waits for its threads.
 ///
 /// # Errors
 /// `Memory` where there is none.

@@ -1,16 +1,21 @@
 // Scripts that are run by threads, under gates that hold some of them.
-ghost use Rattle.std.specs.Prelude.{◌^◌, ◌<◌, length};
+ghost use Rattle.std.specs.Prelude.{◌≡◌, ◌^◌, ◌<◌, length};
+ghost use Rattle.defmt_logger.specs.Kept.{IsClockOf, TellsIn};
+ghost use Rattle.rtt_ring.specs.Views.{new_down, new_up};
 
-use crate::{Gate, OpenGate, Run, run_script};
-use defmt_hooks::Stamp;
-use defmt_logger::Mark;
-use defmt_script::{RingMode, read};
+use crate::{Gate, OpenGate, Run, run_script, serve_here};
+use defmt_hooks::{Clock, Stamp};
+use defmt_logger::{Eight, Logger, Mark, Naming};
+use defmt_script::{RingMode, Script, read};
+use dl_io::Bytes;
 use rtt_modes::Fate;
-use rtt_ring::{QueueRing, RingKind, WordRing};
+use rtt_ring::{Channel, QueueRing, RingKind, WordRing};
 use std::alloc::Global;
+use std::marker::Brand;
 use std::process::Abort;
 use std::sync::Wait;
 use std::sync::atomic::{AtomicU64, Ordering};
+use std::sync::ledger::{Blank, Ledger};
 use std::test::Fail;
 use std::thread;
 use std::thread::Threads;
@@ -236,5 +241,122 @@ fn a_script_without_lines_sends_nothing(rt: HostRuntime) -> Result<(), Fail> {
     let run = run_words(&rt, rt.alloc(), b"", &OpenGate)?;
     assert_eq!(rt; run.tape.len(), 0);
     assert_eq!(rt; run.settled.sent_len(), 0);
+    Ok(())
+}
+
+// Logs the statements of the writer 0 on this thread alone, with room for 64 bytes. Gives what was sent, what was captured in front.
+fn serve_alone<
+    H: Channel,
+    L0: Ledger,
+    L1: Ledger,
+    L2: Ledger,
+    L3: Ledger,
+    L4: Ledger,
+    L5: Ledger,
+    L6: Ledger,
+    L7: Ledger,
+    K: Naming,
+    C: Clock + Drop,
+    W: Wait,
+>(
+    rt: &W,
+    alloc: Global,
+    blank0: Blank,
+    blank1: Blank,
+    blank2: Blank,
+    blank3: Blank,
+    blank4: Blank,
+    blank5: Blank,
+    blank6: Blank,
+    blank7: Blank,
+    script: Script,
+    clock: C,
+    up: H::Up,
+    mut down: H::Down,
+) -> Result<Bytes, Fail>
+    requires clock { IsClockOf script.settings.stamp (C.base clock) (C.step clock) (C.ready clock) (C.gives clock) }
+    requires up { H.Up.view up ≡ new_up (H.Up.view up).split script.settings.ring (H.Up.view up).tells }
+    requires told { TellsIn script.settings.mode (H.Up.view up) }
+    requires down { H.Down.view down ≡ new_down (H.Up.view up).split script.settings.ring }
+    requires names { (K.script ≡ script) × (K.split ≡ (H.Up.view up).split) }
+    requires l0 { (blank0.name ≡ L0.name) × (blank0.parts ≡ L0.parts) × (blank0.parts ≡ 1) }
+    requires l1 { (blank1.name ≡ L1.name) × (blank1.parts ≡ L1.parts) × (blank1.parts ≡ 1) }
+    requires l2 { (blank2.name ≡ L2.name) × (blank2.parts ≡ L2.parts) × (blank2.parts ≡ 1) }
+    requires l3 { (blank3.name ≡ L3.name) × (blank3.parts ≡ L3.parts) × (blank3.parts ≡ 1) }
+    requires l4 { (blank4.name ≡ L4.name) × (blank4.parts ≡ L4.parts) × (blank4.parts ≡ 1) }
+    requires l5 { (blank5.name ≡ L5.name) × (blank5.parts ≡ L5.parts) × (blank5.parts ≡ 1) }
+    requires l6 { (blank6.name ≡ L6.name) × (blank6.parts ≡ L6.parts) × (blank6.parts ≡ 1) }
+    requires l7 { (blank7.name ≡ L7.name) × (blank7.parts ≡ L7.parts) × (blank7.parts ≡ 1) }
+{
+    let mut sent = Bytes::new(alloc);
+    sent.reserve(64)?;
+    let (logger, mut pens) = Logger::<Eight<L0, L1, L2, L3, L4, L5, L6, L7>, K, H::Up, C>::start(
+        alloc, blank0, blank1, blank2, blank3, blank4, blank5, blank6, blank7, script, clock, up,
+    )?;
+    let count = pens.p0.total();
+    serve_here::<H, _, _, _, _, _, _, _>(
+        rt,
+        &logger,
+        count,
+        &mut pens.p0,
+        &mut down,
+        &mut sent,
+        &OpenGate,
+    );
+    let (_, up, _) = logger.close(pens);
+    let mut rest = Bytes::new(alloc);
+    H::settle(up, down, &mut rest)?;
+    sent.extend_from_slice(rest.as_slice())?;
+    Ok(sent)
+}
+
+#[test]
+fn one_thread_serves_itself_where_a_frame_is_longer_than_the_ring(
+    rt: HostRuntime,
+) -> Result<(), Fail> {
+    let alloc = rt.alloc();
+    let script = read(
+        alloc,
+        b"ring 16\ns say defmt_info {=str}\nw 0 say \"abcdefghijklmnopqrstuvwxyzabcdefgh\"",
+    )?;
+    let (RingMode::Block, None) = (script.mode(), script.stamp()) else {
+        return Err(Fail::new("another mode, or stamps"));
+    };
+    let clock = Stamp::new(0, 0, |_: u32| 0u64);
+    let Ok((up, down)) = WordRing::split(alloc, script.ring()) else {
+        return Err(Fail::new("no ring"));
+    };
+    let sent = serve_alone::<
+        WordRing,
+        Brand,
+        Brand,
+        Brand,
+        Brand,
+        Brand,
+        Brand,
+        Brand,
+        Brand,
+        Brand,
+        _,
+        _,
+    >(
+        &rt,
+        alloc,
+        Blank::new(1),
+        Blank::new(1),
+        Blank::new(1),
+        Blank::new(1),
+        Blank::new(1),
+        Blank::new(1),
+        Blank::new(1),
+        Blank::new(1),
+        script,
+        clock,
+        up,
+        down,
+    )?;
+    assert_eq!(rt; sent.len(), 40);
+    assert!(rt; sent.as_slice().starts_with(&[0, 1, 0x22, 0x61, 0x3a]));
+    assert!(rt; sent.as_slice().ends_with(&[0x9a, 0]));
     Ok(())
 }

@@ -1,5 +1,6 @@
 // The writers' threads.
 ghost use Rattle.std.specs.Prelude.{◌≡◌, ◌≤◌};
+ghost use Rattle.defmt_logger.specs.Tape.{count as statements};
 
 use crate::drain::{Drain, Yields};
 use crate::gate::Gate;
@@ -13,7 +14,7 @@ use std::sync::ledger::Ledger;
 use std::thread;
 use std::thread::{Scope, Threads};
 
-// Logs the statements that the pen has left, and asks the gate before each.
+// Logs the statements that the pen has left of all that its writer has, and asks the gate before each.
 pub(crate) fn write<
     B: Books,
     K: Naming,
@@ -24,12 +25,13 @@ pub(crate) fn write<
     G: Gate,
     R: Relief,
     W: Wait,
->(rt: &W, logger: &Logger<B, K, U, C>, pen: &mut Pen<S, L, K>, gate: &G, relief: &mut R)
+>(rt: &W, logger: &Logger<B, K, U, C>, count: u32, pen: &mut Pen<S, L, K>, gate: &G, relief: &mut R)
+    requires count { count ≡ statements K.script S.NUMBER }
     requires relief { R.kept relief.old }
-    ensures place { pen.new.place ≡ pen.new.total }
+    ensures place { pen.new.place ≡ count }
     ensures relief { R.kept relief.new }
 {
-    while pen.place() < pen.total() {
+    while pen.place() < count {
         gate.pass(pen.writer(), pen.place());
         logger.log(rt, pen, relief);
     }
@@ -43,7 +45,7 @@ fn run_one<B: Books, K: Naming, U: UpEnd, C: Clock, S: Seat<B, L>, L: Ledger, G:
     gate: &G,
     done: &AtomicU64,
 ) {
-    write(rt, logger, pen, gate, &mut Yields);
+    write(rt, logger, pen.total(), pen, gate, &mut Yields);
     done.fetch_add(1, Ordering::SeqCst);
 }
 

@@ -1,0 +1,79 @@
+-- The frames of all statements of a script have at most so many bytes.
+use Rattle.std.proofs.Common.{◌≡◌, ℕ, zero, suc, ◌+◌, ◌*◌, ◌/◌, ◌≤◌, List, [], ◌∷◌, ◌++◌, Option, Some, None, length, length-append, take, refl, subst, arith}
+use Rattle.std.specs.Prelude.{slice_get, slice_index_or}
+use Rattle.std.proofs.Math.Nat.{mul-div-le}
+use Rattle.std.proofs.lemmas.List.{length-take, take_all}
+use Rattle.defmt_encode.specs.Carry.{message_of, stamp_args}
+use Rattle.defmt_logger.proofs.Frames.{sound_at}
+use Rattle.defmt_logger.proofs.Room.{tape_fits}
+use Rattle.defmt_logger.specs.Tape.{IsLawful, frame_at, frame_with, mark_frame, mark_part, stamp_in, statements_of, stream_of}
+use Rattle.defmt_logger.specs.declared.mark.Mark.{Mark}
+use Rattle.defmt_script.specs.Lawful.{IsSound, IsLawful as HoldsOfScripts}
+use Rattle.defmt_script.specs.Script.{Script, count_all}
+use Rattle.defmt_values.specs.declared.value.Statement.{Statement}
+use Rattle.rtt_modes.specs.Fates.{part_of}
+use Rattle.rtt_modes.specs.declared.fate.Fate.{Fate}
+use Rattle.rtt_modes.specs.declared.fate.Fate.TheVariants.{Whole, Dropped, Cut}
+use Rattle.rzcobs_core.specs.Canon.{canon, bound_of, frame}
+
+-- each code keeps within the bound
+abbrev Bounded : Type 0
+Bounded = (message : List ℕ) → length (canon message) ≤ bound_of (length message)
+
+sum_short : (n c w q : ℕ) → n ≤ 2000 → c ≤ n + q → 7 * q ≤ n + 6 → w ≡ c + 1 → w ≤ 2287
+sum_short n c w q short within most whole = omega (arith, short, within, most, whole)
+
+frame_short : (message : List ℕ) → Bounded → length message ≤ 2000 → length (frame message) ≤ 2288
+frame_short message bounded short =
+    let most : 7 * ((length message + 6) / 7) ≤ length message + 6 = mul-div-le (length message + 6) 7 in
+    let behind : length (canon message ++ 0 ∷ []) ≤ 2287 =
+    sum_short (length message) (length (canon message)) (length (canon message ++ 0 ∷ [])) ((length message + 6) / 7) short (bounded message) most (length-append (canon message) (0 ∷ [])) in
+    omega (arith, behind)
+
+with_short : (s : Script) (n : ℕ) (o : Option Statement) → Bounded → ((stm : Statement) → o ≡ Some stm → IsSound s.table s.settings.stamp stm) → length (frame_with s.table (stamp_in s.settings.stamp n) o) ≤ 2288
+with_short s n None bounded sound = omega arith
+with_short s n (Some stm) bounded sound = frame_short (message_of s.table (stamp_args (stamp_in s.settings.stamp n)) stm.index stm.args) bounded ((sound stm refl).short n)
+
+at_short : (s : Script) (w k n : ℕ) → Bounded → HoldsOfScripts s → length (frame_at s w k n) ≤ 2288
+unfolding frame_at
+at_short s w k n bounded h = with_short s n (slice_get (statements_of s w) k) bounded (λ stm is. sound_at s w k stm h is)
+
+part_short : (bytes : List ℕ) (fate : Fate) → length bytes ≤ 2288 → length (part_of bytes fate) ≤ 2288
+part_short bytes Whole short = short
+part_short bytes (Dropped need room) short = omega arith
+part_short bytes (Cut need room) short = omega (arith, short, length-take room bytes)
+
+stream_short : (s : Script) (tape : List Mark) → Bounded → HoldsOfScripts s → length (stream_of s tape) ≤ 2288 * length tape
+stream_short s [] bounded h = omega arith
+stream_short s (m ∷ ms) bounded h =
+    let one : length (mark_part s m) ≤ 2288 = part_short (mark_frame s m) m.fate (at_short s m.writer m.place m.stamp bounded h) in
+    let others : length (stream_of s ms) ≤ 2288 * length ms = stream_short s ms bounded h in
+    omega (arith, one, others, length-append (mark_part s m) (stream_of s ms))
+
+pub stream_fits : (s : Script) (tape : List Mark) (n : ℕ) → Bounded → HoldsOfScripts s → IsLawful s tape → n ≡ count_all s.writers → length (stream_of s tape) ≤ n * 2288
+stream_fits s tape n bounded h lawful e = omega (arith, stream_short s tape bounded h, tape_fits s tape lawful.within, e)
+
+-- ---- the counts of the first writers
+
+none_counted : (i : ℕ) → count_all (take i []) ≡ 0
+none_counted zero = refl
+none_counted (suc i) = refl
+
+counted : (ws : List (List Statement)) (i : ℕ) → count_all (take (suc i) ws) ≡ count_all (take i ws) + length (slice_index_or ws i [])
+counted [] i = omega (arith, none_counted i)
+counted (l ∷ ws) zero = omega arith
+counted (l ∷ ws) (suc i) = omega (arith, counted ws i)
+
+pub count_next : (ws : List (List Statement)) (i : ℕ) → count_all (take (i + 1) ws) ≡ count_all (take i ws) + length (slice_index_or ws i [])
+count_next ws i =
+    let next : suc i ≡ i + 1 = omega arith in
+    subst (λ (n : ℕ). count_all (take n ws) ≡ count_all (take i ws) + length (slice_index_or ws i [])) next (counted ws i)
+
+pub count_part : (ws : List (List Statement)) (i : ℕ) → count_all (take i ws) ≤ count_all ws
+count_part [] zero = omega arith
+count_part [] (suc i) = omega arith
+count_part (l ∷ ws) zero = omega arith
+count_part (l ∷ ws) (suc i) = omega (arith, count_part ws i)
+
+pub count_whole : (ws : List (List Statement)) (n i : ℕ) → n ≡ count_all (take i ws) → length ws ≤ i → n ≡ count_all ws
+count_whole ws n i e le = subst (λ (l : List (List Statement)). n ≡ count_all l) (take_all i ws le) e

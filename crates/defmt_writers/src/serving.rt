@@ -1,0 +1,155 @@
+// A reader that reads while its own thread logs.
+ghost use Rattle.std.specs.Prelude.{◌≡◌};
+ghost use Rattle.defmt_logger.specs.Tape.{count as statements};
+
+use crate::drain::take;
+use crate::gate::Gate;
+use crate::writers::write;
+use defmt_hooks::Clock;
+use defmt_logger::{Books, Logger, Naming, Pen, Seat};
+use dl_io::Bytes;
+use rtt_modes::Relief;
+use rtt_ring::{Channel, DownEnd, UpEnd};
+use std::marker::{Brand, PhantomData};
+use std::sync::Wait;
+use std::sync::ledger::Ledger;
+
+// Which lower end and which capture were lent, and the name of the end's split when they were.
+trait Lent {
+    ghost use Rattle.std.specs.Prelude.{ℕ, List};
+
+    // The names of the two loans.
+    ghost down: { ℕ };
+
+    ghost capture: { ℕ };
+
+    // The name of the split.
+    ghost split: { List ℕ };
+}
+
+impl Lent for Brand {
+    ghost use Rattle.std.specs.Prelude.{[]};
+
+    ghost down = { 0 };
+
+    ghost capture = { 0 };
+
+    ghost split = { [] };
+}
+
+// A lower end and what was captured of it, both lent.
+#[derive(Drop)]
+struct Reader<'s, D: DownEnd> {
+    down: &'s mut D,
+    capture: &'s mut Bytes,
+}
+
+impl<'s, D: DownEnd> Reader<'s, D> {
+    // Takes bytes that are there, as far as there is room for them, and tells the gate.
+    fn take<G: Gate>(&mut self, gate: &G)
+        requires got { (D.view self.old.down.now).got ≡ self.old.capture.now.items }
+        ensures got { (D.view self.new.down.now).got ≡ self.new.capture.now.items }
+        ensures split { (D.view self.new.down.now).split ≡ (D.view self.old.down.now).split }
+        ensures same_down { self.new.down.ghost_name ≡ self.old.down.ghost_name }
+        ensures same_capture { self.new.capture.ghost_name ≡ self.old.capture.ghost_name }
+    {
+        take(self.down, self.capture, gate);
+    }
+}
+
+// The relief that reads: each ease takes what is there. The capture holds exactly what the end has got, and the end and the
+// capture are those that were lent, the end from the split that it was from.
+#[derive(Drop)]
+struct Serving<'s, 'g, N: Lent, D: DownEnd, G: Gate> {
+    reader: Reader<'s, D>,
+    gate: &'g G,
+    of: PhantomData<N>,
+}
+
+impl<'s, 'g, N: Lent, D: DownEnd, G: Gate> Relief for Serving<'s, 'g, N, D, G> {
+    ghost kept = { λ s. ((D.view s.reader.down.now).got ≡ s.reader.capture.now.items) × ((D.view s.reader.down.now).split ≡ N.split)
+        × (s.reader.down.ghost_name ≡ N.down) × (s.reader.capture.ghost_name ≡ N.capture) };
+
+    fn ease(&mut self) {
+        self.reader.take(self.gate);
+    }
+}
+
+// Logs the statements that the pen has left, with a relief that reads, and gives the reader back.
+fn serve<
+    's,
+    N: Lent,
+    B: Books,
+    K: Naming,
+    U: UpEnd,
+    C: Clock,
+    S: Seat<B, L>,
+    L: Ledger,
+    D: DownEnd,
+    G: Gate,
+    W: Wait,
+>(
+    rt: &W,
+    logger: &Logger<B, K, U, C>,
+    count: u32,
+    pen: &mut Pen<S, L, K>,
+    reader: Reader<'s, D>,
+    gate: &G,
+) -> Reader<'s, D>
+    requires count { count ≡ statements K.script S.NUMBER }
+    requires got { (D.view reader.down.now).got ≡ reader.capture.now.items }
+    requires split { (D.view reader.down.now).split ≡ N.split }
+    requires lent { (reader.down.ghost_name ≡ N.down) × (reader.capture.ghost_name ≡ N.capture) }
+    ensures place { pen.new.place ≡ count }
+    ensures got { (D.view result.down.now).got ≡ result.capture.now.items }
+    ensures split { (D.view result.down.now).split ≡ N.split }
+    ensures lent { (result.down.ghost_name ≡ N.down) × (result.capture.ghost_name ≡ N.capture) }
+{
+    let mut serving = Serving::<N, D, G> {
+        reader,
+        gate,
+        of: PhantomData,
+    };
+    write(rt, logger, count, pen, gate, &mut serving);
+    let Serving {
+        reader,
+        gate: _,
+        of: _,
+    } = serving;
+    reader
+}
+
+/// Logs the statements that a pen has left, on the calling thread, and reads meanwhile: where the ring has no room, bytes are
+/// taken at its lower end and captured, as far as the capture has room for them.
+///
+/// The pen is one of this logger's, as its type says, and `count` is how many statements its writer has. The capture holds
+/// exactly what the lower end has got, before and afterwards; the end stays one of the same split. The pen's place is then
+/// `count`. The gate is asked before each statement, and told of each take that took something. The call takes no memory. It
+/// may wait, for the logger and in blocking mode for room.
+pub fn serve_here<
+    H: Channel,
+    B: Books,
+    K: Naming,
+    C: Clock,
+    S: Seat<B, L>,
+    L: Ledger,
+    G: Gate,
+    W: Wait,
+>(
+    rt: &W,
+    logger: &Logger<B, K, H::Up, C>,
+    count: u32,
+    pen: &mut Pen<S, L, K>,
+    down: &mut H::Down,
+    capture: &mut Bytes,
+    gate: &G,
+)
+    requires count { count ≡ statements K.script S.NUMBER }
+    requires got { (H.Down.view down.old).got ≡ capture.old.items }
+    ensures place { pen.new.place ≡ count }
+    ensures got { (H.Down.view down.new).got ≡ capture.new.items }
+    ensures split { (H.Down.view down.new).split ≡ (H.Down.view down.old).split }
+{
+    let reader = Reader { down, capture };
+    serve::<Brand, B, K, H::Up, C, S, L, H::Down, G, W>(rt, logger, count, pen, reader, gate);
+}
