@@ -499,6 +499,7 @@ fn read_only<'b>(size: IntSize, bytes: &'b [u8], args: &mut Args) -> Result<(u12
 
 // The values of the arguments of an entry's own text, read into a list in place of what it had. Most
 // stamps, and many statements, have one unsigned number, which is read without a walk over slots.
+#[inline(always)]
 pub fn read_own<'b>(
     alloc: Global,
     table: &Table,

@@ -1,4 +1,4 @@
-ghost use Rattle.std.specs.Prelude.{◌≡◌, ◌≤◌, ◌<◌, ◌++◌, ℕ, Bool, List, length, take, IfOk, OnOk, option_to_list};
+ghost use Rattle.std.specs.Prelude.{◌≡◌, ◌≤◌, ◌<◌, ◌++◌, ℕ, Bool, List, length, take, IfOk, OnOk, OnErr, option_to_list};
 ghost use Rattle.defmt_framing.specs.Told.{Tells, events, begun};
 ghost use Rattle.defmt_framing.specs.Framing.{Framing, Stands, Hears};
 
@@ -25,13 +25,15 @@ pub trait Listener {
     ghost is_fault: { Self.Event → Bool };
 
     /// Takes bytes up to and with the zero that ends the first part which tells something, and answers how many it took with
-    /// that event. Some byte is taken where there is one. On want of memory nothing is known of the listener.
+    /// that event. Some byte is taken where there is one. On want of memory nothing was taken, and the listener goes on from
+    /// there.
     fn feed(&mut self, bytes: &[u8]) -> Result<(usize, Option<Self::Event>), Memory>
         ensures within { IfOk result (λ r. r.0 ≤ length bytes.now) }
         ensures hears { IfOk result (λ r. (stream : List ℕ) → Stands (framing self.old) stream
             → Hears (tells self.old) (framing self.new) stream (take r.0 bytes.now) r.1) }
         ensures some { IfOk result (λ r. 0 < length bytes.now → 0 < r.0) }
-        ensures same { tells self.new ≡ tells self.old };
+        ensures same { tells self.new ≡ tells self.old }
+        ensures err { OnErr result (framing self.new ≡ framing self.old) };
 
     /// What the end of the stream tells beyond what was answered.
     fn finish(self) -> Option<Self::Event>

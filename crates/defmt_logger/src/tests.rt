@@ -1,11 +1,18 @@
 // A logger over a plain ring, on one thread.
-ghost use Rattle.std.specs.Prelude.{◌≡◌, true, ⊤};
+ghost use Rattle.std.specs.Prelude.{◌≡◌, ◌<◌, ◌≤◌, ◌∷◌, [], true, length, ⊤};
+ghost use Rattle.defmt_grammar.specs.declared.kind.IntSize.TheVariants.{W8};
+ghost use Rattle.defmt_grammar.specs.declared.kind.Kind.TheVariants.{Uint};
+ghost use Rattle.defmt_grammar.specs.declared.slot.Slot.TheVariants.{One};
 ghost use Rattle.defmt_logger.specs.Kept.{IsClockOf};
+ghost use Rattle.defmt_logger.specs.Tape.{count};
 ghost use Rattle.rtt_ring.specs.PlainView.{up_of};
 ghost use Rattle.rtt_ring.specs.Views.{new_up};
 
-use crate::{Books, Eight, Logger, Mark, Naming, Pen, Seat, Tape};
+use crate::{Books, Desk, Eight, Logger, Mark, Naming, Pen, Seat, Tape};
+use defmt_grammar::{IntSize, Kind, Slot};
 use defmt_hooks::{Clock, Stamp};
+use defmt_intern::Table;
+use defmt_macros::{Frame, Site, put};
 use defmt_script::{Script, read};
 use dl_io::Bytes;
 use rtt_modes::{Fate, Relief};
@@ -164,5 +171,70 @@ fn pens_log_what_fits_and_report_what_does_not(rt: HostRuntime) -> Result<(), Fa
         sent.as_slice(),
         [0, 1, 0xe8, 3, 0x72, 0x7f, 0, 0, 1, 0xe2, 4, 0x72, 0x7f, 0].as_slice()
     );
+    Ok(())
+}
+
+// Begins a message of two numbers, puts both, and drops its frame.
+fn drop_a_frame(message: &mut [u8], table: &Table, site: &Site)
+    requires room { 2000 ≤ length message.old }
+    requires slots { site.now.slots ≡ One (Uint W8) ∷ One (Uint W8) ∷ [] }
+{
+    let mut frame = Frame::begin(message, site, None);
+    put!(frame, table, u8 1);
+    put!(frame, table, u8 2);
+    drop(frame);
+}
+
+// Logs a statement of the writer 0, drops a frame of a message of two numbers, and closes the desk. Gives the tape and what was
+// sent.
+fn drop_beside_a_desk<C: Clock + Drop, W: Wait>(
+    rt: &W,
+    alloc: Global,
+    script: Script,
+    clock: C,
+    ring: PlainRing,
+    table: &Table,
+    site: &Site,
+) -> Result<(Tape, Bytes), Fail>
+    requires clock { IsClockOf script.settings.stamp (C.base clock) (C.step clock) (C.ready clock) (C.gives clock) }
+    requires fresh { up_of ring ≡ new_up (up_of ring).split script.settings.ring true }
+    requires some { 0 < count script 0 }
+    requires slots { site.now.slots ≡ One (Uint W8) ∷ One (Uint W8) ∷ [] }
+{
+    let mut desk = Desk::start(alloc, script, clock, ring)?;
+    desk.append(rt, 0, &mut NoRelief);
+    drop_a_frame(&mut [0; 2000], table, site);
+    let (tape, ring, _) = desk.close();
+    let mut sent = Bytes::new(alloc);
+    ring.settle(&mut sent)?;
+    Ok((tape, sent))
+}
+
+#[test]
+fn a_frame_that_is_dropped_leaves_ring_and_tape(rt: HostRuntime) -> Result<(), Fail> {
+    let alloc = rt.alloc();
+    let script = read(alloc, b"s pair defmt_info {=u8} {=u8}\nw 0 pair 1 2")?;
+    let (None, 1) = (script.stamp(), script.count(0)) else {
+        return Err(Fail::new("another script"));
+    };
+    let Ok(ring) = PlainRing::split(alloc, script.ring()) else {
+        return Err(Fail::new("no ring"));
+    };
+    let byte = Slot::One(Kind::Uint(IntSize::W8));
+    let table = script.table().copy()?;
+    let Ok(site) = Site::new(alloc, &table, 1, &[byte, byte]) else {
+        return Err(Fail::new("no site"));
+    };
+    let [
+        Slot::One(Kind::Uint(IntSize::W8)),
+        Slot::One(Kind::Uint(IntSize::W8)),
+    ] = site.slots()
+    else {
+        return Err(Fail::new("other slots"));
+    };
+    let clock = Stamp::new(0, 0, |_: u32| 0u64);
+    let (tape, sent) = drop_beside_a_desk(&rt, alloc, script, clock, ring, &table, &site)?;
+    assert_eq!(rt; tape.len(), 1);
+    assert_eq!(rt; sent.as_slice(), [0, 1, 1, 2, 0x72, 0].as_slice());
     Ok(())
 }

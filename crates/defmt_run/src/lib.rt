@@ -24,7 +24,7 @@ mod top;
 
 pub use defmt_decode::{Event, Events};
 pub use defmt_logger::{Mark, Tape};
-pub use defmt_writers::{Gate, OpenGate};
+pub use defmt_writers::{Gate, OpenGate, serve_here};
 pub use elf_section::Part;
 pub use outcome::{Fault, Outcome};
 pub use rtt_ring::{RingKind, Settled};

@@ -1,13 +1,15 @@
 -- A code read from its end.
-use Rattle.std.proofs.Common.{◌≡◌, ◌≢◌, inl, inr, ℕ, zero, suc, ◌+◌, ◌-◌, ◌*◌, ◌/◌, ◌%◌, ◌^◌, ◌<◌, ◌≤◌, ◌==◌, false, List, [], ◌∷◌, ◌++◌, length, get_or, take, drop, set, All, refl, sym, ◌∙◌, ap, subst, arith, length-append, append_assoc}
+use Rattle.std.proofs.Common.{◌≡◌, ◌≢◌, inl, inr, ℕ, zero, suc, ◌+◌, ◌-◌, ◌*◌, ◌/◌, ◌%◌, ◌^◌, ◌<◌, ◌≤◌, ◌==◌, false, List, [], ◌∷◌, ◌++◌, length, get_or, take, drop, set, All, Option, Some, None, refl, sym, ◌∙◌, ap, subst, arith, length-append, append_assoc}
 use Rattle.std.proofs.lemmas.Bool.{cases_eq}
 use Rattle.std.proofs.lemmas.Bool.Decides.{nat_tests}
 use Rattle.std.proofs.lemmas.List.{append-nil, take_more_set, take_more, take_all, drop_all, drop-set, get_or-append-add, get_or_append_left, length-take-le, length-drop, get_or-take, get_or-drop, same_lists, nil_from_length, drop_at, drop-drop, take-append-drop}
 use Rattle.std.proofs.Math.Nat.{pow-succ'}
 use Rattle.std.specs.Int.Count.{ones, ones_step, ones-le}
+use Rattle.std.specs.Borrow.{Bor}
+use Rattle.std.specs.Prelude.{MatchOption}
 use borrow.Rule.Slice.PartMut.{put_mid, post_of}
 use Rattle.rzcobs_core.specs.Blocks.{zero_bits, nonzero, first_form, second_form, third_form, IsBlock, few, zero_after, none_zero, Blocks, end, block}
-use Rattle.rzcobs_core.specs.Reading.{clear_bits, ReadsRun, ReadsLast, EndsInNoBlock}
+use Rattle.rzcobs_core.specs.Reading.{clear_bits, EndsInZero, ReadsRun, ReadsLast, EndsInNoBlock}
 use Rattle.rzcobs_core.proofs.Bits.{nonzero-zero, nonzero-other, zero_bits-zero, zero_bits-other, nonzero-append, zero_bits-append}
 use Rattle.rzcobs_core.proofs.OneReading.{last_of, same_ends, same_last, small_code, block_some}
 
@@ -118,10 +120,9 @@ module _ (code : ℕ) (stored seven : List ℕ) (i taken bits : ℕ) (all : leng
   pub some_left : bits % 2 ≢ 1 → taken < length stored
   some_left even = omega (arith, counted even)
 
-  pub puts_other : bits % 2 ≢ 1 → NoZero stored → Puts code stored (set seven i (get_or stored taken 0)) (i + 1) (taken + 1) (bits / 2)
-  puts_other even non =
+  pub puts_other : bits % 2 ≢ 1 → get_or stored taken 0 ≢ 0 → Puts code stored (set seven i (get_or stored taken 0)) (i + 1) (taken + 1) (bits / 2)
+  puts_other even not =
       let y = get_or stored taken 0 in
-      let not : y ≢ 0 = non taken 0 (some_left even) in
       let none : bits % 2 ≡ 0 = omega arith in
       record {
         mask = omega (arith, puts.mask, parts, mask_more y, ap (λ (n : ℕ). 2 ^ i * n) (zero_bits-other y [] not), ap (λ (n : ℕ). 2 ^ i * n) none);
@@ -145,39 +146,88 @@ puts_done code stored seven taken bits all puts =
 
 -- the three forms
 
-pub no_few : (before : List ℕ) (code : ℕ) → code < 128 → length before < clear_bits 7 code → EndsInNoBlock (before ++ code ∷ [])
-no_few before code small short front _ _ (few s all some) same =
+few_size : (before : List ℕ) (code : ℕ) → code < 128 → (front last bytes : List ℕ) → IsBlock last bytes → before ++ code ∷ [] ≡ front ++ last → length last ≡ suc (clear_bits 7 code)
+few_size before code small front _ _ (few s all some) same =
     let e = same_ends before (front ++ nonzero s) code (zero_bits s) (same ∙ sym (append_assoc front (nonzero s) (zero_bits s ∷ []))) in
     let count : clear_bits 7 code ≡ length (nonzero s) = ap (λ (n : ℕ). clear_bits n code) (sym all) ∙ ap (clear_bits (length s)) e.1 ∙ clear_bits-stored s in
-    absurd (omega (arith, ap length e.0, length-append front (nonzero s), count))
-no_few before code small short front _ _ (zero_after ys non least most) same =
+    omega (arith, count, length-append (nonzero s) (zero_bits s ∷ []))
+few_size before code small front _ _ (zero_after ys non least most) same =
     let e = same_ends before (front ++ ys) code (length ys + 121) (same ∙ sym (append_assoc front ys ((length ys + 121) ∷ []))) in
     absurd (omega (arith, e.1))
-no_few before code small short front _ _ (none_zero ys non size) same =
+few_size before code small front _ _ (none_zero ys non size) same =
     let e = same_ends before (front ++ ys) code 255 (same ∙ sym (append_assoc front ys (255 ∷ []))) in
     absurd (omega (arith, e.1))
 
-pub no_zero_after : (before : List ℕ) (code : ℕ) → 128 ≤ code → code < 255 → length before < code - 121 → EndsInNoBlock (before ++ code ∷ [])
-no_zero_after before code large small short front _ _ (few s all some) same =
+zero_after_size : (before : List ℕ) (code : ℕ) → 128 ≤ code → code < 255 → (front last bytes : List ℕ) → IsBlock last bytes → before ++ code ∷ [] ≡ front ++ last → length last ≡ suc (code - 121)
+zero_after_size before code large small front _ _ (few s all some) same =
     let e = same_ends before (front ++ nonzero s) code (zero_bits s) (same ∙ sym (append_assoc front (nonzero s) (zero_bits s ∷ []))) in
     absurd (omega (arith, e.1, small_code s all))
-no_zero_after before code large small short front _ _ (zero_after ys non least most) same =
+zero_after_size before code large small front _ _ (zero_after ys non least most) same =
     let e = same_ends before (front ++ ys) code (length ys + 121) (same ∙ sym (append_assoc front ys ((length ys + 121) ∷ []))) in
-    absurd (omega (arith, ap length e.0, length-append front ys, e.1))
-no_zero_after before code large small short front _ _ (none_zero ys non size) same =
+    omega (arith, e.1, length-append ys ((length ys + 121) ∷ []))
+zero_after_size before code large small front _ _ (none_zero ys non size) same =
     let e = same_ends before (front ++ ys) code 255 (same ∙ sym (append_assoc front ys (255 ∷ []))) in
     absurd (omega (arith, e.1))
 
-pub no_none_zero : (before : List ℕ) → length before < 134 → EndsInNoBlock (before ++ 255 ∷ [])
-no_none_zero before short front _ _ (few s all some) same =
+none_zero_size : (before front last bytes : List ℕ) → IsBlock last bytes → before ++ 255 ∷ [] ≡ front ++ last → length last ≡ suc 134
+none_zero_size before front _ _ (few s all some) same =
     let e = same_ends before (front ++ nonzero s) 255 (zero_bits s) (same ∙ sym (append_assoc front (nonzero s) (zero_bits s ∷ []))) in
     absurd (omega (arith, e.1, small_code s all))
-no_none_zero before short front _ _ (zero_after ys non least most) same =
+none_zero_size before front _ _ (zero_after ys non least most) same =
     let e = same_ends before (front ++ ys) 255 (length ys + 121) (same ∙ sym (append_assoc front ys ((length ys + 121) ∷ []))) in
     absurd (omega (arith, e.1))
-no_none_zero before short front _ _ (none_zero ys non size) same =
-    let e = same_ends before (front ++ ys) 255 255 (same ∙ sym (append_assoc front ys (255 ∷ []))) in
-    absurd (omega (arith, ap length e.0, length-append front ys))
+none_zero_size before front _ _ (none_zero ys non size) same = omega (arith, length-append ys (255 ∷ []))
+
+-- a block has too many bytes
+too_long : (before front last : List ℕ) (code stored : ℕ) → before ++ code ∷ [] ≡ front ++ last → length last ≡ suc stored → length before < stored → ⊥
+too_long before front last code stored same size short = absurd (omega (arith, ap length same, length-append before (code ∷ []), length-append front last))
+
+pub no_few : (before : List ℕ) (code : ℕ) → code < 128 → length before < clear_bits 7 code → EndsInNoBlock (before ++ code ∷ [])
+no_few before code small short front last bytes is same = too_long before front last code (clear_bits 7 code) same (few_size before code small front last bytes is same) short
+
+pub no_zero_after : (before : List ℕ) (code : ℕ) → 128 ≤ code → code < 255 → length before < code - 121 → EndsInNoBlock (before ++ code ∷ [])
+no_zero_after before code large small short front last bytes is same = too_long before front last code (code - 121) same (zero_after_size before code large small front last bytes is same) short
+
+pub no_none_zero : (before : List ℕ) → length before < 134 → EndsInNoBlock (before ++ 255 ∷ [])
+no_none_zero before short front last bytes is same = too_long before front last 255 134 same (none_zero_size before front last bytes is same) short
+
+-- a block has a zero
+
+pub no_zero_code : (before : List ℕ) (code : ℕ) → code ≡ 0 → EndsInNoBlock (before ++ code ∷ [])
+no_zero_code before code none front _ _ (few s all some) same =
+    let e = same_ends before (front ++ nonzero s) code (zero_bits s) (same ∙ sym (append_assoc front (nonzero s) (zero_bits s ∷ []))) in
+    absurd (omega (arith, e.1))
+no_zero_code before code none front _ _ (zero_after ys non least most) same =
+    let e = same_ends before (front ++ ys) code (length ys + 121) (same ∙ sym (append_assoc front ys ((length ys + 121) ∷ []))) in
+    absurd (omega (arith, e.1))
+no_zero_code before code none front _ _ (none_zero ys non size) same =
+    let e = same_ends before (front ++ ys) code 255 (same ∙ sym (append_assoc front ys (255 ∷ []))) in
+    absurd (omega (arith, e.1))
+
+zero_in_last : (before front last bytes : List ℕ) (code stored : ℕ) → EndsInZero before stored → IsBlock last bytes → before ++ code ∷ [] ≡ front ++ last → length last ≡ suc stored → ⊥
+zero_in_last before front last bytes code stored z is same size =
+    let whole : length front + length last ≡ suc (length before) = omega (arith, ap length same, length-append before (code ∷ []), length-append front last) in
+    let k = z.place - length front in
+    let place : length front + k ≡ z.place = omega (arith, size, whole, z.late) in
+    let here : get_or last k 0 ≡ 0 = sym (get_or-append-add front last k 0) ∙ ap (λ (n : ℕ). get_or (front ++ last) n 0) place
+    ∙ ap (λ (l : List ℕ). get_or l z.place 0) (sym same) ∙ get_or_append_left before (code ∷ []) 0 z.place z.within ∙ z.zero in
+    NoZero-block last bytes is k 0 (omega (arith, size, whole, place, z.within)) here
+
+pub zero_few : (before : List ℕ) (code stored : ℕ) → code < 128 → stored ≡ clear_bits 7 code → EndsInZero before stored → EndsInNoBlock (before ++ code ∷ [])
+zero_few before code stored small count z front last bytes is same =
+    zero_in_last before front last bytes code stored z is same (few_size before code small front last bytes is same ∙ ap suc (sym count))
+
+pub zero_behind : (before front kept : List ℕ) (stored k : ℕ) → before ≡ front ++ kept → length kept ≡ stored → k < length kept → get_or kept k 0 ≡ 0 → EndsInZero before stored
+zero_behind before front kept stored k is size within none = record {
+  place = length front + k;
+  late = omega (arith, ap length is, length-append front kept);
+  within = omega (arith, ap length is, length-append front kept);
+  zero = ap (λ (l : List ℕ). get_or l (length front + k) 0) is ∙ get_or-append-add front kept k 0 ∙ none;
+}
+
+-- the last bytes, where all but so many are cut off
+pub kept_size : (xs back : List ℕ) (n stored : ℕ) → back ≡ drop n xs → n ≡ length xs - stored → stored ≤ length xs → length back ≡ stored
+kept_size xs back n stored is e small = ap length is ∙ length-drop n xs ∙ (let k : length xs - n ≡ stored = omega arith in k)
 
 pub reads_few : (before front kept seven out after : List ℕ) (code at : ℕ) → before ≡ front ++ kept → nonzero seven ≡ kept → zero_bits seven ≡ code → length seven ≡ 7
     → 0 < code → 7 ≤ at → drop (at - 7) after ≡ seven ++ drop at out → ReadsLast (before ++ code ∷ []) out at front after (at - 7)
@@ -192,34 +242,45 @@ reads_few before front kept seven out after code at is stored mask all some room
   within = omega arith;
 }
 
-pub reads_zero_after : (before out front after : List ℕ) (code stored at begin : ℕ) → NoZero before → 128 ≤ code → code < 255 → stored ≡ code - 121 → 0 < at → at ≤ length out
+pub reads_zero_after : (before out front after : List ℕ) (code stored at begin : ℕ) → 128 ≤ code → code < 255 → stored ≡ code - 121 → 0 < at → at ≤ length out
     → ReadsRun before stored (set out (at - 1) 0) (at - 1) front after begin → ReadsLast (before ++ code ∷ []) out at front after begin
-reads_zero_after before out front after code stored at begin non large small is some within run =
-    let all : NoZero run.kept = NoZero-right front run.kept (subst NoZero run.before_is non) in
+reads_zero_after before out front after code stored at begin large small is some within run =
     let mark : code ≡ length run.kept + 121 = omega (arith, run.size) in
     let left : drop (at - 1) (set out (at - 1) 0) ≡ 0 ∷ drop at out = drop-set out (at - 1) 0 (omega arith) ∙ ap (λ (n : ℕ). 0 ∷ drop n out) (let e : at - 1 + 1 ≡ at = omega arith in e) in
     record {
       last = second_form run.kept;
       bytes = run.kept ++ 0 ∷ [];
-      is = zero_after run.kept all (omega (arith, run.size)) (omega (arith, run.size));
+      is = zero_after run.kept run.non (omega (arith, run.size)) (omega (arith, run.size));
       code_is = ap (λ (l : List ℕ). l ++ code ∷ []) run.before_is ∙ append_assoc front run.kept (code ∷ []) ∙ ap (λ (n : ℕ). front ++ (run.kept ++ n ∷ [])) mark;
       put = run.put ∙ ap (λ (l : List ℕ). run.kept ++ l) left ∙ sym (append_assoc run.kept (0 ∷ []) (drop at out));
       room = omega (arith, run.place, run.size, length-append run.kept ((length run.kept + 121) ∷ []));
       within = omega (arith, run.place);
     }
 
-pub reads_none_zero : (before out front after : List ℕ) (at begin : ℕ) → NoZero before → ReadsRun before 134 out at front after begin → ReadsLast (before ++ 255 ∷ []) out at front after begin
-reads_none_zero before out front after at begin non run =
-    let all : NoZero run.kept = NoZero-right front run.kept (subst NoZero run.before_is non) in
-    record {
-      last = third_form run.kept;
-      bytes = run.kept;
-      is = none_zero run.kept all run.size;
-      code_is = ap (λ (l : List ℕ). l ++ 255 ∷ []) run.before_is ∙ append_assoc front run.kept (255 ∷ []);
-      put = run.put;
-      room = omega (arith, run.place, run.size, length-append run.kept (255 ∷ []));
-      within = omega (arith, run.place);
-    }
+pub reads_none_zero : (before out front after : List ℕ) (at begin : ℕ) → ReadsRun before 134 out at front after begin → ReadsLast (before ++ 255 ∷ []) out at front after begin
+reads_none_zero before out front after at begin run = record {
+  last = third_form run.kept;
+  bytes = run.kept;
+  is = none_zero run.kept run.non run.size;
+  code_is = ap (λ (l : List ℕ). l ++ 255 ∷ []) run.before_is ∙ append_assoc front run.kept (255 ∷ []);
+  put = run.put;
+  room = omega (arith, run.place, run.size, length-append run.kept (255 ∷ []));
+  within = omega (arith, run.place);
+}
+
+-- a run of the second or the third form, or a zero in it
+
+pub run_zero_after : (before out after : List ℕ) (code stored at : ℕ) → 128 ≤ code → code < 255 → stored ≡ code - 121 → 0 < at → at ≤ length out
+    → (r : Option (Bor (List ℕ) × ℕ)) → MatchOption r (EndsInZero before stored) (λ p. ReadsRun before stored (set out (at - 1) 0) (at - 1) p.0.now after p.1)
+    → MatchOption r (EndsInNoBlock (before ++ code ∷ [])) (λ p. ReadsLast (before ++ code ∷ []) out at p.0.now after p.1)
+run_zero_after before out after code stored at large small is some within None z =
+    λ front last bytes b same. zero_in_last before front last bytes code stored z b same (zero_after_size before code large small front last bytes b same ∙ ap suc (sym is))
+run_zero_after before out after code stored at large small is some within (Some p) run = reads_zero_after before out p.0.now after code stored at p.1 large small is some within run
+
+pub run_none_zero : (before out after : List ℕ) (at : ℕ) (r : Option (Bor (List ℕ) × ℕ)) → MatchOption r (EndsInZero before 134) (λ p. ReadsRun before 134 out at p.0.now after p.1)
+    → MatchOption r (EndsInNoBlock (before ++ 255 ∷ [])) (λ p. ReadsLast (before ++ 255 ∷ []) out at p.0.now after p.1)
+run_none_zero before out after at None z = λ front last bytes b same. zero_in_last before front last bytes 255 134 z b same (none_zero_size before front last bytes b same)
+run_none_zero before out after at (Some p) run = reads_none_zero before out p.0.now after at p.1 run
 
 -- the whole code
 
@@ -232,11 +293,10 @@ pub record Decodes (piece out rest : List ℕ) (at : ℕ) : Type 0 where
   pub put : drop at out ≡ bytes
   pub within : at ≤ length out
   pub room : 7 * length rest ≤ at
-  pub non : NoZero rest
   pub whole : (b : List ℕ) → Blocks piece b → (c : List ℕ) × Blocks rest c
 
-pub nothing_read : (piece out : List ℕ) → 7 * length piece ≤ length out → NoZero piece → Decodes piece out piece (length out)
-nothing_read piece out room non = record {
+pub nothing_read : (piece out : List ℕ) → 7 * length piece ≤ length out → Decodes piece out piece (length out)
+nothing_read piece out room = record {
   done = [];
   bytes = [];
   blocks = end;
@@ -244,7 +304,6 @@ nothing_read piece out room non = record {
   put = drop_all (length out) out (omega arith);
   within = omega arith;
   room = room;
-  non = non;
   whole = λ b blocks. (b, blocks);
 }
 
@@ -265,7 +324,6 @@ goes_on piece out rest front after at begin size d r = record {
   put = r.put ∙ ap (λ (l : List ℕ). r.bytes ++ l) d.put;
   within = omega (arith, r.within, d.within);
   room = omega (arith, r.room, d.room, ap length r.code_is, length-append front r.last);
-  non = NoZero-left front r.last (subst NoZero r.code_is d.non);
   whole = λ b blocks. let w = d.whole b blocks in front_has front r.last r.bytes w.0 r.is (subst (λ (l : List ℕ). Blocks l w.0) r.code_is w.1);
 }
 

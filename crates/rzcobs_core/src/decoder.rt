@@ -1,6 +1,6 @@
 ghost use Rattle.std.specs.Prelude.{◌≡◌, ◌≢◌, ◌+◌, ◌*◌, ◌-◌, ◌<◌, ◌≤◌, ℕ, List, length, take, drop, All, IfOk, IsErr, MatchOption, MatchBool, slice_index, ◌++◌, ◌∷◌, []};
 ghost use Rattle.rzcobs_core.specs.Blocks.{Blocks, IsNoCode, zero_bits, nonzero};
-ghost use Rattle.rzcobs_core.specs.Reading.{clear_bits, ReadsRun, ReadsLast, EndsInNoBlock};
+ghost use Rattle.rzcobs_core.specs.Reading.{clear_bits, ReadsRun, ReadsLast, EndsInNoBlock, EndsInZero};
 
 /// No sequence of blocks is the piece.
 #[derive(Clone, Copy, Debug, PartialEq, Eq)]
@@ -19,9 +19,6 @@ pub fn decode(piece: &[u8], out: &mut [u8]) -> Result<usize, Malformed>
         (λ count. (count ≤ length out.new) × Blocks piece.now (take count out.new)) }
     ensures malformed { IsErr result → IsNoCode piece.now }
 {
-    if has_zero(piece) {
-        return Err(Malformed);
-    }
     let mut rest = piece;
     let mut at = out.len();
     'blocks: while !rest.is_empty() {
@@ -54,7 +51,6 @@ fn has_zero(bytes: &[u8]) -> bool
 // Reads the last block, and puts what it stands for in front of the place. None where no block
 // stands at the end.
 fn read_last<'a>(piece: &'a [u8], out: &mut [u8], at: usize) -> Option<(&'a [u8], usize)>
-    requires nonzero { All (λ b. b ≢ 0) piece.now }
     requires within { at ≤ length out.old }
     requires room { 7 * length piece.now ≤ at }
     ensures { MatchOption result (EndsInNoBlock piece.now)
@@ -73,21 +69,25 @@ fn read_last<'a>(piece: &'a [u8], out: &mut [u8], at: usize) -> Option<(&'a [u8]
 
 // Reads a last block of the first form.
 fn read_few<'a>(before: &'a [u8], code: u8, out: &mut [u8], at: usize) -> Option<(&'a [u8], usize)>
-    requires nonzero { All (λ b. b ≢ 0) before.now }
-    requires some { 0 < code }
     requires small { code < 128 }
     requires within { at ≤ length out.old }
     requires room { 7 ≤ at }
     ensures { MatchOption result (EndsInNoBlock (before.now ++ code ∷ []))
         (λ r. ReadsLast (before.now ++ code ∷ []) out.old at r.0.now out.new r.1) }
 {
+    if code == 0 {
+        return None;
+    }
     let stored = stored_of(code);
     if before.len() < stored {
         return None;
     }
     let (front, kept) = before.split_at(before.len() - stored);
-    put_seven(code, kept, &mut out[at - 7..at]);
-    Some((front, at - 7))
+    if put_seven(code, kept, &mut out[at - 7..at]) {
+        Some((front, at - 7))
+    } else {
+        None
+    }
 }
 
 // Reads a last block of the second form.
@@ -97,7 +97,6 @@ fn read_zero_after<'a>(
     out: &mut [u8],
     at: usize,
 ) -> Option<(&'a [u8], usize)>
-    requires nonzero { All (λ b. b ≢ 0) before.now }
     requires large { 128 ≤ code }
     requires small { code < 255 }
     requires within { at ≤ length out.old }
@@ -110,12 +109,11 @@ fn read_zero_after<'a>(
         return None;
     }
     out[at - 1] = 0;
-    Some(read_run(before, stored, out, at - 1))
+    read_run(before, stored, out, at - 1)
 }
 
 // Reads a last block of the third form.
 fn read_none_zero<'a>(before: &'a [u8], out: &mut [u8], at: usize) -> Option<(&'a [u8], usize)>
-    requires nonzero { All (λ b. b ≢ 0) before.now }
     requires within { at ≤ length out.old }
     requires room { 7 * length before.now + 7 ≤ at }
     ensures { MatchOption result (EndsInNoBlock (before.now ++ 255 ∷ []))
@@ -124,19 +122,28 @@ fn read_none_zero<'a>(before: &'a [u8], out: &mut [u8], at: usize) -> Option<(&'
     if before.len() < 134 {
         return None;
     }
-    Some(read_run(before, 134, out, at))
+    read_run(before, 134, out, at)
 }
 
-// Puts the last bytes in front of the place.
-fn read_run<'a>(before: &'a [u8], stored: usize, out: &mut [u8], at: usize) -> (&'a [u8], usize)
+// Puts the last bytes in front of the place. None where one of them is zero.
+fn read_run<'a>(
+    before: &'a [u8],
+    stored: usize,
+    out: &mut [u8],
+    at: usize,
+) -> Option<(&'a [u8], usize)>
     requires stored { stored ≤ length before.now }
     requires within { at ≤ length out.old }
     requires room { stored ≤ at }
-    ensures { ReadsRun before.now stored out.old at result.0.now out.new result.1 }
+    ensures { MatchOption result (EndsInZero before.now stored)
+        (λ r. ReadsRun before.now stored out.old at r.0.now out.new r.1) }
 {
     let (front, kept) = before.split_at(before.len() - stored);
+    if has_zero(kept) {
+        return None;
+    }
     out[at - stored..at].copy_from_slice(kept);
-    (front, at - stored)
+    Some((front, at - stored))
 }
 
 // How many bytes a block of the first form stores: one for each clear bit.
@@ -149,14 +156,15 @@ fn stored_of(code: u8) -> usize
     7 - code.count_ones() as usize
 }
 
-// Puts seven bytes: a zero for each set bit, and the stored bytes in their order.
-fn put_seven(code: u8, stored: &[u8], seven: &mut [u8])
+// Puts seven bytes: a zero for each set bit, and the stored bytes in their order. Answers whether none of
+// these is zero.
+fn put_seven(code: u8, stored: &[u8], seven: &mut [u8]) -> bool
     requires small { code < 128 }
     requires count { length stored.now ≡ clear_bits 7 code }
     requires seven { length seven.old ≡ 7 }
-    requires nonzero { All (λ b. b ≢ 0) stored.now }
-    ensures bits { zero_bits seven.new ≡ code }
-    ensures stored { nonzero seven.new ≡ stored.now }
+    ensures { MatchBool result
+        ((zero_bits seven.new ≡ code) × (nonzero seven.new ≡ stored.now))
+        ((k : ℕ) × (k < length stored.now) × (slice_index stored.now k ≡ 0)) }
 {
     let mut bits = code;
     let mut taken = 0usize;
@@ -164,11 +172,16 @@ fn put_seven(code: u8, stored: &[u8], seven: &mut [u8])
         if bits % 2 == 1 {
             seven[i] = 0;
         } else {
-            seven[i] = stored[taken];
+            let byte = stored[taken];
+            if byte == 0 {
+                return false;
+            }
+            seven[i] = byte;
             taken += 1;
         }
         bits /= 2;
     }
+    true
 }
 
 // Moves what stands from the place `at` on to the front.
