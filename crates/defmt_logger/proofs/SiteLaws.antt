@@ -5,8 +5,6 @@ use Rattle.std.proofs.lemmas.Bool.Decides.{nat_tests}
 use Rattle.std.proofs.lemmas.Option.{same_Some}
 use Rattle.defmt_encode.specs.Carry.{message_of, stamp_args}
 use Rattle.defmt_grammar.specs.Slots.{slots_of}
-use Rattle.defmt_grammar.specs.declared.piece.Piece.{Piece}
-use Rattle.defmt_grammar.specs.declared.slot.Slot.{Slot}
 use Rattle.defmt_intern.specs.Body.{body_of}
 use Rattle.defmt_intern.specs.Table.{Map}
 use Rattle.defmt_intern.specs.declared.entry.Entry.{Entry}
@@ -23,7 +21,6 @@ use Rattle.defmt_script.specs.Lawful.{IsLawful, IsSound, message_limit}
 use Rattle.defmt_script.specs.Script.{Script}
 use Rattle.defmt_values.specs.Entries.{is_logged, look}
 use Rattle.defmt_values.specs.Fits.{Fits}
-use Rattle.defmt_values.specs.Plain.{Vals}
 use Rattle.defmt_values.specs.declared.value.Statement.{Statement}
 
 -- ---- messages

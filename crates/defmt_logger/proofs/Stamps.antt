@@ -19,7 +19,6 @@ use Rattle.defmt_grammar.specs.declared.kind.Kind.TheVariants.{Uint}
 use Rattle.defmt_grammar.specs.declared.param.Param.{Param}
 use Rattle.defmt_grammar.specs.declared.piece.Piece.{Piece}
 use Rattle.defmt_grammar.specs.declared.piece.Piece.TheVariants as pieces
-use Rattle.defmt_grammar.specs.declared.slot.Slot.{Slot}
 use Rattle.defmt_grammar.specs.declared.slot.Slot.TheVariants.{One as OneKind}
 use Rattle.defmt_intern.proofs.BodyLaws.{pieces_again}
 use Rattle.defmt_intern.specs.Body.{body_of, one_body, pieces_of}

@@ -1,5 +1,3 @@
-use Rattle.std.proofs.Common.{sym, ap, ◌∙◌}
-use Rattle.std.specs.Prelude.{is_some}
 use Rattle.defmt_logger.proofs.SiteLaws.{more_keeps, more_own}
 use Rattle.defmt_logger.proofs.sites.Sites.add.Goals as goal
 

@@ -1,4 +1,4 @@
-use Rattle.std.proofs.Common.{◌≡◌, ℕ, ◌<◌, ◌≤◌, Some}
+use Rattle.std.proofs.Common.{◌≡◌, ℕ, ◌<◌, Some}
 use Rattle.std.specs.Prelude.{IsSome, slice_get}
 use Rattle.defmt_logger.specs.Sites.{AreSitesOf, Keeps, site_at}
 use Rattle.defmt_logger.specs.Tape.{statements_of}

@@ -1,4 +1,4 @@
-use Rattle.std.proofs.Common.{ℕ, ◌<◌, ◌≤◌}
+use Rattle.std.proofs.Common.{ℕ, ◌<◌}
 use Rattle.defmt_logger.specs.Sites.{AreSitesOf, HaveSites}
 use Rattle.defmt_logger.specs.Tape.{statements_of}
 use Rattle.defmt_logger.proofs.sites.Sites.of.Given as goal
