@@ -58,7 +58,7 @@ for words in "${commands[@]}"; do
     check "$words to a full device" 4 sink
     defmtl $words < "$input" >&- 2> said; status=$?
     check "$words to a closed output" 4 sink
-    { sleep 0.1; defmtl $words < "$input" 2> said; echo $? > status; } | :
+    { sleep 1; defmtl $words < "$input" 2> said; echo $? > status; } | :
     status=$(cat status)
     check "$words to a pipe without a reader" 4 sink
     case $words in gen*) continue ;; esac

@@ -40,7 +40,7 @@ pub trait Listener {
         ensures { (stream : List ℕ) → Stands (framing self) stream
             → events (tells self) stream ≡ begun (tells self) stream ++ option_to_list result };
 
-    /// Appends the output line of an event.
+    /// Appends the output line of an event. On want of memory a front of the line may have been appended.
     fn add_line(alloc: Global, event: &Self::Event, out: &mut Bytes) -> Result<(), Memory>
         ensures { OnOk result (out.new.items ≡ out.old.items ++ line event.now) };
 

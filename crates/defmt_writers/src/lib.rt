@@ -2,7 +2,7 @@
 //!
 //! [`run_script`] splits a ring, starts a logger over its upper end, and lends each writer's pen to a thread that logs the
 //! writer's statements. The calling thread reads at the lower end meanwhile, logs what is left, and settles the ring.
-//! [`serve_here`] logs what one pen has left on the calling thread, which reads meanwhile.
+//! [`serve_here`] logs what one pen has left on the calling thread, which in blocking mode reads where the ring has no room.
 #![tactic(auto)]
 
 mod drain;

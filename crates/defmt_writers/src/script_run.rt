@@ -56,7 +56,7 @@ fn frames_size(script: &Script) -> usize
     count as usize * FRAME_SIZE
 }
 
-// Logs the statements that a pen has left. A live reader reads meanwhile, and a late one takes nothing.
+// Logs the statements that a pen has left. A live reader makes room where a frame waits for it, and a late one takes nothing.
 fn finish_pen<
     H: Channel,
     B: Books,

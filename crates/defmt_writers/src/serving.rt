@@ -119,8 +119,8 @@ fn serve<
     reader
 }
 
-/// Logs the statements that a pen has left, on the calling thread, and reads meanwhile: where the ring has no room, bytes are
-/// taken at its lower end and captured, as far as the capture has room for them.
+/// Logs the statements that a pen has left, on the calling thread. In blocking mode, where a frame waits for room, bytes are
+/// taken at the ring's lower end and captured, as far as the capture has room for them.
 ///
 /// The pen is one of this logger's, as its type says, and `count` is how many statements its writer has. The capture holds
 /// exactly what the lower end has got, before and afterwards; the end stays one of the same split. The pen's place is then
