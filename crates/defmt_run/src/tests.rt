@@ -1,6 +1,6 @@
 // Sessions over sources, shelves and sinks in memory; one function makes each call.
 use crate::{Event, Gate, OpenGate, Outcome, session};
-use dl_io::{Bytes, MemShelf, MemSink, MemSource, RepeatSource, Shelf, Sink, Source};
+use dl_io::{Bytes, MemShelf, MemSink, MemSource, RepeatSource, Source};
 use rtt_modes::Fate;
 use rtt_ring::RingKind;
 use std::alloc::Global;
@@ -17,7 +17,6 @@ const HI: &[u8] = b"s hi defmt_info hello\nw 0 hi\n";
 struct Session {
     outcome: Outcome,
     written: Bytes,
-    faults: u64,
 }
 
 fn bytes_of(alloc: Global, items: &[u8]) -> Result<Bytes, Fail> {
@@ -42,13 +41,8 @@ fn session_of<S: Source, G: Gate + Sync, R: Threads + Wait + Sync>(
     held.reserve(1_048_576)?;
     let mut sink = MemSink::new(held, bytes_of(alloc, sink_fails)?);
     let outcome = session(rt, alloc, &words, source, shelf, &mut sink, gate);
-    let faults = source.faults().max(shelf.faults()).max(sink.faults());
     let written = bytes_of(alloc, sink.held())?;
-    Ok(Session {
-        outcome,
-        written,
-        faults,
-    })
+    Ok(Session { outcome, written })
 }
 
 // The same where the source gives these bytes, and the shelf has the tables of HI and one that isn't an ELF file.
@@ -134,14 +128,6 @@ const WIDE_SKIP: &[u8] =
 
 const WIDE_TRIM: &[u8] =
     b"ring 16\nmode trim\nreader late\ns say defmt_info {=str}\nw 0 say \"abcdefghijklmnopqrstuvwxyzabcdefgh\"";
-
-const PAIRS: &[u8] = b"INFO  a 1\nINFO  a 2\nWARN  b true\nWARN  b false\n";
-
-// The source of these lines.
-const ROW: &[u8] =
-    b"ring 64\ns a defmt_info a {=u8}\ns b defmt_warn b {=bool}\nw 0 a 1\nw 1 b true\nw 0 a 2\nw 1 b false\n";
-
-const FRONT: &[u8] = b"-- front 1\nINFO  hello\n";
 
 const NESTED: &[u8] =
     b"s opt defmt_prim None|Some({=?})\ns num defmt_prim {=u8}\ns pt defmt_derived Pt {{ x: {=?}, y: {=?} }}\ns log defmt_debug at {} {:x}\nw 0 log pt(num(3) num(255)) opt:1(num(255))\n";
@@ -279,87 +265,24 @@ fn a_table_with_one_value_twice_is_refused(rt: HostRuntime) -> Result<(), Fail> 
     ended(&rt, alloc, &session, 6, "table name cause 2 symbol 1", b"")
 }
 
-// Lets one call of the outside after the other fail, until none does: a session with a fault ends with this status and these
-// words, and writes a front of this. Gives the session without a fault.
-fn without_a_fault<R: Threads + Wait + Abort + Sync>(
-    rt: &R,
-    alloc: Global,
-    text: &str,
-    source: &[u8],
-    fails: Fails,
-    status: u8,
-    said: &str,
-    written: &[u8],
-) -> Result<Session, Fail> {
-    for call in 0..=u8::MAX {
-        let number = [call];
-        let (of_source, of_shelf, of_sink) = match fails {
-            Fails::Source => (number.as_slice(), b"".as_slice(), b"".as_slice()),
-            Fails::Shelf => (b"".as_slice(), number.as_slice(), b"".as_slice()),
-            Fails::Sink => (b"".as_slice(), b"".as_slice(), number.as_slice()),
-        };
-        let session = session_on(rt, alloc, text, source, of_source, of_shelf, of_sink)?;
-        if session.faults == 0 {
-            return Ok(session);
-        }
-        let words = session.outcome.say(alloc)?;
-        assert_eq!(rt; words.as_str(), said);
-        assert_eq!(rt; session.outcome.status, status);
-        assert!(rt; written.starts_with(session.written.as_slice()));
-    }
-    Err(Fail::new("each call fails"))
-}
-
-// Whose calls fail.
-#[derive(Clone, Copy)]
-enum Fails {
-    Source,
-    Shelf,
-    Sink,
-}
-
 #[test]
-fn each_call_that_fails_is_told(rt: HostRuntime) -> Result<(), Fail> {
+fn faults_of_the_outside_are_told(rt: HostRuntime) -> Result<(), Fail> {
     let alloc = rt.alloc();
-    let cut = b"\x7e\0\0\x01\x7e\0".as_slice();
-    let cases = [
-        (
-            "defmtl run --group",
-            ROW,
-            Fails::Source,
-            3,
-            "source",
-            b"".as_slice(),
-            0,
-            PAIRS,
-        ),
-        (
-            "defmtl run --group",
-            ROW,
-            Fails::Sink,
-            4,
-            "sink",
-            PAIRS,
-            0,
-            PAIRS,
-        ),
-        (
-            "defmtl decode --table hi.elf",
-            cut,
-            Fails::Shelf,
-            7,
-            "shelf",
-            b"",
-            9,
-            FRONT,
-        ),
-    ];
-    for (text, source, fails, status, said, begun, last, written) in cases {
-        let session = without_a_fault(&rt, alloc, text, source, fails, status, said, begun)?;
-        assert_eq!(rt; session.outcome.status, last);
-        assert_eq!(rt; session.written.as_slice(), written);
-    }
-    Ok(())
+    let source = session_on(&rt, alloc, "defmtl run", HI, b"\0", b"", b"")?;
+    ended(&rt, alloc, &source, 3, "source", b"")?;
+    let sink = session_on(&rt, alloc, "defmtl run", HI, b"", b"", b"\0")?;
+    ended(&rt, alloc, &sink, 4, "sink", b"")?;
+    assert_eq!(rt; sink.outcome.tape.len(), 1);
+    let shelf = session_on(
+        &rt,
+        alloc,
+        "defmtl decode --table hi.elf",
+        b"",
+        b"",
+        b"\0",
+        b"",
+    )?;
+    ended(&rt, alloc, &shelf, 7, "shelf", b"")
 }
 
 #[test]
@@ -402,7 +325,6 @@ fn a_run_tells_its_tape_its_ring_and_its_events(rt: HostRuntime) -> Result<(), F
     let Session {
         outcome,
         written: _,
-        faults: _,
     } = session_on(&rt, rt.alloc(), "defmtl run", HI, b"", b"", b"")?;
     let Outcome {
         status: _,
@@ -468,6 +390,8 @@ impl Gate for Holding {
         self.taken.store(total, Ordering::SeqCst);
     }
 }
+
+const PAIRS: &[u8] = b"INFO  a 1\nINFO  a 2\nWARN  b true\nWARN  b false\n";
 
 const FOUR: &[u8] = b"INFO  hello\nINFO  hello\nINFO  hello\nINFO  hello\n";
 
