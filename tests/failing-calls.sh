@@ -63,7 +63,7 @@ for words in "${commands[@]}"; do
     check "$words to a pipe without a reader" 4 sink
     case $words in gen*) continue ;; esac
     defmtl $words < "$input" > whole 2> said; status=$?
-    (trap '' XFSZ; ulimit -f 1; defmtl $words < "$input" > written 2> said_there; echo $? > /dev/fd/3) 3> status 2> /dev/null
+    (trap '' XFSZ; ulimit -f 1; defmtl $words < "$input" > written 2> said_there; echo $? >&3) 3> status 2> /dev/null
     status=$(cat status)
     head -c 1024 whole > front
     cp said_there said
