@@ -1,0 +1,284 @@
+#!/usr/bin/env python3
+"""Tells what the merge gate costs: processor seconds by crate and kind, the dearest edit of each crate, and the longest chain of proofs.
+
+    bench/gate.py [--into FILE] [--docs] [-- COMMAND..]    runs the command at the repository's top, by default `rt ci --anew`
+    bench/gate.py [--into FILE] --watch PID                watches an `rt ci` of this checkout that runs already
+
+The table goes to FILE, or else behind what the command writes. --docs puts it into docs/PROOFS.md where the command passed.
+
+It looks at the processes of the run twice a second, and takes each for what its words say. What a process used behind the last look at it is
+in its parent's sum of ended children, and is shared evenly among those that ended since the look before. A watched run is told from the
+first look on: what had ended by then isn't counted.
+"""
+
+import argparse
+import datetime
+import os
+import re
+import signal
+import subprocess
+import sys
+import threading
+import time
+from collections import defaultdict
+
+TOP = os.path.dirname(os.path.dirname(os.path.abspath(__file__)))
+PROOF, TESTS, BEFORE, EDITS, BUILD, REST = "Proof", "Tests", "Check before edits", "Edits", "Build and run", "Rest"
+KINDS = (PROOF, TESTS, BEFORE, EDITS)
+# The most that we allow: minutes for the whole gate, and seconds for the others.
+MOST_MINUTES, MOST_SECONDS, MOST_OF_EDIT = 160, {PROOF: 260, TESTS: 400}, 60
+TICKS = os.sysconf("SC_CLK_TCK")
+EACH = 0.5
+COMPILERS = re.compile(r"clang|ld\.lld|llvm-|rattle-link")
+
+
+def task_of(words, folder, above):
+    """What a process does, as the crate, the kind and an edit's number, by its words and its folder, or else as the process above it."""
+    program = os.path.basename(words[0]) if words else ""
+    if program == "rattle" and words[1:2] in (["check"], ["build"]) and "--crate-name" in words:
+        behind = lambda word: words[words.index(word) + 1] if word in words else ""
+        crate, base = behind("--crate-name"), os.path.basename(behind("--incremental"))
+        if os.path.basename(folder).startswith("rt-edit-"):
+            return (crate, BEFORE, None) if base == "seed" else (crate, EDITS, int(base) if base.isdigit() else None)
+        return crate, TESTS if "--test" in words else BUILD if "--crate-checked" in words else PROOF, None
+    if COMPILERS.match(program) or any("/rt-run-" in it for it in words):
+        return above[0], BUILD, None
+    return above
+
+
+class Process:
+    def __init__(self, parent):
+        self.parent, self.task, self.own, self.ended, self.share = parent, (None, REST, None), 0, 0, 0
+
+    def total(self):
+        return self.own + self.ended
+
+
+class Watch:
+    """The processes of a run: those below its first one, by number and start."""
+
+    def __init__(self, first, goes_on=False):
+        self.first, self.known, self.alive, self.is_late = first, {}, set(), goes_on
+
+    def look(self):
+        """Takes what each process used so far, and answers whether the run goes on."""
+        found, below = {}, defaultdict(list)
+        for pid in filter(str.isdigit, os.listdir("/proc")):
+            try:
+                with open(f"/proc/{pid}/stat", errors="replace") as it:
+                    fields = it.read().rpartition(")")[2].split()
+            except OSError:
+                continue
+            found[int(pid)] = (int(pid), fields[19]), fields
+            below[int(fields[1])].append(int(pid))
+        # (a process whose parent ended stays one of the run's)
+        old = [pid for pid, (key, _) in found.items() if key in self.alive and pid != self.first]
+        todo, alive, grown = [*old, self.first], set(), {}
+        while todo:
+            pid = todo.pop()
+            if pid not in found or found[pid][0] in alive:
+                continue
+            key, fields = found[pid]
+            alive.add(key)
+            todo += below[pid]
+            parent = found[int(fields[1])][0] if int(fields[1]) in found else None
+            it = self.known.setdefault(key, Process(parent))
+            user, system, of_user, of_system = (int(at) for at in fields[11:15])
+            ended = of_user + of_system
+            grown[key], it.own, it.ended = ended - it.ended, user + system, ended
+            if pid == self.first and self.is_late:
+                grown[key], self.is_late = 0, False
+        for key in sorted(alive, key=lambda it: int(it[1])):
+            self.name(key)
+        self.settle(self.alive - alive, alive, grown)
+        self.alive = alive
+        return any(pid == self.first and found[pid][1][0] != "Z" for pid, _ in alive)
+
+    def name(self, key):
+        """Takes what a process does from its words, which change when it starts another program."""
+        it, above = self.known[key], (None, REST, None)
+        if it.parent in self.known:
+            above = self.known[it.parent].task
+        try:
+            with open(f"/proc/{key[0]}/cmdline", errors="replace") as file:
+                words = file.read().split("\0")
+            folder = os.readlink(f"/proc/{key[0]}/cwd")
+        except OSError:
+            return
+        if words[0]:
+            it.task = task_of(words, folder, above)
+
+    def settle(self, gone, alive, grown):
+        """Gives the processes that ended what their parents count beyond what was seen of them."""
+        groups = defaultdict(list)
+        for key in gone:
+            above = self.known[key].parent
+            while above in self.known and above not in alive:
+                above = self.known[above].parent
+            groups[above].append(self.known[key])
+        for key, count in grown.items():
+            rest = count - sum(it.total() for it in groups[key])
+            takers = groups[key] or [self.known[key]]
+            for it in takers if rest > 0 else ():
+                it.share += rest / len(takers)
+
+    def seconds(self):
+        """The seconds of each task."""
+        sums = defaultdict(float)
+        for it in self.known.values():
+            sums[it.task] += (it.own + it.share) / TICKS
+        return sums
+
+
+def crates():
+    """The crates of crates.txt in their order, with those of them that each stands on."""
+    below = {}
+    with open(f"{TOP}/crates.txt", encoding="utf-8") as file:
+        for line in file:
+            head, colon, deps = line.partition("#")[0].partition(":")
+            if colon:
+                below[head.split()[0]] = deps.split()
+    return {name: [it for it in deps if it in below] for name, deps in below.items()}
+
+
+def edits_of(crate):
+    """The names of a crate's edits, in the order in which rt numbers them."""
+    folder = f"{TOP}/crates/{crate}/must-fail"
+    return sorted(it[:-5] for it in os.listdir(folder) if it.endswith(".edit")) if os.path.isdir(folder) else []
+
+
+def longest_chain(below, seconds):
+    """The chain of crates, each standing on the one before, whose seconds are most together."""
+    chains = {}
+
+    def chain(name):
+        if name not in chains:
+            under = max((chain(it) for it in below[name]), default=(0, []))
+            chains[name] = under[0] + seconds[name], [*under[1], name] if seconds[name] else under[1]
+        return chains[name]
+
+    return max((chain(it) for it in below), default=(0, []))
+
+
+def table(sums):
+    """The table of a run, and what is above the bounds."""
+    rows, above, whole, below = [], [], defaultdict(float), crates()
+    by_crate, by_edit = defaultdict(lambda: defaultdict(float)), defaultdict(lambda: defaultdict(float))
+    for (crate, kind, number), seconds in sums.items():
+        by_crate[crate][kind] += seconds
+        whole[kind] += seconds
+        if kind == EDITS:
+            by_edit[crate][number] += seconds
+    tried = 0
+    for crate in below:
+        spent, names, edits = by_crate[crate], edits_of(crate), by_edit[crate]
+        if not spent:
+            continue
+        # an edit that is tried from nothing has no number, as the only one of a crate
+        if len(names) == 1 and None in edits:
+            edits[0] = edits.pop(None)
+        named = {names[it]: at for it, at in edits.items() if it is not None and it < len(names)}
+        dearest = max(named, key=named.get, default="")
+        above += [f"{crate}: {kind.lower()} {spent[kind]:.0f} s" for kind, most in MOST_SECONDS.items() if spent[kind] > most]
+        above += [f"{crate}/{it}: {at:.0f} s" for it, at in named.items() if at > MOST_OF_EDIT]
+        count = len(named)
+        tried += count
+        cells = [f"{spent[kind]:.0f}" if spent[kind] else "" for kind in KINDS]
+        number = f"{count}" if count == len(names) else f"{count} of {len(names)}"
+        rows.append([crate, *cells, number, f"`{dearest}` {named[dearest]:.0f}" if dearest else ""])
+    minutes = [f"{whole[kind] / 60:.1f}" for kind in KINDS]
+    rows.append(["**Minutes**", *minutes, str(tried), ""])
+    head = ["Crate", *KINDS, "Number of edits", "Dearest edit"]
+    lines = [" | ".join(it).join(("| ", " |")).replace("  ", " ") for it in (head, *rows)]
+    lines.insert(1, "|---" * len(head) + "|")
+    total = sum(whole.values()) / 60
+    if total > MOST_MINUTES:
+        above.append(f"the whole: {total:.0f} minutes")
+    chained, chain = longest_chain(below, {it: by_crate[it][PROOF] for it in below})
+    lines += ["", f"In all {total:.1f} processor minutes: those of the table, {whole[BUILD] / 60:.1f} for building, linking and running, and"]
+    lines += [f"{whole[REST] / 60:.1f} for `rt` itself. The longest chain of proofs takes {chained / 60:.1f} of them: {', '.join(chain)}."]
+    lines += [f"Above the bounds: {', '.join(above) or 'nothing'}."]
+    return lines
+
+
+def first_line(words):
+    try:
+        return subprocess.run(words, capture_output=True, text=True).stdout.partition("\n")[0]
+    except OSError:
+        return ""
+
+
+def machine():
+    with open("/proc/cpuinfo", encoding="utf-8") as it:
+        model = re.search(r"^model name\s*: (.*)", it.read(), re.M)
+    return f"{len(os.sched_getaffinity(0))} processors ({model[1] if model else 'of an unknown model'}), {first_line(['rt', 'version'])}"
+
+
+def run(command):
+    """Runs the command, and answers its status, its last line and its watch."""
+    started = subprocess.Popen(command, cwd=TOP, stdout=subprocess.PIPE)
+    for it in (signal.SIGTERM, signal.SIGINT):
+        signal.signal(it, lambda number, _: started.send_signal(number))
+    last = [""]
+
+    def copy():
+        for line in started.stdout:
+            sys.stdout.buffer.write(line)
+            sys.stdout.flush()
+            last[0] = line.decode(errors="replace").strip() or last[0]
+
+    copying, watch = threading.Thread(target=copy), Watch(started.pid)
+    copying.start()
+    # (an ended process is waited for behind the last look at it)
+    while watch.look():
+        time.sleep(EACH)
+    status = started.wait()
+    copying.join()
+    return status, last[0], watch
+
+
+def put_into_docs(text, name):
+    """Puts a text between the two lines of docs/PROOFS.md that have this name."""
+    path, begin, end = f"{TOP}/docs/PROOFS.md", f"<!-- {name} -->\n", f"<!-- /{name} -->\n"
+    with open(path, encoding="utf-8") as it:
+        front, first, rest = it.read().partition(begin)
+    _, second, behind = rest.partition(end)
+    if not first or not second:
+        raise SystemExit(f"{path} has no lines {begin.strip()} and {end.strip()}")
+    with open(path, "w", encoding="utf-8") as it:
+        it.write(front + begin + text + end + behind)
+
+
+def main():
+    parser = argparse.ArgumentParser(description=__doc__.partition("\n")[0])
+    parser.add_argument("--into", metavar="FILE")
+    parser.add_argument("--docs", action="store_true")
+    parser.add_argument("--watch", metavar="PID", type=int)
+    parser.add_argument("command", nargs="*", default=["rt", "ci", "--anew"])
+    asked = parser.parse_args()
+    if asked.docs and asked.watch:
+        parser.error("a watched run may lack its begin, so it doesn't go into the documents")
+    begun = time.monotonic()
+    if asked.watch:
+        status, watch = 0, Watch(asked.watch, True)
+        while watch.look():
+            time.sleep(EACH)
+        ending = f"The run of the process {asked.watch} was watched"
+    else:
+        status, last, watch = run(asked.command)
+        ending = f"`{' '.join(asked.command)}` {'passed' if not status else f'ended with status {status}'} ({last})"
+    took = (time.monotonic() - begun) / 60
+    lines = [f"{ending} on {datetime.date.today()}, in {took:.1f} minutes, on {machine()}. Processor seconds:", "", *table(watch.seconds())]
+    text = "\n".join(lines) + "\n"
+    if asked.into:
+        with open(asked.into, "w", encoding="utf-8") as it:
+            it.write(text)
+    else:
+        print(text, end="")
+    if asked.docs and not status:
+        put_into_docs(text, "gate")
+    return status
+
+
+if __name__ == "__main__":
+    sys.exit(main())
