@@ -18,6 +18,7 @@ import re
 import signal
 import subprocess
 import sys
+import textwrap
 import threading
 import time
 from collections import defaultdict
@@ -27,6 +28,7 @@ PROOF, TESTS, BEFORE, EDITS, BUILD, REST = "Proof", "Tests", "Check before edits
 KINDS = (PROOF, TESTS, BEFORE, EDITS)
 # The most that we allow: minutes for the whole gate, and seconds for the others.
 MOST_MINUTES, MOST_SECONDS, MOST_OF_EDIT = 160, {PROOF: 260, TESTS: 400}, 60
+GATE = ["rt", "ci", "--anew"]
 TICKS = os.sysconf("SC_CLK_TCK")
 EACH = 0.5
 COMPILERS = re.compile(r"clang|ld\.lld|llvm-|rattle-link")
@@ -195,23 +197,20 @@ def table(sums):
     if total > MOST_MINUTES:
         above.append(f"the whole: {total:.0f} minutes")
     chained, chain = longest_chain(below, {it: by_crate[it][PROOF] for it in below})
-    lines += ["", f"In all {total:.1f} processor minutes: those of the table, {whole[BUILD] / 60:.1f} for building, linking and running, and"]
-    lines += [f"{whole[REST] / 60:.1f} for `rt` itself. The longest chain of proofs takes {chained / 60:.1f} of them: {', '.join(chain)}."]
-    lines += [f"Above the bounds: {', '.join(above) or 'nothing'}."]
-    return lines
+    said = f"In all {total:.1f} processor minutes: those of the table, {whole[BUILD] / 60:.1f} for building, linking and running, and "
+    said += f"{whole[REST] / 60:.1f} for `rt` itself. The longest chain of proofs takes {chained / 60:.1f} of them: {', '.join(chain)}. "
+    return [*lines, "", wrapped(said + f"Above the bounds: {', '.join(above) or 'nothing'}.")]
 
 
-def first_line(words):
-    try:
-        return subprocess.run(words, capture_output=True, text=True).stdout.partition("\n")[0]
-    except OSError:
-        return ""
+def wrapped(text):
+    return textwrap.fill(text, 160, break_long_words=False, break_on_hyphens=False)
 
 
 def machine():
     with open("/proc/cpuinfo", encoding="utf-8") as it:
         model = re.search(r"^model name\s*: (.*)", it.read(), re.M)
-    return f"{len(os.sched_getaffinity(0))} processors ({model[1] if model else 'of an unknown model'}), {first_line(['rt', 'version'])}"
+    kit = subprocess.run(["rt", "version"], capture_output=True, text=True).stdout.partition("\n")[0]
+    return f"{len(os.sched_getaffinity(0))} processors ({model[1] if model else 'of an unknown model'}), {kit}"
 
 
 def run(command):
@@ -254,22 +253,21 @@ def main():
     parser.add_argument("--into", metavar="FILE")
     parser.add_argument("--docs", action="store_true")
     parser.add_argument("--watch", metavar="PID", type=int)
-    parser.add_argument("command", nargs="*", default=["rt", "ci", "--anew"])
+    parser.add_argument("command", nargs="*", default=GATE)
     asked = parser.parse_args()
-    if asked.docs and asked.watch:
-        parser.error("a watched run may lack its begin, so it doesn't go into the documents")
-    begun = time.monotonic()
+    if asked.docs and (asked.watch or asked.command != GATE):
+        parser.error("only the whole gate from its begin goes into the documents")
+    begun, status = time.monotonic(), 0
     if asked.watch:
-        status, watch = 0, Watch(asked.watch, True)
+        watch, ending = Watch(asked.watch, True), f"The process {asked.watch} was watched"
         while watch.look():
             time.sleep(EACH)
-        ending = f"The run of the process {asked.watch} was watched"
     else:
         status, last, watch = run(asked.command)
-        ending = f"`{' '.join(asked.command)}` {'passed' if not status else f'ended with status {status}'} ({last})"
+        ending = f"`{' '.join(asked.command)}` {'failed' if status else 'passed'}: {last or f'status {status}'}"
     took = (time.monotonic() - begun) / 60
-    lines = [f"{ending} on {datetime.date.today()}, in {took:.1f} minutes, on {machine()}. Processor seconds:", "", *table(watch.seconds())]
-    text = "\n".join(lines) + "\n"
+    said = wrapped(f"{ending}. That was on {datetime.date.today()}, in {took:.1f} minutes, on {machine()}. Processor seconds:")
+    text = "\n".join([said, "", *table(watch.seconds())]) + "\n"
     if asked.into:
         with open(asked.into, "w", encoding="utf-8") as it:
             it.write(text)
@@ -277,7 +275,7 @@ def main():
         print(text, end="")
     if asked.docs and not status:
         put_into_docs(text, "gate")
-    return status
+    return status if status >= 0 else 128 - status
 
 
 if __name__ == "__main__":
