@@ -1,0 +1,346 @@
+#!/bin/bash
+# Runs ./defmtl over a kit that proves nothing, and checks what it builds, when, what it tells and how it ends.
+#
+#   tests/launcher.sh
+#
+# A folder has a copy of the launcher, a few crates and a kit of small scripts: its rt "proves" a crate by a short sleep, and "builds" a program
+# that is a script too, and tells which sources it was built of. The last line is 'N passed, M failed'.
+
+top=$(realpath "$(dirname "$0")/..") || exit 2
+work=$(mktemp -d) || exit 2
+trap 'rm -rf "$work"' EXIT
+unset DEFMTL_UNPROVED
+passed=0 failed=0
+
+pass() { passed=$((passed + 1)); }
+fail() { failed=$((failed + 1)); echo "FAILED: $*"; }
+is() { if [ "$2" = "$3" ]; then pass; else fail "$1: '$2' and not '$3'"; fi; }
+has() { if [[ $2 == *"$3"* ]]; then pass; else fail "$1: '$3' is not in '$2'"; fi; }
+lacks() { if [[ $2 != *"$3"* ]]; then pass; else fail "$1: '$3' is in '$2'"; fi; }
+
+# ---- the kit
+
+kit=$work/kit
+mkdir -p "$kit/bin" "$kit/toolchain/bin" "$kit/toolchain/lib" "$kit/c" "$work/path"
+touch "$kit/START-HERE.md" "$kit/bin/rtlib.py" "$kit/bin/rattle" "$kit/toolchain/bin/clang"
+
+# The program writes which text of defmt_run it was built of to the standard error, and does what its first word says.
+cat > "$kit/program" << 'PROGRAM'
+#!/bin/bash
+echo "TEXT" >&2
+case $1 in
+    run) cat ;;
+    end) exit "$2" ;;
+    words) printf '%s\n' "$@" ;;
+    open) for it in /proc/self/fd/*; do readlink "$it"; done | grep launcher ;;
+    wait) touch "$2"; exec sleep 30 ;;
+    number) echo $$ ;;
+esac
+PROGRAM
+
+# Each crate that is proved is a line of $KIT/proved, and each call one of $KIT/calls; $KIT/seconds says how long a proof takes, and a file
+# $KIT/refuses names a crate that can't be proved.
+cat > "$kit/bin/rt" << 'RT'
+#!/bin/bash
+KIT=${0%/bin/rt}
+[ ! -f "$KIT/home" ] || KIT=$(< "$KIT/home")
+echo "${PWD##*/} $*" >> "$KIT/calls"
+text() { cat src/* 2> /dev/null | cksum; }
+prove() {
+    cd "../$1" || exit 2
+    mkdir -p out
+    [ "$(cat out/proof 2> /dev/null)" = "$(text)" ] && return
+    sleep "$(cat "$KIT/seconds")" & echo $! >> "$KIT/sleeps"; wait
+    [ "$(cat "$KIT/refuses" 2> /dev/null)" != "$1" ] || { echo "error: $1 is not proved"; return 1; }
+    echo "$1" >> "$KIT/proved"
+    text > out/proof
+}
+case $1 in
+    doc) echo "$KIT/START-HERE.md" ;;
+    all)
+        for it in low left right top defmt_run defmt_cli; do
+            said=$(prove "$it"); status=$?
+            printf '== %s\n%s\n' "$it" "$said"
+            [ "$status" -eq 0 ] || exit 1
+        done ;;
+    lib) prove "${PWD##*/}" ;;
+    run)
+        prove defmt_cli || exit 1
+        sed "s/TEXT/proved $(cat ../defmt_run/src/lib.rt)/" "$KIT/program" > out/defmt_cli && chmod +x out/defmt_cli ;;
+    try)
+        [ "$(cat "$KIT/refuses" 2> /dev/null)" != try ] || { echo 'error: the program is not read'; exit 2; }
+        sleep "$(cat "$KIT/seconds")"
+        "${0%/bin/rt}/toolchain/bin/ld.lld" -o "$KIT/tried" defmt_run && "$KIT/tried" run < /dev/null ;;
+esac
+RT
+cat > "$kit/toolchain/bin/ld.lld" << 'LINKER'
+#!/bin/bash
+sed "s/TEXT/unproved $(cat "../$3/src/lib.rt")/" "${0%/toolchain/*}/program" > "$2" && chmod +x "$2"
+LINKER
+chmod +x "$kit/bin/rt" "$kit/toolchain/bin/ld.lld"
+echo "$kit" > "$kit/home"
+ln -s "$kit/bin/rt" "$work/path/rt"
+sed -i "s|^KIT=.*|KIT=$kit|" "$kit/bin/rt"
+PATH=$work/path:$PATH
+
+# begin SECONDS: a repository in which nothing was built, and a proof takes so long
+begin() {
+    rm -rf "$work/top" "$kit/refuses"
+    : > "$kit/calls"; : > "$kit/proved"; : > "$kit/sleeps"
+    echo "$1" > "$kit/seconds"
+    mkdir "$work/top" && cd "$work/top" || exit 2
+    cp "$top/defmtl" .
+    printf '%s\n' '# a comment' 'low:' 'left: low std' 'right: low' 'top: left right' 'defmt_run may_wait=9: top' 'defmt_cli: defmt_run' 'low_tests: low' 'aside: low' > crates.txt
+    echo 'Handles allowed: none.' > HANDLES
+    for it in low left right top defmt_run defmt_cli low_tests aside; do
+        mkdir -p "crates/$it/src"
+        printf 'one' > "crates/$it/src/lib.rt"
+    done
+}
+
+# call WORD..: runs the launcher. Leaves its status, and what it wrote and said.
+call() {
+    wrote=$(./defmtl "$@" 2> "$work/said")
+    status=$?
+    said=$(< "$work/said")
+}
+calls() { grep -vc '^$' "$kit/calls"; }
+proofs() { sort "$kit/proved" | tr '\n' ' '; }
+strays() { find . ! -type d ! -path './crates/*/src/*' ! -path '*/out/proof' ! -name crates.txt ! -name HANDLES ! -name defmtl ! -name 'defmt_cli*' ! -name launcher.lock; find "${TMPDIR:-/tmp}" -maxdepth 1 -newer "$work/began" -name 'tmp.*' ! -path "$work"; }
+all_crates='defmt_cli defmt_run left low right top '
+
+# until_true WORD..: waits until a command succeeds, at most ten seconds
+until_true() { for ((turn = 0; turn < 200; turn++)); do "$@" > /dev/null 2>&1 && return; sleep 0.05; done; return 1; }
+has_begun() { [ "$(wc -l < "$kit/sleeps")" -ge "$1" ]; }
+is_gone() { ! kill -0 "$1" 2> /dev/null; }
+touch "$work/began"
+
+# ---- the first build
+
+begin 0.1
+call words a 'b  c' '' < /dev/null
+is 'a first build' "$status" 0
+is 'the words' "$wrote" $'words\na\nb  c'
+is 'each crate is proved once, test crates and those aside are not' "$(proofs)" "$all_crates"
+has 'the program is the proved one' "$said" 'proved one'
+has 'how far a build is' "$said" 'crate 2 of 6 is done: left'
+has 'how long it will take' "$said" 'About '
+has 'how long the first build takes' "$said" 'about 20 minutes on four processors, 40 on two'
+is 'the crates side by side get all processors' "$(sed -n 1p "$kit/calls" | grep -c "^defmt_cli all check --jobs [1-9]")" 1
+is 'so does each of the chain' "$(grep -c '^top lib --jobs [1-9]\|^defmt_run lib --jobs [1-9]\|^defmt_cli run --jobs [1-9]' "$kit/calls")" 3
+is 'no file is left behind' "$(strays)" ''
+: > "$kit/calls"
+call run < <(echo hello)
+is 'a later call' "$wrote" hello
+is 'a later call says what the program says' "$said" 'proved one'
+is 'a later call builds nothing' "$(calls)" 0
+for number in 0 1 2 9 63; do
+    call end "$number"
+    is "the program's status $number" "$status" "$number"
+done
+
+# ---- sources that change
+
+changes() {
+    : > "$kit/calls"
+    call run < /dev/null
+    has "$1" "$said" "$2"
+    if [ "$(calls)" -gt 0 ]; then pass; else fail "$1: nothing was built"; fi
+}
+printf 'two' > crates/defmt_run/src/lib.rt
+changes 'a source that was edited' 'proved two'
+printf 'old' > "$work/older"; touch -d '2020-01-01' "$work/older"; mv "$work/older" crates/defmt_run/src/lib.rt
+changes 'a source that was replaced by an older one' 'proved old'
+printf 'more' > crates/left/src/more.rt
+changes 'a source that was added' built
+mv crates/left/src/more.rt "$work/more.rt"
+changes 'a source that was moved away' built
+mkdir crates/left/proofs && printf 'proof' > crates/left/proofs/Proof.antt
+changes 'a proof that was added' built
+rm -r crates/left/proofs
+changes 'a proof that was removed' built
+echo '# more' >> crates.txt
+changes 'a list of crates that was edited' built
+cp crates/defmt_cli/out/defmt_cli "$work/other"; cp "$work/other" crates/defmt_cli/out/defmt_cli.new; mv crates/defmt_cli/out/defmt_cli.new crates/defmt_cli/out/defmt_cli
+changes 'a program that something else put there' built
+: > "$kit/calls"
+printf 'test' > crates/low_tests/src/more.rt
+call run < /dev/null
+is 'a test crate that was edited' "$(calls)" 0
+
+# A source that changes while it is proved: the build goes on until what was proved is what is there.
+begin 0.3
+./defmtl run < /dev/null > /dev/null 2> "$work/said" &
+until_true grep -q left "$kit/proved"
+printf 'two' > crates/defmt_run/src/lib.rt
+wait $!
+: > "$kit/calls"
+call run < /dev/null
+has 'a source that changed during its build' "$said" 'proved two'
+is 'which was built by that call' "$(calls)" 0
+
+# ---- builds that are stopped
+
+# stopped WHAT SIGNAL STATUS: a build that gets a signal leaves no process, no lock and no stray file, and the next one goes on
+stopped() {
+    begin 0.4
+    # (what a script starts in the background ignores INT)
+    env --default-signal=INT ./defmtl run < /dev/null > "$work/wrote" 2> "$work/said" &
+    local launcher=$!
+    until_true grep -q left "$kit/proved"
+    until_true has_begun 3
+    kill "-$2" "$launcher"
+    wait "$launcher" 2> /dev/null
+    is "$1: the status" "$?" "$3"
+    if until_true is_gone "$(tail -n 1 "$kit/sleeps")"; then pass; else fail "$1: rt goes on"; fi
+    [ "$2" = KILL ] || has "$1: it is told" "$(cat "$work/said")" 'the next call goes on from here'
+    local before
+    before=$(proofs)
+    sleep 0.8
+    is "$1: nothing is proved any more" "$(proofs)" "$before"
+    is "$1: no file is left behind" "$(strays | grep -v launcher.log)" ''
+    call run < <(echo hello)
+    is "$1: the next call ends with the program" "$status $wrote" '0 hello'
+    is "$1: it goes on where the other stopped" "$(proofs)" "$all_crates"
+    is "$1: then no file is left behind" "$(strays)" ''
+}
+stopped 'a build that is ended' TERM 143
+stopped 'a build that is interrupted' INT 130
+stopped 'a build that is hung up' HUP 129
+stopped 'a build that is killed' KILL 137
+
+# ---- calls that wait
+
+begin 0.2
+./defmtl run < /dev/null 2> "$work/said.first" &
+first=$!
+until_true grep -q low "$kit/proved"
+./defmtl wait "$work/runs" < /dev/null 2> "$work/said.second" &
+second=$!
+wait "$first"
+is 'the call that builds' "$?" 0
+if until_true test -e "$work/runs"; then pass; else fail 'the call that waits does not run'; fi
+has 'a call that waits says so' "$(cat "$work/said.second")" 'another call builds the program; waiting for it'
+is 'two calls prove each crate once' "$(proofs)" "$all_crates"
+is 'a program that was waited for has no lock open' "$(find -L "/proc/$second/fd" -samefile crates/defmt_cli/out/launcher.lock 2> /dev/null)" ''
+printf 'two' > crates/defmt_run/src/lib.rt
+call run < /dev/null
+has 'the next build does not wait for a program that runs' "$said" 'proved two'
+lacks 'the next build waits for nothing' "$said" 'waiting'
+kill "$second"; wait "$second" 2> /dev/null
+begin 0
+call open
+is 'the program of a call that builds has no lock open' "$wrote" ''
+
+# ---- the launcher's own failures: 64 and above, with a line that says what it is
+
+# fails WHAT STATUS LINE
+fails() {
+    is "$1: the status" "$status" "$2"
+    has "$1: the line" "$said" "defmtl: $3"
+    is "$1: nothing is written" "$wrote" ''
+}
+mkdir "$work/bare"
+for it in bash readlink find cmp mkdir env; do ln -s "$(command -v "$it")" "$work/bare/$it"; done
+without() { wrote=$(PATH=$1 ./defmtl run 2>&1 > /dev/null < /dev/null | cat > "$work/said"; exit "${PIPESTATUS[0]}"); status=$?; said=$(< "$work/said"); wrote=; }
+begin 0
+without "$work/bare"
+fails 'no rt' 69 'there is no command rt'
+is 'no rt: one line' "$(wc -l < "$work/said")" 1
+ln -s "$kit/bin/rt" "$work/bare/rt"
+without "$work/bare"
+fails 'no flock' 69 'there is no command flock'
+export DEFMTL_UNPROVED=1
+without "$work/bare"
+fails 'no flock, unproved' 69 'there is no command flock'
+unset DEFMTL_UNPROVED
+
+begin 0
+echo top > "$kit/refuses"
+call run < /dev/null
+fails 'a crate that is not proved' 70 'the program could not be built'
+has 'a crate that is not proved: what was said' "$said" 'error: top is not proved'
+rm "$kit/refuses"
+call run < <(echo hello)
+is 'a build after one that failed' "$status $wrote" '0 hello'
+printf 'two' > crates/defmt_run/src/lib.rt
+echo defmt_run > "$kit/refuses"
+call run < /dev/null
+fails 'an edit that is not proved' 70 'the program could not be built'
+call run < /dev/null
+fails 'an edit that is still not proved' 70 'the program could not be built'
+export DEFMTL_UNPROVED=1
+echo try > "$kit/refuses"
+call run < /dev/null
+fails 'an unproved program that is not read' 70 'the program could not be built'
+has 'an unproved program that is not read: what was said' "$said" 'error: the program is not read'
+unset DEFMTL_UNPROVED
+
+# as_nobody WORD..: as a user who can't write here
+as_nobody() { if [ "$(id -u)" -eq 0 ]; then setpriv --reuid=65534 --regid=65534 --clear-groups "$@"; else "$@"; fi; }
+begin 0
+chmod 755 "$work" && chmod -R a+rX "$work" && chmod -R a-w crates
+wrote=$(as_nobody ./defmtl run < /dev/null 2> "$work/said"); status=$?; said=$(< "$work/said")
+fails 'a folder that is read-only' 73 'the folder'
+is 'a folder that is read-only: one line' "$(wc -l < "$work/said")" 1
+wrote=$(DEFMTL_UNPROVED=1 as_nobody ./defmtl run < /dev/null 2> "$work/said"); status=$?; said=$(< "$work/said")
+fails 'a folder that is read-only, unproved' 73 'the folder'
+chmod -R u+w crates
+call run < /dev/null
+wrote=$(echo hello | as_nobody ./defmtl run 2> "$work/said"); status=$?
+is 'a program that was built, in a folder that is read-only' "$status $wrote" '0 hello'
+
+# ---- unproved calls
+
+begin 0.1
+export DEFMTL_UNPROVED=1
+call words a 'b  c' < /dev/null
+is 'an unproved call' "$status $wrote" $'0 words\na\nb  c'
+has 'an unproved call says so' "$said" 'running with no proof: nothing that follows is proved'
+has 'the unproved program' "$said" 'unproved one'
+is 'an unproved call proves nothing' "$(proofs)" ''
+is 'an unproved call leaves no file behind' "$(strays)" ''
+: > "$kit/calls"
+call run < /dev/null
+is 'a later unproved call builds nothing' "$(calls)" 0
+has 'a later unproved call says so' "$said" 'running with no proof: nothing that follows is proved'
+for number in 0 1 2 9 63; do
+    call end "$number"
+    is "the unproved program's status $number" "$status" "$number"
+done
+seq 300000 > "$work/many"
+./defmtl run < "$work/many" > "$work/wrote" 2> "$work/said"
+is 'an unproved call with much output' "$? $(cmp "$work/many" "$work/wrote" 2>&1)" '0 '
+(cat "$work/many"; sleep 2.5; echo last) | ./defmtl run 2> "$work/said" > "$work/wrote"
+is 'an unproved call with a slow input' "$? $(tail -n 1 "$work/wrote") $(wc -l < "$work/wrote")" '0 last 300001'
+(sleep 2.5; cat "$work/many") | ./defmtl run 2> "$work/said" | ./defmtl run 2> "$work/said" > "$work/wrote"
+is 'a pipeline of two unproved calls' "$? $(cmp "$work/many" "$work/wrote" 2>&1)" '0 '
+./defmtl number 2> "$work/said" > "$work/wrote" &
+wait $!
+is 'an unproved program takes the place of its launcher, which so ends no call' "$(cat "$work/wrote")" $!
+begin 0.1
+./defmtl run < "$work/many" 2> "$work/said" | ./defmtl run 2> "$work/said.second" > "$work/wrote"
+is 'a pipeline of two unproved calls before anything was built' "$? $(cmp "$work/many" "$work/wrote" 2>&1)" '0 '
+is 'a pipeline of two unproved calls builds once' "$(grep -c try "$kit/calls")" 1
+printf 'old' > "$work/older"; touch -d '2020-01-01' "$work/older"; mv "$work/older" crates/defmt_run/src/lib.rt
+call run < /dev/null
+has 'an unproved program whose source was replaced by an older one' "$said" 'unproved old'
+unset DEFMTL_UNPROVED
+: > "$kit/calls"
+call run < /dev/null
+has 'a proved call after unproved ones' "$said" 'proved old'
+is 'a proved call after unproved ones proves each crate' "$(proofs)" "$all_crates"
+
+for signal in TERM KILL; do
+    begin 5
+    touch "$work/began"
+    DEFMTL_UNPROVED=1 ./defmtl run < /dev/null > /dev/null 2> "$work/said" &
+    launcher=$!
+    until_true grep -q try "$kit/calls"
+    kill "-$signal" "$launcher"; wait "$launcher" 2> /dev/null
+    is_clean() { ! strays | grep -qv "\.log"; }
+    if until_true is_clean; then pass; else fail "an unproved build that got $signal leaves $(strays)"; fi
+done
+
+echo "$passed passed, $failed failed"
+[ "$failed" -eq 0 ] && [ "$passed" -gt 0 ]
