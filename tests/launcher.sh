@@ -280,15 +280,19 @@ unset DEFMTL_UNPROVED
 as_nobody() { if [ "$(id -u)" -eq 0 ]; then setpriv --reuid=65534 --regid=65534 --clear-groups "$@"; else "$@"; fi; }
 begin 0
 chmod 755 "$work" && chmod -R a+rX "$work" && chmod -R a-w crates
-wrote=$(as_nobody ./defmtl run < /dev/null 2> "$work/said"); status=$?; said=$(< "$work/said")
-fails 'a folder that is read-only' 73 'the folder'
-is 'a folder that is read-only: one line' "$(wc -l < "$work/said")" 1
-wrote=$(DEFMTL_UNPROVED=1 as_nobody ./defmtl run < /dev/null 2> "$work/said"); status=$?; said=$(< "$work/said")
-fails 'a folder that is read-only, unproved' 73 'the folder'
-chmod -R u+w crates
-call run < /dev/null
-wrote=$(echo hello | as_nobody ./defmtl run 2> "$work/said"); status=$?
-is 'a program that was built, in a folder that is read-only' "$status $wrote" '0 hello'
+if as_nobody test -r defmtl; then
+    wrote=$(as_nobody ./defmtl run < /dev/null 2> "$work/said"); status=$?; said=$(< "$work/said")
+    fails 'a folder that is read-only' 73 'the folder'
+    is 'a folder that is read-only: one line' "$(wc -l < "$work/said")" 1
+    wrote=$(DEFMTL_UNPROVED=1 as_nobody ./defmtl run < /dev/null 2> "$work/said"); status=$?; said=$(< "$work/said")
+    fails 'a folder that is read-only, unproved' 73 'the folder'
+    chmod -R u+w crates
+    call run < /dev/null
+    wrote=$(echo hello | as_nobody ./defmtl run 2> "$work/said"); status=$?
+    is 'a program that was built, in a folder that is read-only' "$status $wrote" '0 hello'
+else
+    echo 'skipped: a folder that is read-only, since there is no other user to be'
+fi
 
 # ---- unproved calls
 
