@@ -11,16 +11,12 @@ use std::alloc::{AllocError, Global};
 fn command_line<'a>(alloc: Global) -> Result<Command<'a>, AllocError>
     ensures { IfOk result (λ command. app_of command ≡ line_of) }
 {
-    let command = Arg::new(alloc, "command").required(true);
-    let number = Arg::new(alloc, "number");
-    let table = Arg::new(alloc, "table").long("table");
-    let group = Arg::new(alloc, "group")
-        .long("group")
-        .action(ArgAction::SetTrue);
-    let line = Command::new(alloc, "defmtl").arg(command)?;
-    let line = line.arg(number)?;
-    let line = line.arg(table)?;
-    let line = line.arg(group)?;
+    let line = Command::new(alloc, "defmtl");
+    let line = line.arg(Arg::new(alloc, "command").required(true))?;
+    let line = line.arg(Arg::new(alloc, "number"))?;
+    let line = line.arg(Arg::new(alloc, "table").long("table"))?;
+    let group = Arg::new(alloc, "group").long("group");
+    let line = line.arg(group.action(ArgAction::SetTrue))?;
     Ok(line)
 }
 
