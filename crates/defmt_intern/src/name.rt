@@ -1,7 +1,7 @@
 //! Symbol names, which are JSON objects.
 
 ghost use Rattle.std.specs.Prelude.{◌≡◌, IfOk, codes, Some, None, MatchOption, option_and_then, option_map};
-ghost use Rattle.defmt_intern.specs.Name.{IsSpelled, Names, IsNoObject, LacksKey, ReadsName, ReadsObject, GivesOnly, GivesJson, GivesKey, object_with, written};
+ghost use Rattle.defmt_intern.specs.Name.{HoldsObject, IsSpelled, Names, IsNoObject, LacksKey, ReadsName, ReadsObject, GivesOnly, GivesJson, GivesKey, object_with, written};
 ghost use Rattle.defmt_intern.specs.declared.entry.Entry.{Entry as AnyEntry};
 ghost use Rattle.defmt_intern.specs.declared.name.NameKey.{NameKey as AnyKey};
 ghost use Rattle.serde_json.specs.Find.{get, as_str};
@@ -106,6 +106,39 @@ fn object_of(alloc: Global, name: &[u8]) -> Result<Value, NameFault>
     Ok(value)
 }
 
+// The entry that a name says whose object is at hand.
+fn entry_in(alloc: Global, name: &[u8], value: &Value) -> Result<Entry, NameFault>
+    requires { HoldsObject name.now (view value.now) }
+    ensures answer { ReadsName name.now result }
+    ensures named { (entry : AnyEntry) → Names name.now entry → GivesOnly result entry }
+    ensures no_object { IsNoObject name.now → GivesJson result }
+    ensures lacks { (key : AnyKey) → LacksKey name.now key → GivesKey result key }
+{
+    let _ = name;
+    let Some(package) = text_at(value, "package") else {
+        return Err(NameFault::Key {
+            key: NameKey::Package,
+        });
+    };
+    let Some(tag) = text_at(value, "tag") else {
+        return Err(NameFault::Key { key: NameKey::Tag });
+    };
+    let Some(data) = text_at(value, "data") else {
+        return Err(NameFault::Key { key: NameKey::Data });
+    };
+    let Some(disambiguator) = text_at(value, "disambiguator") else {
+        return Err(NameFault::Key {
+            key: NameKey::Disambiguator,
+        });
+    };
+    Ok(Entry {
+        tag: Tag::of_name(alloc, tag)?,
+        package: copy_of(alloc, package)?,
+        text: copy_of(alloc, data)?,
+        disambiguator: copy_of(alloc, disambiguator)?,
+    })
+}
+
 /// The entry that a symbol name says: one JSON object with the four keys of [`NameKey`].
 ///
 /// Further keys are passed over, whatever their values, and of equal keys the last counts. JSON is what `serde_json`
@@ -119,26 +152,5 @@ pub fn read_name(alloc: Global, name: &[u8]) -> Result<Entry, NameFault>
     ensures lacks { (key : AnyKey) → LacksKey name.now key → GivesKey result key }
 {
     let value = object_of(alloc, name)?;
-    let Some(package) = text_at(&value, "package") else {
-        return Err(NameFault::Key {
-            key: NameKey::Package,
-        });
-    };
-    let Some(tag) = text_at(&value, "tag") else {
-        return Err(NameFault::Key { key: NameKey::Tag });
-    };
-    let Some(data) = text_at(&value, "data") else {
-        return Err(NameFault::Key { key: NameKey::Data });
-    };
-    let Some(disambiguator) = text_at(&value, "disambiguator") else {
-        return Err(NameFault::Key {
-            key: NameKey::Disambiguator,
-        });
-    };
-    Ok(Entry {
-        tag: Tag::of_name(alloc, tag)?,
-        package: copy_of(alloc, package)?,
-        text: copy_of(alloc, data)?,
-        disambiguator: copy_of(alloc, disambiguator)?,
-    })
+    entry_in(alloc, name, &value)
 }

@@ -1,0 +1,26 @@
+use Rattle.std.proofs.Common.{◌≡◌, Some, None}
+use Rattle.serde_json.specs.View.{view}
+use Rattle.defmt_intern.proofs.NameLaws.{lacks_tag, lacks_data, lacks_disambiguator, names_entry}
+use Rattle.defmt_intern.proofs.name.entry_in.Goals as goal
+
+pub returns-in_default-text_at-clause-answer : goal.returns-in_default-text_at-clause-answer
+returns-in_default-text_at-clause-answer c =
+    let o = c.requires in
+    lacks_tag c.args.name.now (view c.args.value.now) o.0 c.in-Some.package.now o.1 o.2 c.in-Some.ensures c.in_default-text_at.ensures
+
+pub returns-in_default-text_at-2-clause-answer : goal.returns-in_default-text_at-2-clause-answer
+returns-in_default-text_at-2-clause-answer c =
+    let o = c.requires in
+    lacks_data c.args.name.now (view c.args.value.now) o.0 c.in-Some.package.now c.in-Some-text_at.tag.now o.1 o.2 c.in-Some.ensures c.in-Some-text_at.ensures c.in_default-text_at-2.ensures
+
+pub returns-in_default-text_at-3-clause-answer : goal.returns-in_default-text_at-3-clause-answer
+returns-in_default-text_at-3-clause-answer c =
+    let o = c.requires in
+    lacks_disambiguator c.args.name.now (view c.args.value.now) o.0 c.in-Some.package.now c.in-Some-text_at.tag.now c.in-Some-text_at-2.data.now o.1 o.2 c.in-Some.ensures c.in-Some-text_at.ensures c.in-Some-text_at-2.ensures c.in_default-text_at-3.ensures
+
+pub returns-clause-answer : goal.returns-clause-answer
+returns-clause-answer c =
+    let o = c.requires in
+    names_entry c.args.name.now (view c.args.value.now) o.0 c.in-Some.package.now c.in-Some-text_at.tag.now c.in-Some-text_at-2.data.now c.in-Some-text_at-3.disambiguator.now _ o.1 o.2
+    c.in-Some.ensures c.in-Some-text_at.ensures c.in-Some-text_at-2.ensures c.in-Some-text_at-3.ensures
+    c.in_ok-of_name.ensures c.in_ok-copy_of.ensures c.in_ok-copy_of-2.ensures c.in_ok-copy_of-3.ensures
