@@ -1,4 +1,4 @@
-ghost use Rattle.std.specs.Prelude.{◌≡◌, ◌++◌, IfOk, OnOk};
+ghost use Rattle.std.specs.Prelude.{[], ◌≡◌, ◌++◌, IfOk, OnOk};
 ghost use Rattle.defmt_run.specs.Status.{status_of, said};
 ghost use Rattle.defmt_run.specs.Told.{IsUntold};
 
@@ -110,32 +110,40 @@ impl Outcome {
         ensures { IfOk result (λ text. text ≡ said self.now.fault) }
     {
         let mut text = Text::new(alloc);
-        match self.fault {
-            Fault::Fine => add(&mut text, "fine")?,
-            Fault::Memory => add(&mut text, "memory")?,
-            Fault::Words => add(&mut text, "words")?,
-            Fault::Source => add(&mut text, "source")?,
-            Fault::Sink => add(&mut text, "sink")?,
-            Fault::Script { line, cause, inner } => {
-                let words = format!(in alloc; "script line {line} cause {cause} inner {inner}")?;
-                add(&mut text, words.as_str())?
-            }
-            Fault::Elf { cause, place, .. } => {
-                let words = format!(in alloc; "table elf cause {cause} place {place}")?;
-                add(&mut text, words.as_str())?
-            }
-            Fault::Names { cause, symbol } => {
-                let words = format!(in alloc; "table name cause {cause} symbol {symbol}")?;
-                add(&mut text, words.as_str())?
-            }
-            Fault::Shelf => add(&mut text, "shelf")?,
-            Fault::Long => add(&mut text, "too long")?,
-            Fault::Events { bad } => {
-                let words = format!(in alloc; "events with faults {bad}")?;
-                add(&mut text, words.as_str())?
-            }
-        }
+        add_words(alloc, &self.fault, &mut text)?;
         Ok(text)
+    }
+}
+
+// Puts the words that tell a fault where nothing stands yet.
+fn add_words(alloc: Global, fault: &Fault, text: &mut Text) -> Result<(), Memory>
+    requires { text.old ≡ [] }
+    ensures { OnOk result (text.new ≡ said fault.now) }
+{
+    match fault {
+        Fault::Fine => add(text, "fine"),
+        Fault::Memory => add(text, "memory"),
+        Fault::Words => add(text, "words"),
+        Fault::Source => add(text, "source"),
+        Fault::Sink => add(text, "sink"),
+        Fault::Script { line, cause, inner } => {
+            let words = format!(in alloc; "script line {line} cause {cause} inner {inner}")?;
+            add(text, words.as_str())
+        }
+        Fault::Elf { cause, place, .. } => {
+            let words = format!(in alloc; "table elf cause {cause} place {place}")?;
+            add(text, words.as_str())
+        }
+        Fault::Names { cause, symbol } => {
+            let words = format!(in alloc; "table name cause {cause} symbol {symbol}")?;
+            add(text, words.as_str())
+        }
+        Fault::Shelf => add(text, "shelf"),
+        Fault::Long => add(text, "too long"),
+        Fault::Events { bad } => {
+            let words = format!(in alloc; "events with faults {bad}")?;
+            add(text, words.as_str())
+        }
     }
 }
 

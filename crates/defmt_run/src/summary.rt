@@ -1,5 +1,5 @@
 // Counts of the statements of a run.
-ghost use Rattle.std.specs.Prelude.{◌≡◌, ◌≤◌, ◌++◌, ◌==◌, codes, count_by, sum_by, length, IfOk, OnOk};
+ghost use Rattle.std.specs.Prelude.{[], ◌≡◌, ◌≤◌, ◌++◌, ◌==◌, codes, count_by, sum_by, length, IfOk, OnOk};
 ghost use Rattle.defmt_run.specs.Printed.{count_line, has_level, is_of_level, level_line, message_size, summary, writer_count_line};
 
 use crate::output::add_count;
@@ -26,20 +26,29 @@ pub fn summary(alloc: Global, script: &Script, tape: &Tape) -> Result<Bytes, Mem
     requires { length tape.now.marks ≤ 4096 }
     ensures { IfOk result (λ out. out.items ≡ summary script.now tape.now.marks) }
 {
-    let marks = tape.as_slice();
     let mut out = Bytes::new(alloc);
-    add_line(alloc, b"lines ", tape.len() as u64, &mut out)?;
-    add_level(alloc, script, marks, b"trace ", Level::Trace, &mut out)?;
-    add_level(alloc, script, marks, b"debug ", Level::Debug, &mut out)?;
-    add_level(alloc, script, marks, b"info ", Level::Info, &mut out)?;
-    add_level(alloc, script, marks, b"warn ", Level::Warn, &mut out)?;
-    add_level(alloc, script, marks, b"error ", Level::Error, &mut out)?;
-    add_writer(alloc, marks, 0, &mut out)?;
-    add_writer(alloc, marks, 1, &mut out)?;
-    add_writer(alloc, marks, 2, &mut out)?;
-    add_writer(alloc, marks, 3, &mut out)?;
-    add_line(alloc, b"bytes ", messages_size(script, marks), &mut out)?;
+    add_summary(alloc, script, tape, &mut out)?;
     Ok(out)
+}
+
+// Puts the lines of the summary where nothing stands yet.
+fn add_summary(alloc: Global, script: &Script, tape: &Tape, out: &mut Bytes) -> Result<(), Memory>
+    requires few { length tape.now.marks ≤ 4096 }
+    requires empty { out.old.items ≡ [] }
+    ensures { OnOk result (out.new.items ≡ summary script.now tape.now.marks) }
+{
+    let marks = tape.as_slice();
+    add_line(alloc, b"lines ", tape.len() as u64, out)?;
+    add_level(alloc, script, marks, b"trace ", Level::Trace, out)?;
+    add_level(alloc, script, marks, b"debug ", Level::Debug, out)?;
+    add_level(alloc, script, marks, b"info ", Level::Info, out)?;
+    add_level(alloc, script, marks, b"warn ", Level::Warn, out)?;
+    add_level(alloc, script, marks, b"error ", Level::Error, out)?;
+    add_writer(alloc, marks, 0, out)?;
+    add_writer(alloc, marks, 1, out)?;
+    add_writer(alloc, marks, 2, out)?;
+    add_writer(alloc, marks, 3, out)?;
+    add_line(alloc, b"bytes ", messages_size(script, marks), out)
 }
 
 // Appends a line with a number behind these bytes.
