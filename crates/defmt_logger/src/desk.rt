@@ -103,6 +103,54 @@ fn send_statement<U: UpEnd, R: Relief, W: Wait>(
     send(rt, up, script.mode(), &frame[..size], relief)
 }
 
+// What a desk has of its own: the sites of its script, a tape, and the buffers for a message and a frame.
+#[derive(Drop)]
+struct Stores {
+    sites: Sites,
+    tape: Tape,
+    message: Vec<u8>,
+    frame: Vec<u8>,
+}
+
+// A tape with no mark, and room for all statements that a script can have.
+fn new_tape(alloc: Global) -> Result<Tape, Memory>
+    ensures marks { IfOk result (λ tape. tape.marks ≡ []) }
+    ensures room { IfOk result (λ tape. tape.room ≡ 4096) }
+{
+    let mut tape = Tape::new(alloc);
+    tape.reserve(STATEMENTS)?;
+    Ok(tape)
+}
+
+// The buffers for a message and a frame.
+fn buffers(alloc: Global) -> Result<(Vec<u8>, Vec<u8>), Memory>
+    ensures message { IfOk result (λ b. length b.0.items ≡ 2000) }
+    ensures frame { IfOk result (λ b. length b.1.items ≡ 2288) }
+{
+    let message = vec![in alloc; 0u8; MESSAGE_SIZE]?;
+    let frame = vec![in alloc; 0u8; FRAME_SIZE]?;
+    Ok((message, frame))
+}
+
+// What a desk of a script has before anything is logged.
+fn prepare(alloc: Global, script: &Script) -> Result<Stores, Memory>
+    ensures sites { IfOk result (λ s. HasSites script.now s.sites) }
+    ensures marks { IfOk result (λ s. s.tape.marks ≡ []) }
+    ensures room { IfOk result (λ s. s.tape.room ≡ 4096) }
+    ensures message { IfOk result (λ s. length s.message.items ≡ 2000) }
+    ensures frame { IfOk result (λ s. length s.frame.items ≡ 2288) }
+{
+    let (message, frame) = buffers(alloc)?;
+    let tape = new_tape(alloc)?;
+    let sites = Sites::of(alloc, script)?;
+    Ok(Stores {
+        sites,
+        tape,
+        message,
+        frame,
+    })
+}
+
 impl<U: UpEnd, C: Clock> Desk<U, C> {
     /// Logs the next statement of a writer that has one left, by the macro of its string's tag: its frame goes to the ring
     /// in the script's mode, and a mark on the tape. Waits in blocking mode alone, for the reader. Takes no memory.
@@ -159,19 +207,15 @@ impl<U: UpEnd + Drop, C: Clock + Drop> Desk<U, C> {
         ensures up { IfOk result (λ desk. desk.up ≡ U.view up) }
         ensures kept { IfOk result (λ desk. IsKept desk) }
     {
-        let sites = Sites::of(alloc, &script)?;
-        let mut tape = Tape::new(alloc);
-        tape.reserve(STATEMENTS)?;
-        let message = vec![in alloc; 0u8; MESSAGE_SIZE]?;
-        let frame = vec![in alloc; 0u8; FRAME_SIZE]?;
+        let stores = prepare(alloc, &script)?;
         Ok(Desk {
             script,
-            sites,
-            tape,
+            sites: stores.sites,
+            tape: stores.tape,
             places: [0; 8],
             stamp,
-            message,
-            frame,
+            message: stores.message,
+            frame: stores.frame,
             up,
         })
     }

@@ -1,4 +1,4 @@
-use Rattle.std.proofs.Common.{rules, ◌≡◌, [], ap, ◌∙◌, arith}
+use Rattle.std.proofs.Common.{ap}
 use Rattle.defmt_logger.proofs.Append.{kept_first}
 use Rattle.defmt_logger.proofs.Next.{no_counts}
 use Rattle.rtt_ring.specs.Views.{Up}
@@ -7,22 +7,22 @@ use Rattle.defmt_logger.proofs.desk.Desk.start.Goals as goal
 pub invariant_of-result : goal.invariant_of-result
 invariant_of-result g c =
     let u : Up = g.U.UpEnd.view c.args.up in
-    let none : c.reserve.new.self.marks ≡ [] = c.reserve.ensures.marks ∙ c.new-tape.ensures.marks in
-    let room : c.reserve.new.self.room ≡ 4096 = first_of (omega (arith, c.in_ok-reserve.ensures.room, c.new-tape.ensures.room), search rules) in
+    let s = c.in_ok-stores.stores in
+    let made = c.in_ok-stores.ensures in
     let fresh = c.requires.fresh in
     record {
-      kept = kept_first c.args.script c.reserve.new.self u none room (ap (λ (x : Up). x.sent) fresh) (ap (λ (x : Up). x.staged) fresh) (ap (λ (x : Up). x.size) fresh) (ap (λ (x : Up). x.looks) fresh) c.requires.told;
-      sites_are = c.in_ok-sites.ensures;
-      counts = no_counts c.reserve.new.self.marks none;
+      kept = kept_first c.args.script s.tape u made.marks made.room (ap (λ (x : Up). x.sent) fresh) (ap (λ (x : Up). x.staged) fresh) (ap (λ (x : Up). x.size) fresh) (ap (λ (x : Up). x.looks) fresh) c.requires.told;
+      sites_are = made.sites;
+      counts = no_counts s.tape.marks made.marks;
       clock = c.requires.clock;
-      message_size = search rules;
-      frame_size = search rules;
+      message_size = made.message;
+      frame_size = made.frame;
     }
 
 pub returns-clause-kept : goal.returns-clause-kept
 returns-clause-kept g c =
     let u : Up = g.U.UpEnd.view c.args.up in
-    let none : c.reserve.new.self.marks ≡ [] = c.reserve.ensures.marks ∙ c.new-tape.ensures.marks in
-    let room : c.reserve.new.self.room ≡ 4096 = first_of (omega (arith, c.in_ok-reserve.ensures.room, c.new-tape.ensures.room), search rules) in
+    let s = c.in_ok-stores.stores in
+    let made = c.in_ok-stores.ensures in
     let fresh = c.requires.fresh in
-    kept_first c.args.script c.reserve.new.self u none room (ap (λ (x : Up). x.sent) fresh) (ap (λ (x : Up). x.staged) fresh) (ap (λ (x : Up). x.size) fresh) (ap (λ (x : Up). x.looks) fresh) c.requires.told
+    kept_first c.args.script s.tape u made.marks made.room (ap (λ (x : Up). x.sent) fresh) (ap (λ (x : Up). x.staged) fresh) (ap (λ (x : Up). x.size) fresh) (ap (λ (x : Up). x.looks) fresh) c.requires.told
