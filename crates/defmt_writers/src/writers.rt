@@ -54,11 +54,11 @@ fn start<
     's,
     E,
     B: Books + Send,
-    K: Naming + Send + Sync,
+    K: Naming + Send,
     U: UpEnd + Send,
     C: Clock + Send,
     S: Seat<B, L> + Send,
-    L: Ledger + Send + Sync,
+    L: Ledger + Send,
     G: Gate + Sync,
     W: Wait + Sync,
 >(
@@ -82,17 +82,82 @@ fn start<
     if thread.is_ok() { 1 } else { 0 }
 }
 
+// Starts a thread for each writer that has statements, and lends it its pen. Answers how many were started.
+fn start_all<
+    's,
+    E,
+    L0: Ledger + Send,
+    L1: Ledger + Send,
+    L2: Ledger + Send,
+    L3: Ledger + Send,
+    L4: Ledger + Send,
+    L5: Ledger + Send,
+    L6: Ledger + Send,
+    L7: Ledger + Send,
+    K: Naming + Send,
+    U: UpEnd + Send,
+    C: Clock + Send,
+    G: Gate + Sync,
+    W: Wait + Sync,
+>(
+    scope: &Scope<'s, E>,
+    rt: &'s W,
+    logger: &'s Logger<Eight<L0, L1, L2, L3, L4, L5, L6, L7>, K, U, C>,
+    pens: &'s mut Pens<L0, L1, L2, L3, L4, L5, L6, L7, K>,
+    gate: &'s G,
+    done: &'s AtomicU64,
+) -> u64 {
+    let Pens {
+        p0,
+        p1,
+        p2,
+        p3,
+        p4,
+        p5,
+        p6,
+        p7,
+    } = pens;
+    let mut running = 0;
+    running += start(scope, rt, logger, p0, gate, done);
+    running += start(scope, rt, logger, p1, gate, done);
+    running += start(scope, rt, logger, p2, gate, done);
+    running += start(scope, rt, logger, p3, gate, done);
+    running += start(scope, rt, logger, p4, gate, done);
+    running += start(scope, rt, logger, p5, gate, done);
+    running += start(scope, rt, logger, p6, gate, done);
+    running += start(scope, rt, logger, p7, gate, done);
+    running
+}
+
+// Reads until so many threads have ended. A late reader takes nothing, and doesn't wait for them.
+fn read<K: Naming, D: DownEnd, G: Gate, W: Wait>(
+    rt: &W,
+    gate: &G,
+    done: &AtomicU64,
+    running: u64,
+    mut drain: Drain<K, D>,
+) -> Drain<K, D> {
+    for _ in rt.forever() {
+        if drain.late || done.load(Ordering::SeqCst) >= running {
+            break;
+        }
+        drain.take(gate);
+        thread::yield_now();
+    }
+    drain
+}
+
 // Starts a thread for each writer that has statements, lends it its pen, and reads until all have ended.
 pub(crate) fn work<
-    L0: Ledger + Send + Sync,
-    L1: Ledger + Send + Sync,
-    L2: Ledger + Send + Sync,
-    L3: Ledger + Send + Sync,
-    L4: Ledger + Send + Sync,
-    L5: Ledger + Send + Sync,
-    L6: Ledger + Send + Sync,
-    L7: Ledger + Send + Sync,
-    K: Naming + Send + Sync,
+    L0: Ledger + Send,
+    L1: Ledger + Send,
+    L2: Ledger + Send,
+    L3: Ledger + Send,
+    L4: Ledger + Send,
+    L5: Ledger + Send,
+    L6: Ledger + Send,
+    L7: Ledger + Send,
+    K: Naming + Send,
     U: UpEnd + Send,
     C: Clock + Send,
     D: DownEnd + Drop,
@@ -105,42 +170,16 @@ pub(crate) fn work<
     gate: &G,
     drain: Drain<K, D>,
 ) -> Drain<K, D> {
-    let Pens {
-        p0,
-        p1,
-        p2,
-        p3,
-        p4,
-        p5,
-        p6,
-        p7,
-    } = pens;
     let ended = AtomicU64::new(0);
     let done = &ended;
     thread::scope(
         thread::scope_env(),
         rt,
-        |scope| -> Drain<K, D>
+        move |scope| -> Drain<K, D>
             requires { Unit {0} }
         {
-            let mut running = 0;
-            running += start(scope, rt, logger, p0, gate, done);
-            running += start(scope, rt, logger, p1, gate, done);
-            running += start(scope, rt, logger, p2, gate, done);
-            running += start(scope, rt, logger, p3, gate, done);
-            running += start(scope, rt, logger, p4, gate, done);
-            running += start(scope, rt, logger, p5, gate, done);
-            running += start(scope, rt, logger, p6, gate, done);
-            running += start(scope, rt, logger, p7, gate, done);
-            let mut drain = drain;
-            for _ in rt.forever() {
-                if drain.late || done.load(Ordering::SeqCst) >= running {
-                    break;
-                }
-                drain.take(gate);
-                thread::yield_now();
-            }
-            drain
+            let running = start_all(scope, rt, logger, pens, gate, done);
+            read(rt, gate, done, running, drain)
         },
     )
 }
