@@ -1,12 +1,11 @@
 // The reader.
-ghost use Rattle.std.specs.Prelude.{◌≡◌, ◌+◌, ◌≤◌, true, [], length, IfOk};
+ghost use Rattle.std.specs.Prelude.{◌≡◌, ◌+◌, ◌≤◌, true, [], length};
 
 use crate::gate::Gate;
 use defmt_logger::Naming;
-use dl_io::{Bytes, Memory};
+use dl_io::Bytes;
 use rtt_modes::Relief;
 use rtt_ring::DownEnd;
-use std::alloc::Global;
 use std::marker::PhantomData;
 use std::thread;
 
@@ -68,28 +67,20 @@ pub struct Drain<K: Naming, D: DownEnd> {
 }
 
 impl<K: Naming, D: DownEnd> Drain<K, D> {
-    // A reader that has taken nothing, with room for so many bytes.
-    pub(crate) fn new(
-        alloc: Global,
-        down: D,
-        late: bool,
-        room: usize,
-    ) -> Result<Drain<K, D>, Memory>
-    where
-        D: Drop,
+    // A reader that has taken nothing. What it takes goes where there is nothing yet.
+    pub(crate) fn new(down: D, captured: Bytes, late: bool) -> Drain<K, D>
         requires split { (D.view down).split ≡ K.split }
         requires got { (D.view down).got ≡ [] }
+        requires captured { captured.items ≡ [] }
         requires late { late ≡ K.script.settings.late }
-        ensures room { IfOk result (λ drain. drain.captured.room ≡ room) }
+        ensures room { result.captured.room ≡ captured.room }
     {
-        let mut captured = Bytes::new(alloc);
-        captured.reserve(room)?;
-        Ok(Drain {
+        Drain {
             down,
             captured,
             late,
             of: PhantomData,
-        })
+        }
     }
 
     // Takes bytes that are there, as far as there is room for them, and tells the gate. A late reader takes none.

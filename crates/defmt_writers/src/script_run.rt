@@ -1,5 +1,5 @@
 // How a run goes.
-ghost use Rattle.std.specs.Prelude.{◌≡◌, ◌≤◌, List, IfOk, length};
+ghost use Rattle.std.specs.Prelude.{◌≡◌, ◌≤◌, List, [], IfOk, length};
 ghost use Rattle.defmt_logger.specs.Kept.{IsClockOf, TellsIn};
 ghost use Rattle.defmt_logger.specs.Tape.{IsLawful, stream_of};
 ghost use Rattle.defmt_logger.specs.declared.mark.Mark.{Mark};
@@ -56,6 +56,16 @@ fn frames_size(script: &Script) -> usize
     count as usize * FRAME_SIZE
 }
 
+// No bytes, with room for so many.
+fn empty_capture(alloc: Global, room: usize) -> Result<Bytes, Memory>
+    ensures items { IfOk result (λ captured. captured.items ≡ []) }
+    ensures room { IfOk result (λ captured. captured.room ≡ room) }
+{
+    let mut captured = Bytes::new(alloc);
+    captured.reserve(room)?;
+    Ok(captured)
+}
+
 // Logs the statements that a pen has left. A live reader makes room where a frame waits for it, and a late one takes nothing.
 fn finish_pen<
     H: Channel,
@@ -92,14 +102,14 @@ fn finish_pen<
 // Logs the statements that the pens have left.
 fn finish<
     H: Channel,
-    L0: Ledger + Send + Sync,
-    L1: Ledger + Send + Sync,
-    L2: Ledger + Send + Sync,
-    L3: Ledger + Send + Sync,
-    L4: Ledger + Send + Sync,
-    L5: Ledger + Send + Sync,
-    L6: Ledger + Send + Sync,
-    L7: Ledger + Send + Sync,
+    L0: Ledger,
+    L1: Ledger,
+    L2: Ledger,
+    L3: Ledger,
+    L4: Ledger,
+    L5: Ledger,
+    L6: Ledger,
+    L7: Ledger,
     K: Naming,
     C: Clock,
     G: Gate,
@@ -133,15 +143,15 @@ fn finish<
 // Runs a script over the two ends of one split, under their names.
 fn run_named<
     H: Channel,
-    L0: Ledger + Send + Sync,
-    L1: Ledger + Send + Sync,
-    L2: Ledger + Send + Sync,
-    L3: Ledger + Send + Sync,
-    L4: Ledger + Send + Sync,
-    L5: Ledger + Send + Sync,
-    L6: Ledger + Send + Sync,
-    L7: Ledger + Send + Sync,
-    K: Naming + Send + Sync,
+    L0: Ledger + Send,
+    L1: Ledger + Send,
+    L2: Ledger + Send,
+    L3: Ledger + Send,
+    L4: Ledger + Send,
+    L5: Ledger + Send,
+    L6: Ledger + Send,
+    L7: Ledger + Send,
+    K: Naming + Send,
     C: Clock + Send + Drop,
     G: Gate + Sync,
     R: Threads + Wait + Sync,
@@ -161,11 +171,13 @@ fn run_named<
     gate: &G,
     up: H::Up,
     down: H::Down,
+    captured: Bytes,
 ) -> Result<Run, Memory>
     requires clock { IsClockOf script.settings.stamp (C.base clock) (C.step clock) (C.ready clock) (C.gives clock) }
     requires up { H.Up.view up ≡ new_up (H.Up.view up).split script.settings.ring (H.Up.view up).tells }
     requires told { TellsIn script.settings.mode (H.Up.view up) }
     requires down { H.Down.view down ≡ new_down (H.Up.view up).split script.settings.ring }
+    requires captured { captured.items ≡ [] }
     requires names { (K.script ≡ script) × (K.split ≡ (H.Up.view up).split) }
     requires l0 { (blank0.name ≡ L0.name) × (blank0.parts ≡ L0.parts) × (blank0.parts ≡ 1) }
     requires l1 { (blank1.name ≡ L1.name) × (blank1.parts ≡ L1.parts) × (blank1.parts ≡ 1) }
@@ -179,12 +191,10 @@ fn run_named<
     ensures run { IfOk result (λ r. IsRun K.script r.tape.marks r.settled r.captured.items r.rest.items r.looks) }
     ensures ring { IfOk result (λ r. r.settled.ring ≡ H.KIND) }
 {
-    let late = script.late();
-    let room = frames_size(&script);
+    let drain = Drain::<K, H::Down>::new(down, captured, script.late());
     let (logger, mut pens) = Logger::<Eight<L0, L1, L2, L3, L4, L5, L6, L7>, K, H::Up, C>::start(
         alloc, blank0, blank1, blank2, blank3, blank4, blank5, blank6, blank7, script, clock, up,
     )?;
-    let drain = Drain::<K, H::Down>::new(alloc, down, late, room)?;
     let mut drain = work(rt, &logger, &mut pens, gate, drain);
     finish::<H, _, _, _, _, _, _, _, _, _, _, _, _>(rt, &logger, &mut pens, gate, &mut drain);
     drain.take_all(gate);
@@ -230,7 +240,7 @@ pub fn run_script<H: Channel, C: Clock + Send + Drop, G: Gate + Sync, R: Threads
     ensures run { IfOk result (λ r. IsRun script r.tape.marks r.settled r.captured.items r.rest.items r.looks) }
     ensures ring { IfOk result (λ r. r.settled.ring ≡ H.KIND) }
 {
-    let (up, down) = split_ring::<H>(alloc, &script)?;
+    let (up, down, captured) = prepare::<H>(alloc, &script)?;
     run_named::<H, Brand, Brand, Brand, Brand, Brand, Brand, Brand, Brand, Brand, C, G, R>(
         rt,
         alloc,
@@ -247,6 +257,7 @@ pub fn run_script<H: Channel, C: Clock + Send + Drop, G: Gate + Sync, R: Threads
         gate,
         up,
         down,
+        captured,
     )
 }
 
@@ -263,4 +274,17 @@ fn split_ring<H: Channel>(alloc: Global, script: &Script) -> Result<(H::Up, H::D
         Err(RingFault::Memory) => Err(Memory),
         Err(RingFault::Size) => unreachable!(),
     }
+}
+
+// The same, and the room for what the reader takes, with nothing in it.
+fn prepare<H: Channel>(alloc: Global, script: &Script) -> Result<(H::Up, H::Down, Bytes), Memory>
+    requires { ModeFits script.now.settings.mode H.tells }
+    ensures up { IfOk result (λ e. H.Up.view e.0 ≡ new_up (H.Up.view e.0).split script.now.settings.ring (H.Up.view e.0).tells) }
+    ensures told { IfOk result (λ e. TellsIn script.now.settings.mode (H.Up.view e.0)) }
+    ensures down { IfOk result (λ e. H.Down.view e.1 ≡ new_down (H.Up.view e.0).split script.now.settings.ring) }
+    ensures captured { IfOk result (λ e. e.2.items ≡ []) }
+{
+    let captured = empty_capture(alloc, frames_size(script))?;
+    let (up, down) = split_ring::<H>(alloc, script)?;
+    Ok((up, down, captured))
 }
