@@ -1,5 +1,5 @@
 // How a run goes.
-ghost use Rattle.std.specs.Prelude.{◌≡◌, ◌≤◌, List, [], IfOk, length};
+ghost use Rattle.std.specs.Prelude.{◌≡◌, ◌-◌, ◌^◌, ◌≤◌, List, [], ◌++◌, IfOk, length, min};
 ghost use Rattle.defmt_logger.specs.Kept.{IsClockOf, TellsIn};
 ghost use Rattle.defmt_logger.specs.Tape.{IsLawful, stream_of};
 ghost use Rattle.defmt_logger.specs.declared.mark.Mark.{Mark};
@@ -140,6 +140,37 @@ fn finish<
     finish_pen::<H, _, _, _, _, _, _, _>(rt, logger, &mut pens.p7, gate, drain);
 }
 
+// What a run answers once the two ends of its ring are brought together.
+fn settle<H: Channel>(
+    alloc: Global,
+    script: Script,
+    tape: Tape,
+    captured: Bytes,
+    up: H::Up,
+    down: H::Down,
+) -> Result<Run, Memory>
+    requires pair { (H.Up.view up).split ≡ (H.Down.view down).split }
+    requires staged { (H.Up.view up).staged ≡ [] }
+    ensures script { IfOk result (λ r. r.script ≡ script) }
+    ensures tape { IfOk result (λ r. r.tape ≡ tape) }
+    ensures captured { IfOk result (λ r. r.captured ≡ captured) }
+    ensures account { IfOk result (λ r. (r.settled.sent ≡ (H.Up.view up).sent) × (r.settled.got ≡ (H.Down.view down).got) × (r.settled.ring ≡ H.KIND)) }
+    ensures rest { IfOk result (λ r. (r.settled.sent ≡ r.settled.got ++ r.rest.items) × ((H.Up.view up).freed ≤ length r.settled.got)) }
+    ensures looks { IfOk result (λ r. r.looks ≡ min (H.Up.view up).looks (2 ^ 64 - 1)) }
+{
+    let looks = up.looks();
+    let mut rest = Bytes::new(alloc);
+    let settled = H::settle(up, down, &mut rest)?;
+    Ok(Run {
+        script,
+        tape,
+        settled,
+        captured,
+        rest,
+        looks,
+    })
+}
+
 // Runs a script over the two ends of one split, under their names.
 fn run_named<
     H: Channel,
@@ -199,23 +230,14 @@ fn run_named<
     finish::<H, _, _, _, _, _, _, _, _, _, _, _, _>(rt, &logger, &mut pens, gate, &mut drain);
     drain.take_all(gate);
     let (tape, up, script) = logger.close(pens);
-    let looks = up.looks();
     let Drain {
         down,
         captured,
         late: _,
         of: _,
     } = drain;
-    let mut rest = Bytes::new(alloc);
-    let settled = H::settle(up, down, &mut rest)?;
-    Ok(Run {
-        script,
-        tape,
-        settled,
-        captured,
-        rest,
-        looks,
-    })
+    let answer = settle::<H>(alloc, script, tape, captured, up, down)?;
+    Ok(answer)
 }
 
 /// Runs a script over a ring of its own: a thread for each writer that has statements logs them, and the calling thread reads.
