@@ -11,8 +11,6 @@ mod event;
 mod host;
 mod laws;
 mod reader;
-#[cfg(test)]
-mod tests;
 
 pub use event::{Event, Events};
 pub use host::Host;

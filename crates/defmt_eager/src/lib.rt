@@ -13,6 +13,3 @@ mod wide;
 pub use eager::{EagerFault, text_of};
 pub use printed::{line, stamp_at, stamp_is_one};
 pub use wide::is_wide;
-
-#[cfg(test)]
-mod tests;

@@ -19,6 +19,3 @@ pub use sound::args_are_sound;
 pub use writing::{
     is_long, message, put_args, put_slice, put_text, put_value, size_bytes, stamp_slots,
 };
-
-#[cfg(test)]
-mod tests;

@@ -11,8 +11,6 @@ mod framer;
 mod laws;
 mod places;
 mod teller;
-#[cfg(test)]
-mod tests;
 
 pub use decoded::{decode_piece, decoded_is};
 pub use framer::Framer;

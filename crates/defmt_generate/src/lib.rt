@@ -5,6 +5,3 @@ mod script;
 mod statement;
 
 pub use script::{generate, scripts_are_short};
-
-#[cfg(test)]
-mod tests;

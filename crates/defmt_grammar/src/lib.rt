@@ -24,6 +24,3 @@ pub use pieces::{Pieces, one_answer, parse, slots_are_sound};
 pub use printing::{print, reads_back};
 pub use slot::Slot;
 pub use text::Text;
-
-#[cfg(test)]
-mod tests;

@@ -15,6 +15,3 @@ pub use bytes::show_bytes;
 pub use digits::digits_are_unique;
 pub use numbers::{show_int, show_uint};
 pub use texts::{show_bool, show_char, show_str};
-
-#[cfg(test)]
-mod tests;

@@ -9,6 +9,3 @@ mod stamp;
 
 pub use clock::Clock;
 pub use stamp::Stamp;
-
-#[cfg(test)]
-mod tests;

@@ -11,6 +11,3 @@ pub use entry::{Entry, Tag};
 pub use name::{NameFault, NameKey, read_name, symbol_name};
 pub use parsed::{Forms, Parsed, pieces_are_spelled};
 pub use table::{Entries, Table, TableFault};
-
-#[cfg(test)]
-mod tests;

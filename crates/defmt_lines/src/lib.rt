@@ -18,6 +18,3 @@ pub use form::Form;
 pub use line::{is_name, read_line};
 pub use settings::{RingMode, Settings};
 pub use verdict::{judge, one_verdict};
-
-#[cfg(test)]
-mod tests;

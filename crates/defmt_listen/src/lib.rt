@@ -8,8 +8,6 @@ mod fault;
 mod listener;
 mod listening;
 mod part;
-#[cfg(test)]
-mod tests;
 
 pub use fault::ListenFault;
 pub use listener::Listener;

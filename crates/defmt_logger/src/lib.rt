@@ -25,6 +25,3 @@ pub use logger::Logger;
 pub use mark::Mark;
 pub use pen::{Pen, Pens};
 pub use tape::Tape;
-
-#[cfg(test)]
-mod tests;

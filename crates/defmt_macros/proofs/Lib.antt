@@ -1,3 +1,3 @@
 mod Lengths
-mod Messages
+pub mod Messages
 mod Places

@@ -19,6 +19,3 @@ pub use frame::Frame;
 pub use logging::log;
 pub use site::{Site, SiteFault, stamp_suits};
 pub use slots::Slots;
-
-#[cfg(test)]
-mod tests;

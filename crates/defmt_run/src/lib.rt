@@ -29,6 +29,3 @@ pub use elf_section::Part;
 pub use outcome::{Fault, Outcome};
 pub use rtt_ring::{RingKind, Settled};
 pub use top::session;
-
-#[cfg(test)]
-mod tests;

@@ -12,6 +12,3 @@ pub use fault::ScriptFault;
 pub use laws::{scripts_are_lawful, stamps_are_alike, stamps_fit, texts_are_few};
 pub use script::{Script, Statements};
 pub use top::{one_reading, read};
-
-#[cfg(test)]
-mod tests;

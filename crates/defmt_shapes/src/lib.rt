@@ -15,6 +15,3 @@ pub use meaning::{bytes_of, unescape};
 pub use number::Number;
 pub use parts::skip_spaces;
 pub use spelling::{Item, Spelling, first_item, first_value};
-
-#[cfg(test)]
-mod tests;

@@ -11,6 +11,3 @@ pub use fault::ArgFault;
 pub use names::Names;
 pub use printing::{print_args, reads_back};
 pub use reading::{one_reading, read_args};
-
-#[cfg(test)]
-mod tests;

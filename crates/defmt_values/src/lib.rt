@@ -6,6 +6,3 @@ mod value;
 
 pub use fitting::{check, cut, form_of, is_signed, look_up, own_form, pick, power, size_bits};
 pub use value::{Args, Item, Items, Node, Seq, Statement, Value};
-
-#[cfg(test)]
-mod tests;

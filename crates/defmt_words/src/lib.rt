@@ -10,6 +10,3 @@ mod reading;
 pub use job::Job;
 pub use laws::counts_fit;
 pub use reading::job_of;
-
-#[cfg(test)]
-mod tests;

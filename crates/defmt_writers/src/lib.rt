@@ -14,6 +14,3 @@ mod writers;
 pub use gate::{Gate, OpenGate};
 pub use script_run::{Run, run_script};
 pub use serving::serve_here;
-
-#[cfg(test)]
-mod tests;

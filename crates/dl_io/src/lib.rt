@@ -21,6 +21,3 @@ pub use memory::{MemSink, MemSource, RepeatSource};
 pub use shelf::Shelf;
 pub use sink::Sink;
 pub use source::Source;
-
-#[cfg(test)]
-mod tests;

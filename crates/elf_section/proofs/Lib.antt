@@ -6,7 +6,6 @@ pub mod TableLaws
 pub mod ListedLaws
 pub mod ReadLaws
 pub mod WritingLaws
-pub mod WritableLaws
 pub mod FieldLaws
 pub mod ReadBack
 pub mod ReadSymbols

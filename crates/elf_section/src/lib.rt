@@ -10,8 +10,6 @@ mod sections;
 mod strings;
 mod symbols;
 mod table;
-#[cfg(test)]
-mod tests;
 mod writing;
 
 pub use fault::{ElfFault, Part};

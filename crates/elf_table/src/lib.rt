@@ -8,6 +8,3 @@ mod writing;
 pub use fault::LoadFault;
 pub use reading::read_table;
 pub use writing::{is_writable, size_grows, write_table};
-
-#[cfg(test)]
-mod tests;

@@ -62,6 +62,3 @@ fn main(rt: HostRuntime) -> io::Result<ExitCode> {
     }
     Ok(ExitCode::from(0))
 }
-
-#[cfg(test)]
-mod tests;

@@ -15,6 +15,3 @@ pub use block::{Block, Descriptor, Descriptors};
 pub use bytes::{ID, put, put_descriptor, put_words};
 pub use calls::{find, read, unread, write};
 pub use fault::{Cause, ControlFault};
-
-#[cfg(test)]
-mod tests;

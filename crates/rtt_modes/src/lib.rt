@@ -10,6 +10,3 @@ mod modes;
 
 pub use fate::{Fate, Relief};
 pub use modes::{block, skip, trim};
-
-#[cfg(test)]
-mod tests;

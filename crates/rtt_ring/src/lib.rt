@@ -22,6 +22,3 @@ pub use plain::PlainRing;
 pub use queue::{QueueDown, QueueRing, QueueUp};
 pub use settled::{RingKind, Settled};
 pub use word::{WordDown, WordRing, WordUp};
-
-#[cfg(test)]
-mod tests;

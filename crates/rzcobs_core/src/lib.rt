@@ -14,8 +14,6 @@
 mod decoder;
 mod encoder;
 mod laws;
-#[cfg(test)]
-mod tests;
 mod whole;
 
 pub use decoder::{Malformed, decode};

@@ -1,0 +1,63 @@
+// Stamps, asked by number and through the trait.
+ghost use Rattle.std.specs.Prelude.{◌≡◌, ◌≤◌, ◌+◌, ◌*◌};
+ghost use Rattle.defmt_hooks.specs.Even.{RunsEvenly};
+
+use defmt_hooks::{Clock, Stamp};
+use std::alloc::Global;
+use std::test::Fail;
+use test_rows::each_line;
+
+const MOST: u64 = 281_474_976_710_656;
+
+// A clock's base, its step and the number of a message: its stamp as the closure's keeper and as any clock tells it.
+const STAMPS: &str = "\
+1000 250 0 = 1000 1000
+1000 250 3 = 1750 1750
+1000 250 4096 = 1025000 1025000
+281474976710656 281474976710656 4096 = 1153202979583557632 1153202979583557632";
+
+fn tick_of<C: Clock>(clock: &C, t: u32) -> u64
+    requires number { t ≤ 4096 }
+    requires even { RunsEvenly (C.base clock.now) (C.step clock.now) (C.ready clock.now) (C.gives clock.now) }
+    ensures { result ≡ C.base clock.now + C.step clock.now * t }
+{
+    clock.tick(t)
+}
+
+// Both answers of a clock that counts by these numbers.
+fn answers_of(base: u64, step: u64, t: u32) -> (u64, u64)
+    requires { (base ≤ 281474976710656) × (step ≤ 281474976710656) × (t ≤ 4096) }
+{
+    let clock = move |t: u32| -> u64
+        requires { (base ≤ 281474976710656) × (step ≤ 281474976710656) × (t ≤ 4096) }
+        ensures { result ≡ base + step * t }
+    { base + step * u64::from(t) };
+    let stamp = Stamp::new(base, step, clock);
+    (stamp.at(t), tick_of(&stamp, t))
+}
+
+fn stamps_of(alloc: Global, row: &str) -> Result<String, Fail> {
+    let Some((base, rest)) = row.split_once(' ') else {
+        return Err(Fail::new("no step"));
+    };
+    let Some((step, number)) = rest.split_once(' ') else {
+        return Err(Fail::new("no number"));
+    };
+    let base = u64::from_str_radix(base, 10)?;
+    let step = u64::from_str_radix(step, 10)?;
+    let number = u32::from_str_radix(number, 10)?;
+    if base > MOST || step > MOST || number > 4096 {
+        return Err(Fail::new("a number is too large"));
+    }
+    let (at, tick) = answers_of(base, step, number);
+    Ok(format!(in alloc; "{at} {tick}")?)
+}
+
+#[test]
+fn stamps_are_evenly_apart(rt: HostRuntime) -> Result<(), Fail> {
+    assert_eq!(rt;
+        each_line(rt.alloc(), STAMPS, stamps_of)?.as_str(),
+        "4 rows"
+    );
+    Ok(())
+}

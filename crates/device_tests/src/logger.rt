@@ -1,0 +1,231 @@
+// A logger over a plain ring, on one thread.
+ghost use Rattle.std.specs.Prelude.{◌≡◌, ◌≤◌, ◌∷◌, [], true, length, ⊤};
+ghost use Rattle.defmt_grammar.specs.declared.kind.IntSize.TheVariants.{W8};
+ghost use Rattle.defmt_grammar.specs.declared.kind.Kind.TheVariants.{Uint};
+ghost use Rattle.defmt_grammar.specs.declared.slot.Slot.TheVariants.{One};
+ghost use Rattle.defmt_logger.specs.Kept.{IsClockOf};
+ghost use Rattle.rtt_ring.specs.PlainView.{up_of};
+ghost use Rattle.rtt_ring.specs.Views.{new_up};
+
+use crate::scripts::{bytes_text, clock_of, marks_text, script_of};
+use defmt_grammar::{IntSize, Kind, Slot};
+use defmt_hooks::Clock;
+use defmt_intern::Table;
+use defmt_logger::{Books, Eight, Logger, Naming, Pen, Seat, Tape};
+use defmt_macros::{Frame, Site, put};
+use defmt_script::Script;
+use dl_io::Bytes;
+use rtt_modes::Relief;
+use rtt_ring::{PlainRing, UpEnd};
+use std::alloc::Global;
+use std::marker::Brand;
+use std::sync::Wait;
+use std::sync::ledger::{Blank, Ledger};
+use std::test::Fail;
+use test_rows::each_block;
+
+// A script: what came of it where the writer 1 logs a statement, then the writer 0 three, as far as they have them.
+const LOGGED: &str = "\
+ring 16
+mode skip
+reader late
+stamp 1000 250
+s hi defmt_info hello
+w 0 hi
+w 1 hi
+w 0 hi
+=
+1.0 at 1000 Whole
+0.0 at 1250 Whole
+0.1 at 1500 Dropped { need: 7, room: 1 }
+3 marks, room for 4093
+sent 00 01 e8 03 72 7f 00 00 01 e2 04 72 7f 00";
+
+// The same where a frame of the first statement's string is begun, given two numbers and dropped afterwards.
+const DROPPED: &str = "\
+s pair defmt_info {=u8} {=u8}
+w 0 pair 1 2
+=
+0.0 at 0 Whole
+1 marks, room for 4095
+sent 00 01 01 02 72 00";
+
+// Waits for nobody.
+#[derive(Drop)]
+struct NoRelief;
+
+impl Relief for NoRelief {
+    ghost kept = { λ _. ⊤ };
+
+    fn ease(&mut self) {}
+}
+
+// Logs the next statement of a pen, where it has one left.
+fn log_by<B: Books, K: Naming, U: UpEnd, C: Clock, S: Seat<B, L>, L: Ledger, W: Wait>(
+    rt: &W,
+    logger: &Logger<B, K, U, C>,
+    pen: &mut Pen<S, L, K>,
+) {
+    if pen.place() < pen.total() {
+        logger.log(rt, pen, &mut NoRelief);
+    }
+}
+
+// Begins a message of two numbers, puts both, and drops its frame.
+fn drop_frame(message: &mut [u8], site: &Site, table: &Table)
+    requires room { 2000 ≤ length message.old }
+    requires slots { site.now.slots ≡ One (Uint W8) ∷ One (Uint W8) ∷ [] }
+{
+    let mut frame = Frame::begin(message, site, None);
+    put!(frame, table, u8 1);
+    put!(frame, table, u8 2);
+    drop(frame);
+}
+
+// The same with a site of its own, of the first entry.
+fn drop_frame_of(alloc: Global, table: &Table) -> Result<(), Fail> {
+    let byte = Slot::One(Kind::Uint(IntSize::W8));
+    let Ok(site) = Site::new(alloc, table, 1, &[byte, byte]) else {
+        return Err(Fail::new("no site"));
+    };
+    let [
+        Slot::One(Kind::Uint(IntSize::W8)),
+        Slot::One(Kind::Uint(IntSize::W8)),
+    ] = site.slots()
+    else {
+        return Err(Fail::new("other slots"));
+    };
+    drop_frame(&mut [0; 2000], &site, table);
+    Ok(())
+}
+
+// Logs a statement of the writer 1 and three of the writer 0, as far as they have them, drops a frame of a table where there
+// is one, and closes the logger. Gives the tape and what was sent.
+fn log_by_pens<
+    L0: Ledger,
+    L1: Ledger,
+    L2: Ledger,
+    L3: Ledger,
+    L4: Ledger,
+    L5: Ledger,
+    L6: Ledger,
+    L7: Ledger,
+    K: Naming,
+    C: Clock + Drop,
+    W: Wait,
+>(
+    rt: &W,
+    alloc: Global,
+    blank0: Blank,
+    blank1: Blank,
+    blank2: Blank,
+    blank3: Blank,
+    blank4: Blank,
+    blank5: Blank,
+    blank6: Blank,
+    blank7: Blank,
+    script: Script,
+    clock: C,
+    ring: PlainRing,
+    table: Option<&Table>,
+) -> Result<(Tape, Bytes), Fail>
+    requires clock { IsClockOf script.settings.stamp (C.base clock) (C.step clock) (C.ready clock) (C.gives clock) }
+    requires fresh { up_of ring ≡ new_up (up_of ring).split script.settings.ring true }
+    requires names { (K.script ≡ script) × (K.split ≡ (up_of ring).split) }
+    requires l0 { (blank0.name ≡ L0.name) × (blank0.parts ≡ L0.parts) × (blank0.parts ≡ 1) }
+    requires l1 { (blank1.name ≡ L1.name) × (blank1.parts ≡ L1.parts) × (blank1.parts ≡ 1) }
+    requires l2 { (blank2.name ≡ L2.name) × (blank2.parts ≡ L2.parts) × (blank2.parts ≡ 1) }
+    requires l3 { (blank3.name ≡ L3.name) × (blank3.parts ≡ L3.parts) × (blank3.parts ≡ 1) }
+    requires l4 { (blank4.name ≡ L4.name) × (blank4.parts ≡ L4.parts) × (blank4.parts ≡ 1) }
+    requires l5 { (blank5.name ≡ L5.name) × (blank5.parts ≡ L5.parts) × (blank5.parts ≡ 1) }
+    requires l6 { (blank6.name ≡ L6.name) × (blank6.parts ≡ L6.parts) × (blank6.parts ≡ 1) }
+    requires l7 { (blank7.name ≡ L7.name) × (blank7.parts ≡ L7.parts) × (blank7.parts ≡ 1) }
+{
+    let (logger, mut pens) = Logger::<
+        Eight<L0, L1, L2, L3, L4, L5, L6, L7>,
+        K,
+        PlainRing,
+        C,
+    >::start(
+        alloc, blank0, blank1, blank2, blank3, blank4, blank5, blank6, blank7, script, clock, ring,
+    )?;
+    log_by(rt, &logger, &mut pens.p1);
+    for _ in 0..3 {
+        log_by(rt, &logger, &mut pens.p0);
+    }
+    if let Some(table) = table {
+        drop_frame_of(alloc, table)?;
+    }
+    let (tape, ring, _) = logger.close(pens);
+    let mut sent = Bytes::new(alloc);
+    ring.settle(&mut sent)?;
+    Ok((tape, sent))
+}
+
+// Runs the pens of a script's logger over a ring of its own.
+fn log_script<W: Wait>(
+    rt: &W,
+    alloc: Global,
+    script: Script,
+    table: Option<&Table>,
+) -> Result<(Tape, Bytes), Fail> {
+    let Ok(ring) = PlainRing::split(alloc, script.ring()) else {
+        return Err(Fail::new("no ring"));
+    };
+    let clock = clock_of(&script);
+    log_by_pens::<Brand, Brand, Brand, Brand, Brand, Brand, Brand, Brand, Brand, _, _>(
+        rt,
+        alloc,
+        Blank::new(1),
+        Blank::new(1),
+        Blank::new(1),
+        Blank::new(1),
+        Blank::new(1),
+        Blank::new(1),
+        Blank::new(1),
+        Blank::new(1),
+        script,
+        clock,
+        ring,
+        table,
+    )
+}
+
+fn told(alloc: Global, tape: &Tape, sent: &Bytes) -> Result<String, Fail> {
+    let marks = marks_text(alloc, tape)?;
+    let sent = bytes_text(alloc, sent.as_slice())?;
+    let count = tape.len();
+    let spare = tape.spare();
+    Ok(format!(in alloc; "{marks}{count} marks, room for {spare}\nsent {sent}")?)
+}
+
+fn logged<W: Wait>(rt: &W, alloc: Global, text: &str) -> Result<String, Fail> {
+    let script = script_of(alloc, text)?;
+    let (tape, sent) = log_script(rt, alloc, script, None)?;
+    told(alloc, &tape, &sent)
+}
+
+fn logged_and_dropped<W: Wait>(rt: &W, alloc: Global, text: &str) -> Result<String, Fail> {
+    let script = script_of(alloc, text)?;
+    let table = script.table().copy()?;
+    let (tape, sent) = log_script(rt, alloc, script, Some(&table))?;
+    told(alloc, &tape, &sent)
+}
+
+#[test]
+fn pens_log_what_fits_and_report_what_does_not(rt: HostRuntime) -> Result<(), Fail> {
+    let answer = each_block(rt.alloc(), LOGGED, |alloc, text| logged(&rt, alloc, text))?;
+    assert_eq!(rt; answer.as_str(), "1 rows");
+    Ok(())
+}
+
+#[test]
+fn a_frame_that_is_dropped_leaves_ring_and_tape(rt: HostRuntime) -> Result<(), Fail> {
+    let answer = each_block(
+        rt.alloc(),
+        DROPPED,
+        |alloc, text| logged_and_dropped(&rt, alloc, text),
+    )?;
+    assert_eq!(rt; answer.as_str(), "1 rows");
+    Ok(())
+}

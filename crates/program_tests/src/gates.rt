@@ -1,0 +1,193 @@
+// Writers that a gate holds. A row is how many writers there are and the script, and how often the gate let one go, the status and
+// the lines.
+use crate::rows::{Kind, each_row};
+use crate::sessions::{Told, empty_stage, parts_of, source_of, told_in};
+use defmt_run::Gate;
+use std::alloc::Global;
+use std::sync::Wait;
+use std::sync::atomic::{AtomicU64, Ordering};
+use std::test::Fail;
+use std::thread;
+use std::thread::Threads;
+
+const HELD: &str = "\
+2
+ring 64
+s a defmt_info a {=u8}
+s b defmt_warn b {=bool}
+w 0 a 1
+w 1 b true
+w 0 a 2
+w 1 b false
+=
+2 let go, status 0 fine
+INFO  a 1
+INFO  a 2
+WARN  b true
+WARN  b false
+
+2
+ring 64
+mode skip
+s a defmt_info a {=u8}
+s b defmt_warn b {=bool}
+w 0 a 1
+w 1 b true
+w 0 a 2
+w 1 b false
+=
+2 let go, status 0 fine
+INFO  a 1
+INFO  a 2
+WARN  b true
+WARN  b false
+
+2
+ring 64
+mode trim
+s a defmt_info a {=u8}
+s b defmt_warn b {=bool}
+w 0 a 1
+w 1 b true
+w 0 a 2
+w 1 b false
+=
+2 let go, status 0 fine
+INFO  a 1
+INFO  a 2
+WARN  b true
+WARN  b false
+
+1
+ring 16
+s hi defmt_info hello
+w 0 hi
+w 0 hi
+w 0 hi
+w 0 hi
+=
+2 let go, status 0 fine
+INFO  hello
+INFO  hello
+INFO  hello
+INFO  hello
+
+1
+ring 16
+mode skip
+s hi defmt_info hello
+w 0 hi
+w 0 hi
+w 0 hi
+w 0 hi
+=
+2 let go, status 0 fine
+INFO  hello
+INFO  hello
+INFO  hello
+INFO  hello
+
+1
+ring 16
+mode trim
+s hi defmt_info hello
+w 0 hi
+w 0 hi
+w 0 hi
+w 0 hi
+=
+2 let go, status 0 fine
+INFO  hello
+INFO  hello
+INFO  hello
+INFO  hello";
+
+// How many turns a gate holds a writer at most.
+const TURNS: u64 = 10_000_000;
+
+// Waits until the number is at least this, and tells whether it was within so many turns.
+fn reaches(number: &AtomicU64, least: u64) -> bool {
+    for _ in 0..TURNS {
+        if number.load(Ordering::SeqCst) >= least {
+            return true;
+        }
+        thread::yield_now();
+    }
+    false
+}
+
+// Holds each writer at place 0 until so many were asked, and the writer 0 at place 3 until twelve bytes were taken. It counts how
+// often it let one go.
+#[derive(Drop)]
+struct Holding {
+    writers: u64,
+    asked: AtomicU64,
+    taken: AtomicU64,
+    let_go: AtomicU64,
+}
+
+impl Gate for Holding {
+    fn pass(&self, writer: u8, place: u32) {
+        let goes = if place == 0 {
+            self.asked.fetch_add(1, Ordering::SeqCst);
+            reaches(&self.asked, self.writers)
+        } else {
+            writer == 0 && place == 3 && reaches(&self.taken, 12)
+        };
+        if goes {
+            self.let_go.fetch_add(1, Ordering::SeqCst);
+        }
+    }
+
+    fn took(&self, total: u64) {
+        self.taken.store(total, Ordering::SeqCst);
+    }
+}
+
+fn gate_for(writers: u64) -> Holding {
+    Holding {
+        writers,
+        asked: AtomicU64::new(0),
+        taken: AtomicU64::new(0),
+        let_go: AtomicU64::new(0),
+    }
+}
+
+fn told_behind<R: Threads + Wait + Sync>(
+    rt: &R,
+    alloc: Global,
+    script: &str,
+    gate: &Holding,
+) -> Result<String, Fail> {
+    let mut source = source_of(alloc, script.as_bytes(), b"")?;
+    let mut stage = empty_stage(alloc)?;
+    told_in(
+        rt,
+        alloc,
+        "defmtl run --group",
+        Told::Lines,
+        &mut source,
+        &mut stage,
+        gate,
+    )
+}
+
+/// The row of a gate: how many writers it holds, and the script.
+pub fn held_row<R: Threads + Wait + Sync>(
+    rt: &R,
+    alloc: Global,
+    row: &str,
+) -> Result<String, Fail> {
+    let (writers, script) = parts_of(row);
+    let gate = gate_for(writers.parse()?);
+    let told = told_behind(rt, alloc, script, &gate)?;
+    let let_go = gate.let_go.load(Ordering::SeqCst);
+    Ok(format!(in alloc; "{let_go} let go, {told}")?)
+}
+
+#[test]
+fn writers_wait_for_each_other_and_for_the_reader(rt: HostRuntime) -> Result<(), Fail> {
+    let rows = each_row(&rt, rt.alloc(), HELD, Kind::Held)?;
+    assert_eq!(rt; rows.as_str(), "6 rows");
+    Ok(())
+}

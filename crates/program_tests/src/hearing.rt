@@ -1,0 +1,224 @@
+ghost use Rattle.std.specs.Prelude.{[], ◌∷◌, true, false, None};
+
+// Recordings that a listener hears, which has a letter for each part.
+use crate::sessions::{sink_of, source_of};
+use defmt_framing::{Framer, Teller};
+use defmt_listen::{ListenFault, Listener, listen};
+use dl_io::{Bytes, Failed, MemSource, Memory, RepeatSource, Source};
+use std::alloc::Global;
+use std::test::Fail;
+use test_rows::{bytes_of, each_line};
+
+// The digits of a recording, of a read and of a write that fail, and the answer and the lines: a letter and a point for its newline.
+const HEARD: &str = "\
+07 00 01 02 00 00 03 00 09/ /  = 2 faults, f.p.p.t.
+07 00 01 02 00 00 03 00 09/01/ = source, f.p.p.
+07 00 01 02 00 00 03 00 09/ /01 = sink, f.p.p.";
+
+// A byte and how often the source gives it, and the answer, the lines, and for how many bytes the source was asked at most at a time.
+const REPEATED: &str = "\
+0 268435457 = too long, nothing, 65536 at most
+0 200000 = 0 faults, nothing, 65536 at most";
+
+// What a part tells: a letter. All but pieces are faults.
+#[derive(Clone, Copy, Debug, PartialEq, Eq)]
+struct Mark {
+    letter: u8,
+    fault: bool,
+}
+
+#[derive(Drop)]
+struct Letters;
+
+impl Teller for Letters {
+    type Told = Mark;
+
+    ghost tells = { λ _. record {
+      piece = λ _. record { letter = 112; fault = false };
+      long = record { letter = 108; fault = true };
+      cut_front = λ _. record { letter = 102; fault = true };
+      cut_tail = λ _. record { letter = 116; fault = true };
+    } };
+
+    fn piece(&mut self, _piece: &[u8]) -> Result<Mark, Memory> {
+        Ok(Mark {
+            letter: b'p',
+            fault: false,
+        })
+    }
+
+    fn long(&self) -> Mark {
+        Mark {
+            letter: b'l',
+            fault: true,
+        }
+    }
+
+    fn cut_front(&self, _bytes: u64) -> Mark {
+        Mark {
+            letter: b'f',
+            fault: true,
+        }
+    }
+
+    fn cut_tail(&self, _bytes: u64) -> Mark {
+        Mark {
+            letter: b't',
+            fault: true,
+        }
+    }
+}
+
+#[derive(Drop)]
+struct Ear {
+    framer: Framer,
+    letters: Letters,
+}
+
+impl Listener for Ear {
+    type Event = Mark;
+
+    ghost tells = { λ _. record {
+      piece = λ _. record { letter = 112; fault = false };
+      long = record { letter = 108; fault = true };
+      cut_front = λ _. record { letter = 102; fault = true };
+      cut_tail = λ _. record { letter = 116; fault = true };
+    } };
+
+    ghost framing = { λ ear. ear.framer };
+
+    ghost line = { λ mark. mark.letter ∷ 10 ∷ [] };
+
+    ghost is_fault = { λ mark. mark.fault };
+
+    fn feed(&mut self, bytes: &[u8]) -> Result<(usize, Option<Mark>), Memory> {
+        self.framer.feed(&mut self.letters, bytes)
+    }
+
+    fn finish(self) -> Option<Mark> {
+        self.framer.finish(&self.letters)
+    }
+
+    fn add_line(_alloc: Global, event: &Mark, out: &mut Bytes) -> Result<(), Memory> {
+        out.push(event.letter)?;
+        out.push(b'\n')
+    }
+
+    fn is_fault(event: &Mark) -> bool {
+        event.fault
+    }
+}
+
+// A source that knows for how many bytes it was asked at most at a time.
+#[derive(Drop)]
+struct Asked {
+    source: RepeatSource,
+    most: usize,
+}
+
+impl Source for Asked {
+    ghost left = { λ _. None };
+
+    ghost faults = { λ _. 0 };
+
+    fn read(&mut self, buf: &mut [u8]) -> Result<usize, Failed> {
+        self.most = self.most.max(buf.len());
+        self.source.read(buf)
+    }
+
+    fn faults(&self) -> u64 {
+        0
+    }
+}
+
+fn fault_of(fault: ListenFault) -> &'static str {
+    match fault {
+        ListenFault::Source => "source, ",
+        ListenFault::Sink => "sink, ",
+        ListenFault::Long => "too long, ",
+        ListenFault::Memory => "memory, ",
+    }
+}
+
+// The answer and the lines that were written, with a point for each newline.
+fn text_of(
+    alloc: Global,
+    answer: Result<u64, ListenFault>,
+    written: &[u8],
+) -> Result<String, Fail> {
+    let mut text = match answer {
+        Ok(count) => format!(in alloc; "{count} faults, ")?,
+        Err(fault) => String::from_str(alloc, fault_of(fault))?,
+    };
+    if written.is_empty() {
+        text.push_str("nothing")?;
+    }
+    for byte in written {
+        text.push(if *byte == b'\n' {
+            '.'
+        } else {
+            char::from(*byte)
+        })?;
+    }
+    Ok(text)
+}
+
+fn heard_of<S: Source>(alloc: Global, source: &mut S, fails: &[u8]) -> Result<String, Fail> {
+    let mut sink = sink_of(alloc, fails)?;
+    let ear = Ear {
+        framer: Framer::new(alloc),
+        letters: Letters,
+    };
+    let answer = listen(alloc, source, &mut sink, ear);
+    text_of(alloc, answer, sink.held())
+}
+
+// A source of the bytes with these digits, which fails at the reads with those.
+fn digits_source(alloc: Global, digits: &str, fails: &str) -> Result<MemSource, Fail> {
+    let fails = bytes_of(alloc, fails)?;
+    source_of(alloc, &bytes_of(alloc, digits)?, &fails)
+}
+
+fn heard_row(alloc: Global, row: &str) -> Result<String, Fail> {
+    let Some((digits, fails)) = row.split_once('/') else {
+        return Err("no reads".into());
+    };
+    let Some((reads, writes)) = fails.split_once('/') else {
+        return Err("no writes".into());
+    };
+    let mut source = digits_source(alloc, digits, reads)?;
+    heard_of(alloc, &mut source, &bytes_of(alloc, writes)?)
+}
+
+// The source of a row.
+fn repeated(row: &str) -> Result<Asked, Fail> {
+    let Some((byte, count)) = row.split_once(' ') else {
+        return Err("no count".into());
+    };
+    Ok(Asked {
+        source: RepeatSource::new(byte.parse()?, count.parse()?),
+        most: 0,
+    })
+}
+
+fn repeated_row(alloc: Global, row: &str) -> Result<String, Fail> {
+    let mut source = repeated(row)?;
+    let heard = heard_of(alloc, &mut source, b"")?;
+    let most = source.most;
+    Ok(format!(in alloc; "{heard}, {most} at most")?)
+}
+
+#[test]
+fn each_part_has_a_line_and_a_fault_leaves_what_was_begun(rt: HostRuntime) -> Result<(), Fail> {
+    assert_eq!(rt; each_line(rt.alloc(), HEARD, heard_row)?.as_str(), "3 rows");
+    Ok(())
+}
+
+#[test]
+fn a_recording_is_read_in_parts_up_to_its_limit(rt: HostRuntime) -> Result<(), Fail> {
+    assert_eq!(rt;
+        each_line(rt.alloc(), REPEATED, repeated_row)?.as_str(),
+        "2 rows"
+    );
+    Ok(())
+}

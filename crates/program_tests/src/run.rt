@@ -1,0 +1,127 @@
+// Scripts that are run. A row is the words and the script, and the status and the lines that are written.
+use crate::rows::{Kind, each_row};
+use std::test::Fail;
+
+const RUNS: &str = r#"defmtl run
+s hi defmt_info hello
+w 0 hi
+=
+status 0 fine
+INFO  hello
+
+defmtl run
+s opt defmt_prim None|Some({=?})
+s num defmt_prim {=u8}
+s pt defmt_derived Pt {{ x: {=?}, y: {=?} }}
+s log defmt_debug at {} {:x}
+w 0 log pt(num(3) num(255)) opt:1(num(255))
+=
+status 0 fine
+DEBUG at Pt { x: 3, y: 255 } Some(ff)"#;
+
+const OPEN_RUNS: &str = r#"defmtl run
+=
+status 0 fine
+
+defmtl run
+ring 16
+s say defmt_info {=str}
+w 0 say "abcdefghijklmnopqrstuvwxyzabcdefgh"
+=
+status 0 fine
+INFO  abcdefghijklmnopqrstuvwxyzabcdefgh
+
+defmtl run
+ring 16
+mode skip
+reader late
+s hi defmt_info hello
+w 0 hi
+w 0 hi
+w 0 hi
+w 0 hi
+w 0 hi
+=
+status 0 fine
+INFO  hello
+INFO  hello
+INFO  hello
+-- dropped writer 0 statement 3 need 4 room 3
+-- dropped writer 0 statement 4 need 4 room 3
+
+defmtl run
+ring 16
+mode trim
+reader late
+s hi defmt_info hello
+w 0 hi
+w 0 hi
+w 0 hi
+w 0 hi
+w 0 hi
+=
+status 0 fine
+INFO  hello
+INFO  hello
+INFO  hello
+-- tail 2
+-- cut writer 0 statement 3 need 4 room 3
+-- cut writer 0 statement 4 need 4 room 0
+
+defmtl run
+ring 16
+mode skip
+reader late
+s say defmt_info {=str}
+w 0 say "abcdefghijklmnopqrstuvwxyzabcdefgh"
+=
+status 0 fine
+-- dropped writer 0 statement 0 need 40 room 15
+
+defmtl run
+ring 16
+mode trim
+reader late
+s say defmt_info {=str}
+w 0 say "abcdefghijklmnopqrstuvwxyzabcdefgh"
+=
+status 0 fine
+-- tail 14
+-- cut writer 0 statement 0 need 40 room 15"#;
+
+const REFUSALS: &str = "\
+defmtl frob
+w 0 hi
+=
+status 2 words
+
+defmtl run
+w 0 hi
+=
+status 5 script line 1 cause 2 inner 0
+
+defmtl run
+reader late
+=
+status 5 script line 1 cause 8 inner 0";
+
+#[test]
+fn a_run_prints_what_was_sent_and_reports_what_was_not(rt: HostRuntime) -> Result<(), Fail> {
+    let rows = each_row(&rt, rt.alloc(), RUNS, Kind::Command)?;
+    assert_eq!(rt; rows.as_str(), "2 rows");
+    Ok(())
+}
+
+#[test]
+fn the_last_line_of_a_script_needs_no_newline(rt: HostRuntime) -> Result<(), Fail> {
+    let rows = each_row(&rt, rt.alloc(), OPEN_RUNS, Kind::Open)?;
+    assert_eq!(rt; rows.as_str(), "6 rows");
+    Ok(())
+}
+
+#[test]
+fn words_and_scripts_that_are_refused_write_nothing(rt: HostRuntime) -> Result<(), Fail> {
+    let rows = each_row(&rt, rt.alloc(), REFUSALS, Kind::Open)?;
+    assert_eq!(rt; rows.as_str(), "3 rows");
+    Ok(())
+}

@@ -1,0 +1,289 @@
+//! Images, their blocks and the bytes that wait, and each refusal.
+use crate::words::{digits_or_nothing, parted, tell};
+use rtt_control::{Block, Cause, ControlFault, Descriptor, Descriptors, find, read, unread, write};
+use std::alloc::Global;
+use std::test::Fail;
+use test_rows::{bytes_of, digits_of, each_block, each_line};
+
+// A block with one up-descriptor, and its buffer of 16 bytes in which four wait.
+const IMAGE: &str = "\
+53 45 47 47 45 52 20 52 54 54 00 00 00 00 00 00 01 00 00 00 00 00 00 00 \
+00 00 00 00 30 00 00 20 10 00 00 00 02 00 00 00 0e 00 00 00 02 00 00 00 \
+7e 00 00 00 00 00 00 00 00 00 00 00 00 00 00 01";
+
+const BASE: u32 = 0x2000_0000;
+
+fn put_at(image: &mut Vec<u8>, at: usize, bytes: &[u8]) -> Result<(), Fail> {
+    for (k, byte) in bytes.iter().enumerate() {
+        match image.get_mut(at.wrapping_add(k)) {
+            Some(place) => *place = *byte,
+            None => return Err(Fail::new("no such place")),
+        }
+    }
+    Ok(())
+}
+
+fn change(alloc: Global, image: &mut Vec<u8>, step: &str) -> Result<(), Fail> {
+    let (what, rest) = parted(step);
+    match what {
+        "image" => image.extend_from_slice(&bytes_of(alloc, IMAGE)?)?,
+        "bytes" => image.extend_from_slice(&bytes_of(alloc, rest)?)?,
+        "zeros" => image.resize(rest.parse::<u8>()? as usize, 0)?,
+        "cut" => image.truncate(rest.parse::<usize>()?),
+        _ => put_at(image, what.parse::<usize>()?, &bytes_of(alloc, rest)?)?,
+    }
+    Ok(())
+}
+
+// The image of these steps: the one above, zeros or bytes, then the cut of its end, or bytes at a place.
+fn image_of(alloc: Global, steps: &str) -> Result<Vec<u8>, Fail> {
+    let mut image = Vec::new(alloc);
+    for step in steps.split('|') {
+        change(alloc, &mut image, step)?;
+    }
+    if image.len() > 1000 {
+        return Err(Fail::new("the image is too long"));
+    }
+    Ok(image)
+}
+
+fn fault_text(alloc: Global, fault: ControlFault) -> Result<String, Fail> {
+    Ok(match fault {
+        ControlFault::Refused { cause, place } => format!(in alloc; "cause {cause} at {place}")?,
+        ControlFault::Memory => format!(in alloc; "memory")?,
+    })
+}
+
+// Images and the place of the one ID; the last has a second one.
+const IDS: &str = "\
+image = found 0
+bytes 53 45 47 47 45 52 20 52 54 54 53 45 47 47 45 52 20 52 54 54 00 00 00 00 00 00 = found 10
+zeros 64 = cause 1 at 0
+zeros 0 = cause 1 at 0
+image|cut 15 = cause 1 at 0
+image|48 53 45 47 47 45 52 20 52 54 54 00 00 00 00 00 00 = cause 5 at 48";
+
+pub fn find_text(alloc: Global, image: &[u8]) -> Result<String, Fail> {
+    if image.len() >= 1 << 32 {
+        return Err(Fail::new("the image is too long"));
+    }
+    match find(image) {
+        Ok(at) => Ok(format!(in alloc; "found {at}")?),
+        Err(fault) => fault_text(alloc, fault),
+    }
+}
+
+fn ids(alloc: Global, steps: &str) -> Result<String, Fail> {
+    find_text(alloc, &image_of(alloc, steps)?)
+}
+
+#[test]
+fn the_only_id_is_found_and_else_the_image_is_refused(rt: HostRuntime) -> Result<(), Fail> {
+    assert_eq!(rt; each_line(rt.alloc(), IDS, ids)?.as_str(), "6 rows");
+    Ok(())
+}
+
+// Places and images, and the block there: each descriptor's name, start, size, offsets and flags, all hexadecimal.
+const BLOCKS: &str = "\
+0 image|cut 15 = cause 1 at 0
+60 image = cause 1 at 60
+100 image = cause 1 at 100
+0 image|cut 23 = cause 2 at 0
+0 image|16 02 = cause 2 at 0
+0 image|40 10 = cause 3 at 0
+0 image|44 03 = cause 4 at 0
+0 image|44 07 = cause 4 at 0
+0 image = up 0 20000030 10 2 e 2
+0 image|44 fc = up 0 20000030 10 2 e fc
+5 zeros 70|5 53 45 47 47 45 52 20 52 54 54|25 01|50 01 = down 0 0 0 0 0 100";
+
+fn tell_descriptor(
+    alloc: Global,
+    told: &mut String,
+    side: &str,
+    d: &Descriptor,
+) -> Result<(), Fail> {
+    let (name, start, size) = (d.name, d.start, d.size);
+    let (wr, rd, flags) = (d.wr, d.rd, d.flags);
+    let text = format!(in alloc; "{side} {name:x} {start:x} {size:x} {wr:x} {rd:x} {flags:x}")?;
+    tell(told, text.as_str())
+}
+
+fn block_text(alloc: Global, block: &Block) -> Result<String, Fail> {
+    let mut told = String::new(alloc);
+    for descriptor in block.up.as_slice() {
+        tell_descriptor(alloc, &mut told, "up", descriptor)?;
+    }
+    for descriptor in block.down.as_slice() {
+        tell_descriptor(alloc, &mut told, "down", descriptor)?;
+    }
+    Ok(told)
+}
+
+pub fn read_text(alloc: Global, image: &[u8], at: u32) -> Result<String, Fail> {
+    if image.len() >= 1 << 32 {
+        return Err(Fail::new("the image is too long"));
+    }
+    match read(alloc, image, BASE, at) {
+        Ok(block) => block_text(alloc, &block),
+        Err(fault) => fault_text(alloc, fault),
+    }
+}
+
+fn blocks(alloc: Global, row: &str) -> Result<String, Fail> {
+    let (at, steps) = parted(row);
+    let image = image_of(alloc, steps)?;
+    read_text(alloc, &image, at.parse::<u32>()?)
+}
+
+#[test]
+fn a_block_is_read_or_refused_by_its_first_fault(rt: HostRuntime) -> Result<(), Fail> {
+    assert_eq!(rt; each_line(rt.alloc(), BLOCKS, blocks)?.as_str(), "11 rows");
+    Ok(())
+}
+
+// The image's base and a descriptor, and the bytes that wait in its buffer.
+const WAITING: &str = "\
+20000000 0 20000030 10 2 e 2 = 00 01 7e 00
+20000000 0 20000030 10 2 0 2 = 7e 00
+20000000 0 20000030 10 2 2 2 = nothing
+20000000 0 7 0 0 0 2 = nothing
+20000000 0 20000030 10 10 e 2 = cause 3 at 0
+20000000 0 7 0 1 0 2 = cause 3 at 0
+20000000 0 20000031 10 2 e 2 = cause 2 at 0
+20000000 0 1fffffff 10 2 e 2 = cause 2 at 0
+fffffff6 0 ffffffff ffffffff 2 e 2 = cause 2 at 0";
+
+fn number(text: &str) -> Result<u32, Fail> {
+    Ok(u32::from_str_radix(text, 16)?)
+}
+
+// The descriptor of six hexadecimal numbers.
+fn descriptor_of(text: &str) -> Result<Descriptor, Fail> {
+    let (name, rest) = parted(text);
+    let (start, rest) = parted(rest);
+    let (size, rest) = parted(rest);
+    let (wr, rest) = parted(rest);
+    let (rd, flags) = parted(rest);
+    Ok(Descriptor {
+        name: number(name)?,
+        start: number(start)?,
+        size: number(size)?,
+        wr: number(wr)?,
+        rd: number(rd)?,
+        flags: number(flags)?,
+    })
+}
+
+pub fn unread_text(
+    alloc: Global,
+    image: &[u8],
+    base: u32,
+    descriptor: &Descriptor,
+) -> Result<String, Fail> {
+    if image.len() >= 1 << 32 {
+        return Err(Fail::new("the image is too long"));
+    }
+    match unread(alloc, image, base, descriptor) {
+        Ok(bytes) => digits_or_nothing(alloc, bytes.as_slice()),
+        Err(fault) => fault_text(alloc, fault),
+    }
+}
+
+fn waiting(alloc: Global, row: &str) -> Result<String, Fail> {
+    let (base, rest) = parted(row);
+    let descriptor = descriptor_of(rest)?;
+    unread_text(alloc, &bytes_of(alloc, IMAGE)?, number(base)?, &descriptor)
+}
+
+#[test]
+fn the_waiting_bytes_go_round_the_end_up_to_the_write_offset(rt: HostRuntime) -> Result<(), Fail> {
+    assert_eq!(rt; each_line(rt.alloc(), WAITING, waiting)?.as_str(), "9 rows");
+    Ok(())
+}
+
+// A place and the length of an image of bytes aa, the descriptors of the block that is written there, and the image afterwards.
+const WRITTEN: &str = "\
+0 64
+up 0 20000030 10 2 e 2
+=
+53 45 47 47 45 52 20 52 54 54 00 00 00 00 00 00 01 00 00 00 00 00 00 00 \
+00 00 00 00 30 00 00 20 10 00 00 00 02 00 00 00 0e 00 00 00 02 00 00 00 \
+aa aa aa aa aa aa aa aa aa aa aa aa aa aa aa aa
+
+0 72
+up 0 20000030 10 2 e 2
+down 0 0 10 2 e 2
+=
+cause 2 at 1, untouched
+
+25 72
+up 0 20000030 10 2 e 2
+=
+cause 2 at 25, untouched";
+
+fn push_line(block: &mut Block, line: &str) -> Result<(), Fail> {
+    let (side, rest) = parted(line);
+    let descriptor = descriptor_of(rest)?;
+    match side {
+        "up" => block.up.push(descriptor)?,
+        "down" => block.down.push(descriptor)?,
+        _ => return Err(Fail::new("no descriptor")),
+    }
+    Ok(())
+}
+
+fn block_of(alloc: Global, lines: &str) -> Result<Block, Fail> {
+    let mut block = Block {
+        up: Descriptors::new(alloc),
+        down: Descriptors::from_vec(Vec::new(alloc)),
+    };
+    for line in lines.lines() {
+        push_line(&mut block, line)?;
+    }
+    Ok(block)
+}
+
+// The image that is written, or the refusal and whether the image is as before.
+fn write_text(alloc: Global, block: &Block, len: u8, at: u32) -> Result<String, Fail> {
+    let mut image = [0xaa; 255];
+    let image = &mut image[..usize::from(len)];
+    match write(block, image, BASE, at) {
+        Ok(()) => digits_of(alloc, image),
+        Err(fault) => {
+            let cause = fault_text(alloc, fault)?;
+            let same = image.iter().all(|byte| *byte == 0xaa);
+            let left = if same { "untouched" } else { "changed" };
+            Ok(format!(in alloc; "{cause}, {left}")?)
+        }
+    }
+}
+
+fn written(alloc: Global, row: &str) -> Result<String, Fail> {
+    let Some((sizes, lines)) = row.split_once('\n') else {
+        return Err(Fail::new("no block"));
+    };
+    let (at, len) = parted(sizes);
+    let block = block_of(alloc, lines)?;
+    write_text(alloc, &block, len.parse::<u8>()?, at.parse::<u32>()?)
+}
+
+#[test]
+fn a_block_is_written_and_every_other_byte_stays(rt: HostRuntime) -> Result<(), Fail> {
+    assert_eq!(rt;
+        each_block(rt.alloc(), WRITTEN, written)?.as_str(),
+        "3 rows"
+    );
+    Ok(())
+}
+
+#[test]
+fn descriptors_are_a_list(rt: HostRuntime) -> Result<(), Fail> {
+    let block = block_of(rt.alloc(), "up 1 2 3 4 5 6")?;
+    assert_eq!(rt; (block.up.len(), block.down.is_empty()), (1, true));
+    let Block { up, down: _ } = block;
+    let back = up.into_vec();
+    assert_eq!(rt; back.as_slice(), [descriptor_of("1 2 3 4 5 6")?].as_slice());
+    assert_eq!(rt; Cause::TwoIds.number(), 5);
+    Ok(())
+}

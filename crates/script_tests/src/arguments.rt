@@ -1,0 +1,239 @@
+// What texts of arguments read as, and how arguments are written.
+use crate::texts::{inside_of, script_of};
+use defmt_grammar::Text;
+use defmt_intern::{Entry, Table, Tag};
+use defmt_spelling::{ArgFault, Names, print_args, read_args};
+use defmt_values::Statement;
+use std::alloc::Global;
+use std::test::Fail;
+use test_rows::{each_block, each_line};
+
+// A format string and a text of arguments; how they are written, or the cause for which they aren't read.
+const KINDS: &str = r#"{=u8} <255> = <255>
+{=u8} < 0x1f  > = <31>
+{=u8} <x(> = cause 1
+{=u8} <> = cause 2
+{=u8} <1 2> = cause 2
+{=u8} <1 ]> = cause 2
+{=u8} <true> = cause 3
+{=u8} <-5> = cause 3
+{=u8} <256> = cause 4
+{=u8} <340282366920938463463374607431768211456> = cause 4
+{=u8} < 0x10 > = <16>
+{=i8} <-0> = <0>
+{=i8} <-128> = <-128>
+{=i8} <0x10> = cause 3
+{=i8} <128> = cause 4
+{=i8} <-007> = <-7>
+{=bool} <true> = <true>
+{=char} <'\u{e4}'> = <'ä'>
+{=char} <'\''> = <'\''>
+{=str} <"a\"\'\n"> = <"a\"'\n">
+{=[u8]} <#00Ff> = <#00ff>
+{=0..8} <0xff> = <255>
+{=[?]} <[]> = <[]>
+{=[?]} <z[()  ()]> = <z[() ()]>"#;
+
+// The strings of a script, texts of arguments of the first, and how they are written or why they aren't read.
+const BY_SCRIPTS: &str = "\
+s log defmt_info {=?}
+s k defmt_prim None|Some({=u8})
+s word defmt_str hello
+args <k:0()>
+args <k:1( 7 )>
+args <k:01(1)>
+args <k:1(x()>
+args <k:1(>
+args <k:1()>
+args <k:1(true)>
+args <k()>
+args <k:2()>
+args <k:256()>
+args <nobody()>
+args <word()>
+=
+<k:0()>
+<k:1(7)>
+cause 1
+cause 1
+cause 1
+cause 2
+cause 3
+cause 4
+cause 4
+cause 4
+cause 5
+cause 5
+
+s log defmt_info {}
+s n defmt_prim {}
+s z defmt_prim z
+args <n(n(n(n(n(n(n(n(n(n(n(n(n(n(n(z())))))))))))))))>
+args <n(n(n(n(n(n(n(n(n(n(n(n(n(n(n(n(z()))))))))))))))))>
+=
+<n(n(n(n(n(n(n(n(n(n(n(n(n(n(n(z())))))))))))))))>
+cause 6
+
+s log defmt_info at {} {:x}
+s opt defmt_prim None|Some({=?})
+s num defmt_prim {=u8}
+s pt defmt_derived Pt {{ x: {=?}, y: {=?} }}
+args <pt(num(3) num(255)) opt:1(num(255))>
+=
+<pt(num(3) num(255)) opt:1(num(255))>";
+
+// The same of strings that no script has, and of names that are given beside them.
+const BY_LINES: &str = "\
+string log defmt_info {=?}
+string float defmt_prim {=f32}
+args <float()>
+=
+cause 8
+
+string log defmt_info {=istr}
+string word defmt_str hello
+name b 2
+name a 9
+name a 2
+get a
+get c
+args <@word>
+=
+2
+none
+<@a>";
+
+// Strings with their names.
+#[derive(Drop)]
+struct Strings {
+    table: Table,
+    names: Names,
+}
+
+fn text_of(alloc: Global, text: &str) -> Result<Text, Fail> {
+    let mut copy = Text::new(alloc);
+    copy.push_str(text)?;
+    Ok(copy)
+}
+
+fn entry_of(alloc: Global, tag: &str, text: &str) -> Result<Entry, Fail> {
+    Ok(Entry {
+        tag: Tag::of_name(alloc, tag)?,
+        package: text_of(alloc, "script")?,
+        text: text_of(alloc, text)?,
+        disambiguator: text_of(alloc, "")?,
+    })
+}
+
+fn add_string(alloc: Global, strings: &mut Strings, name: &str, entry: &str) -> Result<(), Fail> {
+    let (tag, text) = entry.split_once(' ').unwrap_or((entry, ""));
+    let index = strings.table.add(entry_of(alloc, tag, text)?)?;
+    strings.names.put(name, index)?;
+    Ok(())
+}
+
+// How the arguments of the string at index 1 are written that are read from a text.
+fn written(alloc: Global, names: &Names, table: &Table, row: &str) -> Result<String, Fail> {
+    match read_args(alloc, names, table, 1, inside_of(row)?) {
+        Ok(args) => {
+            let stm = Statement { index: 1, args };
+            let text = print_args(alloc, names, table, &stm)?;
+            Ok(format!(in alloc; "<{}>", text.as_str())?)
+        }
+        Err(ArgFault::Refused { cause }) => Ok(format!(in alloc; "cause {cause}")?),
+        Err(ArgFault::Memory) => Ok(String::from_str(alloc, "memory")?),
+    }
+}
+
+fn index_of(alloc: Global, names: &Names, name: &str) -> Result<String, Fail> {
+    match names.get(name) {
+        Some(index) => Ok(format!(in alloc; "{index}")?),
+        None => Ok(String::from_str(alloc, "none")?),
+    }
+}
+
+// Takes a line, and gives its answer, an empty one where it asks for nothing.
+fn answer_of(alloc: Global, strings: &mut Strings, line: &str) -> Result<String, Fail> {
+    let (word, rest) = line.split_once(' ').unwrap_or((line, ""));
+    let (name, more) = rest.split_once(' ').unwrap_or((rest, ""));
+    match word {
+        "string" => add_string(alloc, strings, name, more)?,
+        "name" => strings.names.put(name, more.parse()?)?,
+        "get" => return index_of(alloc, &strings.names, name),
+        "args" => return written(alloc, &strings.names, &strings.table, rest),
+        _ => return Err("no line".into()),
+    }
+    Ok(String::new(alloc))
+}
+
+fn push_answer(answers: &mut String, answer: &str) -> Result<(), Fail> {
+    if !answers.is_empty() && !answer.is_empty() {
+        answers.push('\n')?;
+    }
+    answers.push_str(answer)?;
+    Ok(())
+}
+
+fn answers_of(alloc: Global, block: &str) -> Result<String, Fail> {
+    let mut strings = Strings {
+        table: Table::new(alloc),
+        names: Names::new(alloc),
+    };
+    let mut answers = String::new(alloc);
+    for line in block.lines() {
+        let answer = answer_of(alloc, &mut strings, line)?;
+        push_answer(&mut answers, answer.as_str())?;
+    }
+    Ok(answers)
+}
+
+fn written_each(alloc: Global, names: &Names, table: &Table, rows: &str) -> Result<String, Fail> {
+    let mut answers = String::new(alloc);
+    for row in rows.split("\nargs ") {
+        let answer = written(alloc, names, table, row)?;
+        push_answer(&mut answers, answer.as_str())?;
+    }
+    Ok(answers)
+}
+
+fn written_by_script(alloc: Global, block: &str) -> Result<String, Fail> {
+    let Some((strings, rows)) = block.split_once("\nargs ") else {
+        return Err("no arguments".into());
+    };
+    let script = script_of(alloc, strings)?;
+    written_each(alloc, script.names(), script.table(), rows)
+}
+
+fn written_of_kind(alloc: Global, row: &str) -> Result<String, Fail> {
+    let (form, args) = row.split_once(' ').unwrap_or((row, ""));
+    let text = format!(in alloc; "s log defmt_info {form}\ns z defmt_prim z")?;
+    let script = script_of(alloc, text.as_str())?;
+    written(alloc, script.names(), script.table(), args)
+}
+
+#[test]
+fn each_kind_has_its_spelling_and_its_causes(rt: HostRuntime) -> Result<(), Fail> {
+    assert_eq!(rt;
+        each_line(rt.alloc(), KINDS, written_of_kind)?.as_str(),
+        "24 rows"
+    );
+    Ok(())
+}
+
+#[test]
+fn strings_are_found_by_their_names(rt: HostRuntime) -> Result<(), Fail> {
+    assert_eq!(rt;
+        each_block(rt.alloc(), BY_SCRIPTS, written_by_script)?.as_str(),
+        "3 rows"
+    );
+    Ok(())
+}
+
+#[test]
+fn the_least_name_of_an_index_is_written(rt: HostRuntime) -> Result<(), Fail> {
+    assert_eq!(rt;
+        each_block(rt.alloc(), BY_LINES, answers_of)?.as_str(),
+        "2 rows"
+    );
+    Ok(())
+}

@@ -1,0 +1,25 @@
+// Bytes as pairs of hexadecimal digits with a space between them.
+use std::alloc::Global;
+use std::test::Fail;
+
+/// The bytes of these digits, as `01 7e`; none of an empty text.
+pub fn bytes_of(alloc: Global, digits: &str) -> Result<Vec<u8>, Fail> {
+    let mut bytes = Vec::new(alloc);
+    for pair in digits.split_whitespace() {
+        bytes.push(u8::from_str_radix(pair, 16)?)?;
+    }
+    Ok(bytes)
+}
+
+/// The digits of these bytes.
+pub fn digits_of(alloc: Global, bytes: &[u8]) -> Result<String, Fail> {
+    let mut text = String::new(alloc);
+    for byte in bytes {
+        let pair = format!(in alloc; "{byte:02x}")?;
+        if !text.is_empty() {
+            text.push(' ')?;
+        }
+        text.push_str(pair.as_str())?;
+    }
+    Ok(text)
+}

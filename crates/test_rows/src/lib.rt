@@ -1,0 +1,8 @@
+#![tactic(auto)]
+
+//! Rows of tests as texts: what goes in, and the answer that is due.
+mod digits;
+mod rows;
+
+pub use digits::{bytes_of, digits_of};
+pub use rows::{each_block, each_line};

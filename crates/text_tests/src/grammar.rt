@@ -1,0 +1,280 @@
+// Format strings: their refusals, spellings, pieces and slots.
+use crate::shared::pieces_of;
+use defmt_grammar::{Cause, GrammarFault, Mode, Piece, Text, print};
+use std::alloc::Global;
+use std::test::Fail;
+use test_rows::each_line;
+
+const REFUSALS: &str = "\
+strict { = cause 1 at 0
+strict } = cause 1 at 0
+strict {=u9} = cause 2 at 2
+strict {=u8:q} = cause 3 at 5
+strict {=4..4} = cause 4 at 2
+strict {0=u8}{0=u16} = cause 5 at 6
+strict {1=u8} = cause 6 at 6
+strict {16=u8} = cause 7 at 0
+strict {=f32} = cause 8 at 2
+strict é{ = cause 1 at 2
+strict a}b = cause 1 at 1
+strict {{} = cause 1 at 2
+strict {=u8 = cause 1 at 0
+strict {{{ = cause 1 at 2
+strict {}} = cause 1 at 2
+strict ab{01=u8} = cause 1 at 3
+strict {00x} = cause 1 at 1
+strict {0x} = cause 1 at 2
+strict { } = cause 1 at 1
+strict {é} = cause 1 at 1
+strict {12u8} = cause 1 at 3
+strict {=} = cause 2 at 2
+strict {=:x} = cause 2 at 2
+strict {10=} = cause 2 at 4
+strict {=[u8;]} = cause 2 at 2
+strict {=[u8; 3 ]} = cause 2 at 2
+strict {=[u8;+3]} = cause 2 at 2
+strict {= u8} = cause 2 at 2
+strict {=3..} = cause 2 at 2
+strict {=0...4} = cause 2 at 2
+strict {=[u8;65536]} = cause 4 at 2
+strict {=[?;99999999999999999999]} = cause 4 at 2
+strict {=0..129} = cause 4 at 2
+strict {=5..4} = cause 4 at 2
+strict {=0..340282366920938463463374607431768211456} = cause 4 at 2
+strict {3=f64:q} = cause 8 at 3
+strict {16=u9:q} = cause 7 at 0
+strict {=u9:q} = cause 2 at 2
+strict {=4..4:q} = cause 4 at 2
+strict {=u8:q}{ = cause 3 at 5
+strict {=u9}{=f32} = cause 2 at 2
+strict {0=u8}{0=u16}} = cause 1 at 13
+strict {2=u8}{2=bool} = cause 5 at 6
+strict {0=u8}{1=u8}{1=u16}{0=u16} = cause 5 at 12
+strict {0=0..4}{0=u8} = cause 5 at 8
+strict {0=u8}{0=0..4} = cause 5 at 6
+strict {0=[u8;1]}{0=[u8;2]} = cause 5 at 10
+strict {}{0=u8} = cause 5 at 2
+strict {0=u8}é{2=u8} = cause 6 at 14
+strict {}{}{}{}{}{}{}{}{}{}{}{}{}{}{}{}{} = cause 7 at 32
+strict {99999999999999999999999=u8} = cause 7 at 0";
+
+const SPELLINGS: &str = "\
+strict {:q} = cause 3 at 2
+lenient {:q} = {0=?}
+strict {:04} = cause 3 at 2
+lenient {:04} = {0=?}
+strict {:0x} = cause 3 at 2
+lenient {:0x} = {0=?}
+strict {:00x} = cause 3 at 2
+lenient {:00x} = {0=?}
+strict {:01234x} = cause 3 at 2
+lenient {:01234x} = {0=?}
+strict {:0256x} = cause 3 at 2
+lenient {:0256x} = {0=?}
+strict {:x#} = cause 3 at 2
+lenient {:x#} = {0=?}
+strict {:4x} = cause 3 at 2
+lenient {:4x} = {0=?}
+strict {: } = cause 3 at 2
+lenient {: } = {0=?}
+strict {:##x} = cause 3 at 2
+lenient {:##x} = {0=?}
+strict {:ts} = cause 3 at 2
+lenient {:ts} = {0=?}
+strict {:?:} = cause 3 at 2
+lenient {:?:} = {0=?}
+lenient {=u8:q} = {0=u8}
+lenient {=u8}a = {0=u8}a
+lenient {{}} = {{}}
+lenient  = nothing
+lenient a{{é}}{=[u8;  3]:#0008x} = a{{é}}{0=[u8; 3]}
+lenient {=0..128:#010b}{0=7..8} = {0=0..128:#010b}{0=7..8}
+lenient {:}{1}{:?}{0=?:a} = {0=?}{1=?}{1=?:?}{0=?:a}
+lenient {=[?;00002]:us}{=[?]:ms}{=[u8]:0255X} = {0=[?; 2]:us}{1=[?]:ms}{2=[u8]:0255X}
+lenient {15}{14}{}{}{}{}{}{}{}{}{}{}{}{}{}{:o} = {15=?}{14=?}{0=?}{1=?}{2=?}{3=?}{4=?}{5=?}{6=?}{7=?}{8=?}{9=?}{10=?}{11=?}{12=?}{13=?:o}";
+
+const PIECES: &str = "\
+x{{y{=u16:#06X}{0=u16}}} = literal x{y, param 0 Uint(W16) Radix { base: HexUpper, alt: true, width: 6 }, param 0 Uint(W16) Plain, literal }";
+
+const SLOTS: &str = "\
+{0=0..4} {0=8..12:#b} = Bits { first: 0, width: 2 }
+{=0..1} = Bits { first: 0, width: 1 }
+{=7..9} = Bits { first: 0, width: 2 }
+{=8..16} = Bits { first: 1, width: 1 }
+{=0..17} = Bits { first: 0, width: 4 }
+{0=40..48}{0=8..9} = Bits { first: 1, width: 8 }
+{=120..128} = Bits { first: 15, width: 1 }
+{=104..128} = Bits { first: 12, width: 4 }
+{=0..128} = Bits { first: 0, width: 16 }
+{=56..128} = Bits { first: 0, width: 16 }
+{0=127..128}{0=63..64} = Bits { first: 0, width: 16 }
+{1=str}{0=[?; 3]}{=[?;3]:x}{2=4..9}{1=str:?} = One(FormatArray(3)), One(Str), Bits { first: 0, width: 2 }
+x{{y{=u16:#06X}{0=u16}}} = One(Uint(W16))
+{=u8} = One(Uint(W8))
+{=u32} = One(Uint(W32))
+{=u64} = One(Uint(W64))
+{=u128} = One(Uint(W128))
+{=usize} = One(Uint(Native))
+{=i8} = One(Int(W8))
+{=i16} = One(Int(W16))
+{=i32} = One(Int(W32))
+{=i64} = One(Int(W64))
+{=i128} = One(Int(W128))
+{=isize} = One(Int(Native))
+{=bool} = One(Bool)
+{=char} = One(Char)
+{=istr} = One(Istr)
+{=[u8]} = One(Bytes)
+{=[u8;0]} = One(ByteArray(0))
+{=[u8;65535]} = One(ByteArray(65535))
+{=[?]} = One(FormatSlice)";
+
+const USES: &str = "\
+{1=str}{0=[?; 3]}{=[?;3]:x}{2=4..9}{1=str:?} = 2 2 1 0
+x{{y{=u16:#06X}{0=u16}}} = 2 0 0 0";
+
+// The canonical spelling of a text's pieces, or where it is refused.
+fn spelling_in(alloc: Global, text: &str, mode: Mode) -> Result<String, Fail> {
+    match pieces_of(alloc, text, mode) {
+        Ok(pieces) => Ok(print(alloc, &pieces)?.into_string()),
+        Err(GrammarFault::Refused { cause, at }) => {
+            Ok(format!(in alloc; "cause {cause} at {at}")?)
+        }
+        Err(GrammarFault::Memory) => Ok(String::from_str(alloc, "memory")?),
+    }
+}
+
+fn spelling_of(alloc: Global, input: &str) -> Result<String, Fail> {
+    let (mode, text) = input.split_once(' ').ok_or("no mode")?;
+    let mode = if mode == "strict" {
+        Mode::Strict
+    } else {
+        Mode::Lenient
+    };
+    let spelling = spelling_in(alloc, text, mode)?;
+    if spelling.is_empty() {
+        return Ok(String::from_str(alloc, "nothing")?);
+    }
+    Ok(spelling)
+}
+
+// Appends one more part of a list.
+fn push_part(list: &mut String, part: &str) -> Result<(), Fail> {
+    if !list.is_empty() {
+        list.push_str(", ")?;
+    }
+    list.push_str(part)?;
+    Ok(())
+}
+
+fn piece_text(alloc: Global, piece: &Piece) -> Result<String, Fail> {
+    match piece {
+        Piece::Literal(text) => Ok(format!(in alloc; "literal {}", text.as_str())?),
+        Piece::Param(param) => {
+            Ok(format!(in alloc;
+                "param {} {:?} {:?}",
+                param.position, param.kind, param.hint
+            )?)
+        }
+    }
+}
+
+// The pieces of a text, as a copy has them.
+fn pieces_text(alloc: Global, text: &str) -> Result<String, Fail> {
+    let pieces = pieces_of(alloc, text, Mode::Strict)?.copy(alloc)?;
+    let mut list = String::new(alloc);
+    for piece in pieces.as_slice() {
+        let part = piece_text(alloc, piece)?;
+        push_part(&mut list, part.as_str())?;
+    }
+    Ok(list)
+}
+
+fn slots_text(alloc: Global, text: &str) -> Result<String, Fail> {
+    let pieces = pieces_of(alloc, text, Mode::Strict)?;
+    let mut list = String::new(alloc);
+    for slot in pieces.slots() {
+        let part = format!(in alloc; "{slot:?}")?;
+        push_part(&mut list, part.as_str())?;
+    }
+    Ok(list)
+}
+
+// How often each of the first four positions is used.
+fn uses_text(alloc: Global, text: &str) -> Result<String, Fail> {
+    let pieces = pieces_of(alloc, text, Mode::Strict)?.copy(alloc)?;
+    Ok(format!(in alloc;
+        "{} {} {} {}",
+        pieces.uses(0),
+        pieces.uses(1),
+        pieces.uses(2),
+        pieces.uses(3)
+    )?)
+}
+
+#[test]
+fn the_first_fault_counts_with_its_place(rt: HostRuntime) -> Result<(), Fail> {
+    assert_eq!(rt;
+        each_line(rt.alloc(), REFUSALS, spelling_of)?.as_str(),
+        "51 rows"
+    );
+    Ok(())
+}
+
+#[test]
+fn the_canonical_spelling_is_printed_and_an_unknown_hint_refused_by_strict_alone(
+    rt: HostRuntime,
+) -> Result<(), Fail> {
+    assert_eq!(rt;
+        each_line(rt.alloc(), SPELLINGS, spelling_of)?.as_str(),
+        "33 rows"
+    );
+    Ok(())
+}
+
+#[test]
+fn pieces_tell_literals_and_parameters(rt: HostRuntime) -> Result<(), Fail> {
+    assert_eq!(rt;
+        each_line(rt.alloc(), PIECES, pieces_text)?.as_str(),
+        "1 rows"
+    );
+    Ok(())
+}
+
+#[test]
+fn each_position_has_a_slot_of_its_kind_or_the_window_of_its_bit_fields(
+    rt: HostRuntime,
+) -> Result<(), Fail> {
+    assert_eq!(rt;
+        each_line(rt.alloc(), SLOTS, slots_text)?.as_str(),
+        "31 rows"
+    );
+    Ok(())
+}
+
+#[test]
+fn each_use_of_a_position_counts(rt: HostRuntime) -> Result<(), Fail> {
+    assert_eq!(rt; each_line(rt.alloc(), USES, uses_text)?.as_str(), "2 rows");
+    Ok(())
+}
+
+// What a text tells of itself while it grows.
+fn grown(alloc: Global) -> Result<String, Fail> {
+    let mut text = Text::from_string(String::new(alloc));
+    let was_empty = text.is_empty();
+    text.push('é')?;
+    text.push_str("ab")?;
+    let copy = text.copy()?.into_string();
+    Ok(format!(in alloc; "{was_empty}, then {} bytes, {copy}", text.len())?)
+}
+
+#[test]
+fn a_text_grows_and_gives_its_string_back(rt: HostRuntime) -> Result<(), Fail> {
+    assert_eq!(rt; grown(rt.alloc())?.as_str(), "true, then 4 bytes, éab");
+    Ok(())
+}
+
+#[test]
+fn causes_have_their_numbers(rt: HostRuntime) {
+    assert_eq!(rt; (Cause::Brace.number(), Cause::Float.number()), (1, 8));
+}

@@ -1,0 +1,15 @@
+#![tactic(auto)]
+
+//! The tests of the wire: codes, the parts of streams, messages and events, as rows of texts.
+#[cfg(test)]
+mod codes;
+#[cfg(test)]
+mod events;
+#[cfg(test)]
+mod messages;
+#[cfg(test)]
+mod parts;
+#[cfg(test)]
+mod runs;
+#[cfg(test)]
+mod strings;

@@ -1,0 +1,47 @@
+// The strings that rows of messages and events are told by.
+use defmt_grammar::Text;
+use defmt_intern::{Entry, Table, Tag};
+use defmt_script::{Script, read};
+use std::alloc::Global;
+use std::test::Fail;
+
+pub fn script_of(alloc: Global, text: &str) -> Result<Script, Fail> {
+    if text.len() > 100_000 {
+        return Err("long".into());
+    }
+    Ok(read(alloc, text.as_bytes())?)
+}
+
+fn text_of(alloc: Global, text: &str) -> Result<Text, Fail> {
+    let mut copy = Text::new(alloc);
+    copy.push_str(text)?;
+    Ok(copy)
+}
+
+fn entry_of(alloc: Global, tag: &str, text: &str) -> Result<Entry, Fail> {
+    Ok(Entry {
+        tag: Tag::of_name(alloc, tag)?,
+        package: text_of(alloc, "script")?,
+        text: text_of(alloc, text)?,
+        disambiguator: text_of(alloc, "1")?,
+    })
+}
+
+/// A table of lines `TAG TEXT` from the index 1 on, also one that no script has.
+pub fn table_of(alloc: Global, lines: &str) -> Result<Table, Fail> {
+    let mut table = Table::new(alloc);
+    for line in lines.lines() {
+        let (tag, text) = line.split_once(' ').unwrap_or((line, ""));
+        table.add(entry_of(alloc, tag, text)?)?;
+    }
+    Ok(table)
+}
+
+/// Appends an answer, behind a newline where one stands before it.
+pub fn push_answer(answers: &mut String, answer: &str) -> Result<(), Fail> {
+    if !answers.is_empty() {
+        answers.push('\n')?;
+    }
+    answers.push_str(answer)?;
+    Ok(())
+}
