@@ -1,9 +1,10 @@
 //! Images, their blocks and the bytes that wait, and each refusal.
+use crate::rows::{Kind, each_block, each_line};
 use crate::words::{digits_or_nothing, parted, tell};
 use rtt_control::{Block, Cause, ControlFault, Descriptor, Descriptors, find, read, unread, write};
 use std::alloc::Global;
 use std::test::Fail;
-use test_rows::{bytes_of, digits_of, each_block, each_line};
+use test_rows::{bytes_of, digits_of};
 
 // A block with one up-descriptor, and its buffer of 16 bytes in which four wait.
 const IMAGE: &str = "\
@@ -73,13 +74,13 @@ pub fn find_text(alloc: Global, image: &[u8]) -> Result<String, Fail> {
     }
 }
 
-fn ids(alloc: Global, steps: &str) -> Result<String, Fail> {
+pub fn ids(alloc: Global, steps: &str) -> Result<String, Fail> {
     find_text(alloc, &image_of(alloc, steps)?)
 }
 
 #[test]
 fn the_only_id_is_found_and_else_the_image_is_refused(rt: HostRuntime) -> Result<(), Fail> {
-    assert_eq!(rt; each_line(rt.alloc(), IDS, ids)?.as_str(), "6 rows");
+    assert_eq!(rt; each_line(rt.alloc(), IDS, Kind::Ids)?.as_str(), "6 rows");
     Ok(())
 }
 
@@ -130,7 +131,7 @@ pub fn read_text(alloc: Global, image: &[u8], at: u32) -> Result<String, Fail> {
     }
 }
 
-fn blocks(alloc: Global, row: &str) -> Result<String, Fail> {
+pub fn blocks(alloc: Global, row: &str) -> Result<String, Fail> {
     let (at, steps) = parted(row);
     let image = image_of(alloc, steps)?;
     read_text(alloc, &image, at.parse::<u32>()?)
@@ -138,7 +139,10 @@ fn blocks(alloc: Global, row: &str) -> Result<String, Fail> {
 
 #[test]
 fn a_block_is_read_or_refused_by_its_first_fault(rt: HostRuntime) -> Result<(), Fail> {
-    assert_eq!(rt; each_line(rt.alloc(), BLOCKS, blocks)?.as_str(), "11 rows");
+    assert_eq!(rt;
+        each_line(rt.alloc(), BLOCKS, Kind::Blocks)?.as_str(),
+        "11 rows"
+    );
     Ok(())
 }
 
@@ -190,7 +194,7 @@ pub fn unread_text(
     }
 }
 
-fn waiting(alloc: Global, row: &str) -> Result<String, Fail> {
+pub fn waiting(alloc: Global, row: &str) -> Result<String, Fail> {
     let (base, rest) = parted(row);
     let descriptor = descriptor_of(rest)?;
     unread_text(alloc, &bytes_of(alloc, IMAGE)?, number(base)?, &descriptor)
@@ -198,7 +202,10 @@ fn waiting(alloc: Global, row: &str) -> Result<String, Fail> {
 
 #[test]
 fn the_waiting_bytes_go_round_the_end_up_to_the_write_offset(rt: HostRuntime) -> Result<(), Fail> {
-    assert_eq!(rt; each_line(rt.alloc(), WAITING, waiting)?.as_str(), "9 rows");
+    assert_eq!(rt;
+        each_line(rt.alloc(), WAITING, Kind::Waiting)?.as_str(),
+        "9 rows"
+    );
     Ok(())
 }
 
@@ -259,7 +266,7 @@ fn write_text(alloc: Global, block: &Block, len: u8, at: u32) -> Result<String, 
     }
 }
 
-fn written(alloc: Global, row: &str) -> Result<String, Fail> {
+pub fn written(alloc: Global, row: &str) -> Result<String, Fail> {
     let Some((sizes, lines)) = row.split_once('\n') else {
         return Err(Fail::new("no block"));
     };
@@ -271,7 +278,7 @@ fn written(alloc: Global, row: &str) -> Result<String, Fail> {
 #[test]
 fn a_block_is_written_and_every_other_byte_stays(rt: HostRuntime) -> Result<(), Fail> {
     assert_eq!(rt;
-        each_block(rt.alloc(), WRITTEN, written)?.as_str(),
+        each_block(rt.alloc(), WRITTEN, Kind::Written)?.as_str(),
         "3 rows"
     );
     Ok(())

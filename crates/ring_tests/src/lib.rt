@@ -8,6 +8,8 @@ mod modes;
 #[cfg(test)]
 mod rings;
 #[cfg(test)]
+mod rows;
+#[cfg(test)]
 mod streams;
 #[cfg(test)]
 mod words;

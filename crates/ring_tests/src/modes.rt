@@ -2,12 +2,13 @@
 ghost use Rattle.std.specs.Prelude.{⊤};
 
 use crate::rings::{Plain, plain_of};
+use crate::rows::{Kind, each_line};
 use crate::words::{digits_or_nothing, parted, tell};
 use rtt_modes::{Fate, Relief, block, skip, trim};
 use rtt_ring::{DownEnd, UpEnd};
 use std::alloc::Global;
 use std::test::Fail;
-use test_rows::{bytes_of, each_line};
+use test_rows::bytes_of;
 
 fn fate_text(alloc: Global, fate: Fate) -> Result<String, Fail> {
     Ok(match fate {
@@ -53,7 +54,7 @@ fn step(alloc: Global, plain: &mut Plain, step: &str) -> Result<String, Fail> {
     }
 }
 
-fn frames(alloc: Global, steps: &str) -> Result<String, Fail> {
+pub fn frames(alloc: Global, steps: &str) -> Result<String, Fail> {
     let mut plain = plain_of(alloc, 16)?;
     let mut told = String::new(alloc);
     for one in steps.split('|') {
@@ -65,7 +66,10 @@ fn frames(alloc: Global, steps: &str) -> Result<String, Fail> {
 
 #[test]
 fn skip_drops_and_trim_cuts_what_does_not_fit(rt: HostRuntime) -> Result<(), Fail> {
-    assert_eq!(rt; each_line(rt.alloc(), FRAMES, frames)?.as_str(), "2 rows");
+    assert_eq!(rt;
+        each_line(rt.alloc(), FRAMES, Kind::Frames)?.as_str(),
+        "2 rows"
+    );
     Ok(())
 }
 

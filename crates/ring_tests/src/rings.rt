@@ -3,6 +3,7 @@ ghost use Rattle.std.specs.Prelude.{◌≡◌, [], IfOk};
 ghost use Rattle.rtt_ring.specs.PlainView.{up_of};
 
 use crate::blocks::{find_text, read_text, unread_text};
+use crate::rows::{Kind, each_line};
 use crate::words::{digits_or_nothing, parted, tell};
 use dl_io::Bytes;
 use rtt_control::Descriptor;
@@ -15,7 +16,7 @@ use std::sync::Wait;
 use std::test::Fail;
 use std::thread;
 use std::thread::Threads;
-use test_rows::{bytes_of, each_line};
+use test_rows::bytes_of;
 
 fn no_ring(alloc: Global, fault: RingFault) -> Result<String, Fail> {
     Ok(match fault {
@@ -53,7 +54,7 @@ const SIZES: &str = "\
 65536 = 65536
 65537 = size";
 
-fn sizes(alloc: Global, size: &str) -> Result<String, Fail> {
+pub fn sizes(alloc: Global, size: &str) -> Result<String, Fail> {
     let size = size.parse::<u32>()?;
     let plain = plain_size(alloc, size)?;
     let queue = size_of::<QueueRing>(alloc, size)?;
@@ -63,7 +64,10 @@ fn sizes(alloc: Global, size: &str) -> Result<String, Fail> {
 
 #[test]
 fn sizes_from_16_to_65536_are_taken(rt: HostRuntime) -> Result<(), Fail> {
-    assert_eq!(rt; each_line(rt.alloc(), SIZES, sizes)?.as_str(), "4 rows");
+    assert_eq!(rt;
+        each_line(rt.alloc(), SIZES, Kind::Sizes)?.as_str(),
+        "4 rows"
+    );
     Ok(())
 }
 
@@ -246,7 +250,7 @@ const STEPS: &str = "\
 = room 16 found 0 10; 15 16 17 18 19 1a 1b 1c 1d 1e; room 16 found 0 14; 1f 20 21 22 23 24 25 26 27 28 29 2a 2b 2c; \
 2 looks; sent 24 got 24 rest nothing";
 
-fn rings(alloc: Global, row: &str) -> Result<String, Fail> {
+pub fn rings(alloc: Global, row: &str) -> Result<String, Fail> {
     let Some((size, row)) = row.split_once('|') else {
         return Err(Fail::new("no steps"));
     };
@@ -259,7 +263,10 @@ fn rings(alloc: Global, row: &str) -> Result<String, Fail> {
 
 #[test]
 fn bytes_go_round_the_end_of_each_ring(rt: HostRuntime) -> Result<(), Fail> {
-    assert_eq!(rt; each_line(rt.alloc(), STEPS, rings)?.as_str(), "3 rows");
+    assert_eq!(rt;
+        each_line(rt.alloc(), STEPS, Kind::Rings)?.as_str(),
+        "3 rows"
+    );
     Ok(())
 }
 

@@ -1,6 +1,7 @@
 //! Lists of bytes, sources, sinks and shelves.
 ghost use Rattle.std.specs.Prelude.{None};
 
+use crate::rows::{Kind, each_line};
 use crate::words::{digits_or_nothing, parted, tell};
 use dl_io::{
     Bytes, DirShelf, Failed, MemShelf, MemSink, MemSource, ReadFault, RepeatSource, Shelf, Sink,
@@ -9,7 +10,7 @@ use dl_io::{
 use std::alloc::Global;
 use std::test::Fail;
 use std::{io, process};
-use test_rows::{bytes_of, each_line};
+use test_rows::bytes_of;
 
 // Steps, the list that is made first, and the list behind each: its length, bytes and room.
 const LISTS: &str = "\
@@ -77,7 +78,7 @@ fn next_list(alloc: Global, list: Bytes, step: &str) -> Result<Bytes, Fail> {
     Ok(list)
 }
 
-fn lists(alloc: Global, steps: &str) -> Result<String, Fail> {
+pub fn lists(alloc: Global, steps: &str) -> Result<String, Fail> {
     let mut told = String::new(alloc);
     let mut list = Bytes::new(alloc);
     for step in steps.split('|') {
@@ -89,7 +90,10 @@ fn lists(alloc: Global, steps: &str) -> Result<String, Fail> {
 
 #[test]
 fn a_list_and_its_room_grow_and_shrink(rt: HostRuntime) -> Result<(), Fail> {
-    assert_eq!(rt; each_line(rt.alloc(), LISTS, lists)?.as_str(), "3 rows");
+    assert_eq!(rt;
+        each_line(rt.alloc(), LISTS, Kind::Lists)?.as_str(),
+        "3 rows"
+    );
     Ok(())
 }
 
@@ -185,7 +189,7 @@ fn memory(alloc: Global, bytes: &str, fails: &str) -> Result<MemSource, Fail> {
     Ok(MemSource::new(bytes, fails_of(alloc, fails)?))
 }
 
-fn sources(alloc: Global, row: &str) -> Result<String, Fail> {
+pub fn sources(alloc: Global, row: &str) -> Result<String, Fail> {
     let (form, rest) = parted(row);
     let (bytes, rest) = parted(rest);
     let (fails, limits) = parted(rest);
@@ -202,7 +206,10 @@ fn sources(alloc: Global, row: &str) -> Result<String, Fail> {
 fn an_input_is_read_to_its_end_unless_a_read_fails_or_it_is_too_long(
     rt: HostRuntime,
 ) -> Result<(), Fail> {
-    assert_eq!(rt; each_line(rt.alloc(), SOURCES, sources)?.as_str(), "7 rows");
+    assert_eq!(rt;
+        each_line(rt.alloc(), SOURCES, Kind::Sources)?.as_str(),
+        "7 rows"
+    );
     Ok(())
 }
 
@@ -211,7 +218,7 @@ const LARGE: &str = "\
 100000 = 100000 bytes, the last 7
 100001 = long 100001";
 
-fn large(alloc: Global, count: &str) -> Result<String, Fail> {
+pub fn large(alloc: Global, count: &str) -> Result<String, Fail> {
     let mut src = RepeatSource::new(7, count.parse::<u64>()?);
     match read_all(alloc, &mut src, 100_000) {
         Ok(all) => match all.as_slice().last() {
@@ -224,7 +231,10 @@ fn large(alloc: Global, count: &str) -> Result<String, Fail> {
 
 #[test]
 fn a_large_input_is_read_in_growing_pieces(rt: HostRuntime) -> Result<(), Fail> {
-    assert_eq!(rt; each_line(rt.alloc(), LARGE, large)?.as_str(), "2 rows");
+    assert_eq!(rt;
+        each_line(rt.alloc(), LARGE, Kind::Large)?.as_str(),
+        "2 rows"
+    );
     Ok(())
 }
 
@@ -313,7 +323,7 @@ fn std_writes(alloc: Global, steps: &str) -> Result<String, Fail> {
     with_held(alloc, told, &kept)
 }
 
-fn sinks(alloc: Global, row: &str) -> Result<String, Fail> {
+pub fn sinks(alloc: Global, row: &str) -> Result<String, Fail> {
     let Some((out, steps)) = row.split_once('|') else {
         return Err(Fail::new("no steps"));
     };
@@ -331,7 +341,10 @@ fn sinks(alloc: Global, row: &str) -> Result<String, Fail> {
 fn all_bytes_are_written_unless_a_write_fails_or_there_is_no_room(
     rt: HostRuntime,
 ) -> Result<(), Fail> {
-    assert_eq!(rt; each_line(rt.alloc(), SINKS, sinks)?.as_str(), "5 rows");
+    assert_eq!(rt;
+        each_line(rt.alloc(), SINKS, Kind::Sinks)?.as_str(),
+        "5 rows"
+    );
     Ok(())
 }
 
@@ -384,7 +397,7 @@ fn shelf_step(alloc: Global, shelf: &mut MemShelf, step: &str) -> Result<String,
     }
 }
 
-fn shelves(alloc: Global, steps: &str) -> Result<String, Fail> {
+pub fn shelves(alloc: Global, steps: &str) -> Result<String, Fail> {
     let mut told = String::new(alloc);
     let mut shelf = MemShelf::new(alloc, Bytes::from_slice(alloc, &[2])?);
     for step in steps.split('|') {
@@ -397,7 +410,10 @@ fn shelves(alloc: Global, steps: &str) -> Result<String, Fail> {
 fn a_file_is_fetched_unless_it_is_missing_or_too_long_or_a_fetch_fails(
     rt: HostRuntime,
 ) -> Result<(), Fail> {
-    assert_eq!(rt; each_line(rt.alloc(), SHELVES, shelves)?.as_str(), "5 rows");
+    assert_eq!(rt;
+        each_line(rt.alloc(), SHELVES, Kind::Shelves)?.as_str(),
+        "5 rows"
+    );
     Ok(())
 }
 

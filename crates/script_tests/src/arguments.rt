@@ -1,4 +1,5 @@
 // What texts of arguments read as, and how arguments are written.
+use crate::rows::{Kind, each_block, each_line};
 use crate::texts::{inside_of, script_of};
 use defmt_grammar::Text;
 use defmt_intern::{Entry, Table, Tag};
@@ -6,7 +7,6 @@ use defmt_spelling::{ArgFault, Names, print_args, read_args};
 use defmt_values::Statement;
 use std::alloc::Global;
 use std::test::Fail;
-use test_rows::{each_block, each_line};
 
 // A format string and a text of arguments; how they are written, or the cause for which they aren't read.
 const KINDS: &str = r#"{=u8} <255> = <255>
@@ -174,7 +174,7 @@ fn push_answer(answers: &mut String, answer: &str) -> Result<(), Fail> {
     Ok(())
 }
 
-fn answers_of(alloc: Global, block: &str) -> Result<String, Fail> {
+pub fn answers_of(alloc: Global, block: &str) -> Result<String, Fail> {
     let mut strings = Strings {
         table: Table::new(alloc),
         names: Names::new(alloc),
@@ -196,7 +196,7 @@ fn written_each(alloc: Global, names: &Names, table: &Table, rows: &str) -> Resu
     Ok(answers)
 }
 
-fn written_by_script(alloc: Global, block: &str) -> Result<String, Fail> {
+pub fn written_by_script(alloc: Global, block: &str) -> Result<String, Fail> {
     let Some((strings, rows)) = block.split_once("\nargs ") else {
         return Err("no arguments".into());
     };
@@ -204,7 +204,7 @@ fn written_by_script(alloc: Global, block: &str) -> Result<String, Fail> {
     written_each(alloc, script.names(), script.table(), rows)
 }
 
-fn written_of_kind(alloc: Global, row: &str) -> Result<String, Fail> {
+pub fn written_of_kind(alloc: Global, row: &str) -> Result<String, Fail> {
     let (form, args) = row.split_once(' ').unwrap_or((row, ""));
     let text = format!(in alloc; "s log defmt_info {form}\ns z defmt_prim z")?;
     let script = script_of(alloc, text.as_str())?;
@@ -214,7 +214,7 @@ fn written_of_kind(alloc: Global, row: &str) -> Result<String, Fail> {
 #[test]
 fn each_kind_has_its_spelling_and_its_causes(rt: HostRuntime) -> Result<(), Fail> {
     assert_eq!(rt;
-        each_line(rt.alloc(), KINDS, written_of_kind)?.as_str(),
+        each_line(rt.alloc(), KINDS, Kind::WrittenOfKind)?.as_str(),
         "24 rows"
     );
     Ok(())
@@ -223,7 +223,7 @@ fn each_kind_has_its_spelling_and_its_causes(rt: HostRuntime) -> Result<(), Fail
 #[test]
 fn strings_are_found_by_their_names(rt: HostRuntime) -> Result<(), Fail> {
     assert_eq!(rt;
-        each_block(rt.alloc(), BY_SCRIPTS, written_by_script)?.as_str(),
+        each_block(rt.alloc(), BY_SCRIPTS, Kind::WrittenByScript)?.as_str(),
         "3 rows"
     );
     Ok(())
@@ -232,7 +232,7 @@ fn strings_are_found_by_their_names(rt: HostRuntime) -> Result<(), Fail> {
 #[test]
 fn the_least_name_of_an_index_is_written(rt: HostRuntime) -> Result<(), Fail> {
     assert_eq!(rt;
-        each_block(rt.alloc(), BY_LINES, answers_of)?.as_str(),
+        each_block(rt.alloc(), BY_LINES, Kind::AnswersOf)?.as_str(),
         "2 rows"
     );
     Ok(())

@@ -1,4 +1,5 @@
 // The lines of scripts: where they are cut, what each says, and what the first lines set.
+use crate::rows::{Kind, each_line};
 use crate::texts::{digits_or_nothing, inside_of};
 use defmt_intern::Tag;
 use defmt_lines::{
@@ -8,7 +9,7 @@ use defmt_lines::{
 use std::alloc::Global;
 use std::fmt::Write;
 use std::test::Fail;
-use test_rows::{bytes_of, each_line};
+use test_rows::bytes_of;
 
 // A text; its first line, and what comes after it.
 const CUTS: &str = "\
@@ -65,7 +66,7 @@ const NAMES: &str = "\
 a_1 = true
 1a = false";
 
-fn cut_of(alloc: Global, digits: &str) -> Result<String, Fail> {
+pub fn cut_of(alloc: Global, digits: &str) -> Result<String, Fail> {
     let text = bytes_of(alloc, digits)?;
     if text.is_empty() {
         return Err("no text".into());
@@ -116,11 +117,11 @@ fn said(alloc: Global, line: &Line<'_>) -> Result<String, Fail> {
     }
 }
 
-fn said_by_text(alloc: Global, row: &str) -> Result<String, Fail> {
+pub fn said_by_text(alloc: Global, row: &str) -> Result<String, Fail> {
     said(alloc, &read_line(inside_of(row)?.as_bytes()))
 }
 
-fn said_by_bytes(alloc: Global, digits: &str) -> Result<String, Fail> {
+pub fn said_by_bytes(alloc: Global, digits: &str) -> Result<String, Fail> {
     let bytes = bytes_of(alloc, digits)?;
     said(alloc, &read_line(&bytes))
 }
@@ -155,7 +156,7 @@ fn set_by(line: &Line<'_>) -> Option<Result<Settings, Cause>> {
     }
 }
 
-fn setting_of(alloc: Global, row: &str) -> Result<String, Fail> {
+pub fn setting_of(alloc: Global, row: &str) -> Result<String, Fail> {
     match set_by(&read_line(inside_of(row)?.as_bytes())) {
         Some(Ok(settings)) => settings_said(alloc, &settings),
         Some(Err(cause)) => Ok(format!(in alloc; "cause {}", cause.number())?),
@@ -163,7 +164,7 @@ fn setting_of(alloc: Global, row: &str) -> Result<String, Fail> {
     }
 }
 
-fn verdict_of(alloc: Global, row: &str) -> Result<String, Fail> {
+pub fn verdict_of(alloc: Global, row: &str) -> Result<String, Fail> {
     let (tag, text) = row.split_once(' ').unwrap_or((row, ""));
     let tag = Tag::of_name(alloc, tag)?;
     match judge(alloc, &tag, text)? {
@@ -172,20 +173,23 @@ fn verdict_of(alloc: Global, row: &str) -> Result<String, Fail> {
     }
 }
 
-fn name_of(alloc: Global, row: &str) -> Result<String, Fail> {
+pub fn name_of(alloc: Global, row: &str) -> Result<String, Fail> {
     Ok(format!(in alloc; "{}", is_name(row.as_bytes()))?)
 }
 
 #[test]
 fn a_carriage_return_is_passed_over_before_a_newline_alone(rt: HostRuntime) -> Result<(), Fail> {
-    assert_eq!(rt; each_line(rt.alloc(), CUTS, cut_of)?.as_str(), "2 rows");
+    assert_eq!(rt;
+        each_line(rt.alloc(), CUTS, Kind::CutOf)?.as_str(),
+        "2 rows"
+    );
     Ok(())
 }
 
 #[test]
 fn lines_are_cut_at_every_space(rt: HostRuntime) -> Result<(), Fail> {
     assert_eq!(rt;
-        each_line(rt.alloc(), LINES, said_by_text)?.as_str(),
+        each_line(rt.alloc(), LINES, Kind::SaidByText)?.as_str(),
         "18 rows"
     );
     Ok(())
@@ -194,7 +198,7 @@ fn lines_are_cut_at_every_space(rt: HostRuntime) -> Result<(), Fail> {
 #[test]
 fn bytes_that_are_no_text_say_nothing(rt: HostRuntime) -> Result<(), Fail> {
     assert_eq!(rt;
-        each_line(rt.alloc(), BYTES, said_by_bytes)?.as_str(),
+        each_line(rt.alloc(), BYTES, Kind::SaidByBytes)?.as_str(),
         "1 rows"
     );
     Ok(())
@@ -203,7 +207,7 @@ fn bytes_that_are_no_text_say_nothing(rt: HostRuntime) -> Result<(), Fail> {
 #[test]
 fn settings_are_decimal_numbers_and_words(rt: HostRuntime) -> Result<(), Fail> {
     assert_eq!(rt;
-        each_line(rt.alloc(), SETTINGS, setting_of)?.as_str(),
+        each_line(rt.alloc(), SETTINGS, Kind::SettingOf)?.as_str(),
         "10 rows"
     );
     Ok(())
@@ -212,7 +216,7 @@ fn settings_are_decimal_numbers_and_words(rt: HostRuntime) -> Result<(), Fail> {
 #[test]
 fn a_text_is_read_by_its_tag(rt: HostRuntime) -> Result<(), Fail> {
     assert_eq!(rt;
-        each_line(rt.alloc(), TEXTS, verdict_of)?.as_str(),
+        each_line(rt.alloc(), TEXTS, Kind::VerdictOf)?.as_str(),
         "5 rows"
     );
     Ok(())
@@ -220,7 +224,10 @@ fn a_text_is_read_by_its_tag(rt: HostRuntime) -> Result<(), Fail> {
 
 #[test]
 fn a_name_begins_with_a_letter(rt: HostRuntime) -> Result<(), Fail> {
-    assert_eq!(rt; each_line(rt.alloc(), NAMES, name_of)?.as_str(), "2 rows");
+    assert_eq!(rt;
+        each_line(rt.alloc(), NAMES, Kind::NameOf)?.as_str(),
+        "2 rows"
+    );
     Ok(())
 }
 

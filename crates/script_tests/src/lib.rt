@@ -8,6 +8,8 @@ mod content;
 #[cfg(test)]
 mod generated;
 #[cfg(test)]
+mod rows;
+#[cfg(test)]
 mod scripts;
 #[cfg(test)]
 mod shapes;

@@ -1,4 +1,5 @@
 // What scripts say, and the first line for which a text is none.
+use crate::rows::{Kind, each_line};
 use crate::texts::script_of;
 use defmt_intern::Entry;
 use defmt_script::{RingMode, Script, ScriptFault, read};
@@ -7,7 +8,6 @@ use defmt_values::Statement;
 use std::alloc::Global;
 use std::fmt::Write;
 use std::test::Fail;
-use test_rows::each_line;
 
 const FULL: &str =
     "ring 64\nmode skip\nreader late\nstamp 1000 250\ns a defmt_info a {=u8}\r\n\ns b defmt_warn b {=bool}\n# note\nw 0 a 1\nw 1 b true\nw 0 a 2\nw 1 b false";
@@ -191,12 +191,12 @@ fn verdict_of(alloc: Global, text: &str) -> Result<String, Fail> {
     }
 }
 
-fn refusal_of(alloc: Global, row: &str) -> Result<String, Fail> {
+pub fn refusal_of(alloc: Global, row: &str) -> Result<String, Fail> {
     let text = lines_of(alloc, row)?;
     verdict_of(alloc, text.as_str())
 }
 
-fn refusal_at_limit(alloc: Global, row: &str) -> Result<String, Fail> {
+pub fn refusal_at_limit(alloc: Global, row: &str) -> Result<String, Fail> {
     let text = whole_of(alloc, row)?;
     verdict_of(alloc, text.as_str())
 }
@@ -216,7 +216,7 @@ fn settings_have_defaults(rt: HostRuntime) -> Result<(), Fail> {
 #[test]
 fn the_first_refused_line_is_told_with_its_first_cause(rt: HostRuntime) -> Result<(), Fail> {
     assert_eq!(rt;
-        each_line(rt.alloc(), REFUSALS, refusal_of)?.as_str(),
+        each_line(rt.alloc(), REFUSALS, Kind::RefusalOf)?.as_str(),
         "17 rows"
     );
     Ok(())
@@ -225,7 +225,7 @@ fn the_first_refused_line_is_told_with_its_first_cause(rt: HostRuntime) -> Resul
 #[test]
 fn messages_texts_and_values_have_limits(rt: HostRuntime) -> Result<(), Fail> {
     assert_eq!(rt;
-        each_line(rt.alloc(), LIMITS, refusal_at_limit)?.as_str(),
+        each_line(rt.alloc(), LIMITS, Kind::RefusalAtLimit)?.as_str(),
         "11 rows"
     );
     Ok(())

@@ -1,4 +1,5 @@
 // What texts spell as values and as items, without any table.
+use crate::rows::{Kind, each_line};
 use crate::texts::{digits_or_nothing, inside_of};
 use defmt_shapes::{
     Item, Number, Spelling, bytes_of, first_item, first_value, skip_spaces, unescape,
@@ -6,7 +7,6 @@ use defmt_shapes::{
 use std::alloc::Global;
 use std::fmt::Write;
 use std::test::Fail;
-use test_rows::each_line;
 
 // What a text spells first, and how many bytes stand behind that.
 const VALUES: &str = r#"<7 8> = decimal 7, behind 2
@@ -110,7 +110,7 @@ fn push_spelling(text: &mut String, spelling: Spelling<'_>) -> Result<(), Fail> 
     }
 }
 
-fn value_of(alloc: Global, row: &str) -> Result<String, Fail> {
+pub fn value_of(alloc: Global, row: &str) -> Result<String, Fail> {
     let text = inside_of(row)?;
     let mut told = String::new(alloc);
     match first_value(alloc, text)? {
@@ -129,7 +129,7 @@ fn push_item(text: &mut String, item: Item<'_>) -> Result<(), Fail> {
     Ok(())
 }
 
-fn item_of(alloc: Global, text: &str) -> Result<String, Fail> {
+pub fn item_of(alloc: Global, text: &str) -> Result<String, Fail> {
     let mut told = String::new(alloc);
     match first_item(alloc, text)? {
         Some((item, rest)) => {
@@ -141,17 +141,17 @@ fn item_of(alloc: Global, text: &str) -> Result<String, Fail> {
     Ok(told)
 }
 
-fn meaning_of(alloc: Global, inside: &str) -> Result<String, Fail> {
+pub fn meaning_of(alloc: Global, inside: &str) -> Result<String, Fail> {
     let text = unescape(alloc, inside)?;
     digits_or_nothing(alloc, text.as_str().as_bytes())
 }
 
-fn bytes_meant(alloc: Global, digits: &str) -> Result<String, Fail> {
+pub fn bytes_meant(alloc: Global, digits: &str) -> Result<String, Fail> {
     let bytes = bytes_of(alloc, digits)?;
     digits_or_nothing(alloc, bytes.as_slice())
 }
 
-fn behind_spaces(alloc: Global, row: &str) -> Result<String, Fail> {
+pub fn behind_spaces(alloc: Global, row: &str) -> Result<String, Fail> {
     Ok(format!(in alloc; "<{}>", skip_spaces(inside_of(row)?))?)
 }
 
@@ -167,7 +167,7 @@ fn calls_of(alloc: Global, opened: u32, closed: u32) -> Result<String, Fail> {
     Ok(text)
 }
 
-fn behind_calls(alloc: Global, row: &str) -> Result<String, Fail> {
+pub fn behind_calls(alloc: Global, row: &str) -> Result<String, Fail> {
     let (opened, closed) = row.split_once(' ').unwrap_or((row, "0"));
     let text = calls_of(alloc, opened.parse()?, closed.parse()?)?;
     match first_value(alloc, text.as_str())? {
@@ -179,7 +179,7 @@ fn behind_calls(alloc: Global, row: &str) -> Result<String, Fail> {
 #[test]
 fn texts_spell_values_or_none(rt: HostRuntime) -> Result<(), Fail> {
     assert_eq!(rt;
-        each_line(rt.alloc(), VALUES, value_of)?.as_str(),
+        each_line(rt.alloc(), VALUES, Kind::ValueOf)?.as_str(),
         "31 rows"
     );
     Ok(())
@@ -187,14 +187,17 @@ fn texts_spell_values_or_none(rt: HostRuntime) -> Result<(), Fail> {
 
 #[test]
 fn an_item_has_a_variant_and_values(rt: HostRuntime) -> Result<(), Fail> {
-    assert_eq!(rt; each_line(rt.alloc(), ITEMS, item_of)?.as_str(), "1 rows");
+    assert_eq!(rt;
+        each_line(rt.alloc(), ITEMS, Kind::ItemOf)?.as_str(),
+        "1 rows"
+    );
     Ok(())
 }
 
 #[test]
 fn escapes_have_a_meaning(rt: HostRuntime) -> Result<(), Fail> {
     assert_eq!(rt;
-        each_line(rt.alloc(), ESCAPES, meaning_of)?.as_str(),
+        each_line(rt.alloc(), ESCAPES, Kind::MeaningOf)?.as_str(),
         "1 rows"
     );
     Ok(())
@@ -203,7 +206,7 @@ fn escapes_have_a_meaning(rt: HostRuntime) -> Result<(), Fail> {
 #[test]
 fn digits_have_a_meaning(rt: HostRuntime) -> Result<(), Fail> {
     assert_eq!(rt;
-        each_line(rt.alloc(), DIGITS, bytes_meant)?.as_str(),
+        each_line(rt.alloc(), DIGITS, Kind::BytesMeant)?.as_str(),
         "1 rows"
     );
     Ok(())
@@ -212,7 +215,7 @@ fn digits_have_a_meaning(rt: HostRuntime) -> Result<(), Fail> {
 #[test]
 fn spaces_in_front_are_passed_over(rt: HostRuntime) -> Result<(), Fail> {
     assert_eq!(rt;
-        each_line(rt.alloc(), SPACES, behind_spaces)?.as_str(),
+        each_line(rt.alloc(), SPACES, Kind::BehindSpaces)?.as_str(),
         "1 rows"
     );
     Ok(())
@@ -221,7 +224,7 @@ fn spaces_in_front_are_passed_over(rt: HostRuntime) -> Result<(), Fail> {
 #[test]
 fn deep_brackets_are_closed_one_by_one(rt: HostRuntime) -> Result<(), Fail> {
     assert_eq!(rt;
-        each_line(rt.alloc(), DEEP, behind_calls)?.as_str(),
+        each_line(rt.alloc(), DEEP, Kind::BehindCalls)?.as_str(),
         "2 rows"
     );
     Ok(())

@@ -3,6 +3,7 @@ ghost use Rattle.std.specs.Prelude.{◌≡◌, OnOk};
 ghost use Rattle.defmt_values.specs.Entries.{is_logged};
 ghost use Rattle.defmt_values.specs.Fits.{IsLogged};
 
+use crate::rows::{Kind, each_block, each_line};
 use crate::shared::{script_of, table_of};
 use defmt_eager::{EagerFault, is_wide, line, stamp_at, text_of};
 use defmt_grammar::Text;
@@ -12,7 +13,6 @@ use defmt_values::{Args, Statement, Value, check, look_up};
 use dl_io::Bytes;
 use std::alloc::Global;
 use std::test::Fail;
-use test_rows::{each_block, each_line};
 
 const TEXTS: &str = r#"{=u8:#04x} {0=u8:b}, 10 = 0x0a 1010
 {0=0..4} {0=8..12:#b}, 0x0a05 = 5 0b1010
@@ -124,7 +124,7 @@ fn one(alloc: Global, value: Value) -> Result<Args, Fail> {
 }
 
 // The line of a script's first statement with its first stamp.
-fn line_in(alloc: Global, text: &str) -> Result<String, Fail> {
+pub fn line_in(alloc: Global, text: &str) -> Result<String, Fail> {
     let script = script_of(alloc, text)?;
     let stamp = script.stamp().map_or(0, |(base, _)| base);
     let stamp = one(alloc, Value::Uint(u128::from(stamp)))?;
@@ -145,7 +145,7 @@ fn text_in(alloc: Global, script: &Script) -> Result<String, Fail> {
 }
 
 // The text of a statement of this format string, behind which its arguments stand.
-fn shown(alloc: Global, input: &str) -> Result<String, Fail> {
+pub fn shown(alloc: Global, input: &str) -> Result<String, Fail> {
     let (format, args) = input.split_once(", ").ok_or("no arguments")?;
     let text = format!(in alloc;
         "s v defmt_info {format}\ns k defmt_prim k{{=u8}}\ns word defmt_str {{word|\nw 0 v {args}"
@@ -174,7 +174,7 @@ fn length_of(alloc: Global, table: &Table, statement: &Statement) -> Result<Stri
 }
 
 // How long the text of so many bytes is, each of which fills 255 places.
-fn length_for(alloc: Global, count: &str) -> Result<String, Fail> {
+pub fn length_for(alloc: Global, count: &str) -> Result<String, Fail> {
     let args = ones(alloc, count.parse::<u16>()?)?;
     let table = table_of(alloc, "1 defmt_info {=[u8]:#0255b}")?;
     length_of(alloc, &table, &Statement { index: 1, args })
@@ -190,7 +190,10 @@ fn bare_line(alloc: Global, count: u16) -> Result<String, Fail> {
 
 #[test]
 fn values_print_under_their_hints_and_lists_between_brackets(rt: HostRuntime) -> Result<(), Fail> {
-    assert_eq!(rt; each_line(rt.alloc(), TEXTS, shown)?.as_str(), "15 rows");
+    assert_eq!(rt;
+        each_line(rt.alloc(), TEXTS, Kind::EagerShown)?.as_str(),
+        "15 rows"
+    );
     Ok(())
 }
 
@@ -198,13 +201,19 @@ fn values_print_under_their_hints_and_lists_between_brackets(rt: HostRuntime) ->
 fn lines_take_hints_inwards_and_stamps_in_front_of_levels_alone(
     rt: HostRuntime,
 ) -> Result<(), Fail> {
-    assert_eq!(rt; each_block(rt.alloc(), LINES, line_in)?.as_str(), "5 rows");
+    assert_eq!(rt;
+        each_block(rt.alloc(), LINES, Kind::LineIn)?.as_str(),
+        "5 rows"
+    );
     Ok(())
 }
 
 #[test]
 fn texts_of_too_many_bytes_are_wide(rt: HostRuntime) -> Result<(), Fail> {
-    assert_eq!(rt; each_line(rt.alloc(), WIDE, length_for)?.as_str(), "3 rows");
+    assert_eq!(rt;
+        each_line(rt.alloc(), WIDE, Kind::LengthFor)?.as_str(),
+        "3 rows"
+    );
     Ok(())
 }
 

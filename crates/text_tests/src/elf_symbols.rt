@@ -5,11 +5,12 @@ ghost use Rattle.elf_section.specs.Symbol.{plain_all};
 ghost use Rattle.elf_section.specs.Written.{IsWritable};
 
 use crate::elf_files::{Linked, REFUSED, alike, damage, linked_of, parted, put_over};
+use crate::rows::{Kind, each_block, each_line};
 use dl_io::Bytes;
 use elf_section::{ElfFault, Symbol, read_symbols, write_symbols};
 use std::alloc::Global;
 use std::test::Fail;
-use test_rows::{bytes_of, digits_of, each_block, each_line};
+use test_rows::{bytes_of, digits_of};
 
 /// How many symbols there are, and the value and the name of each.
 fn listing(alloc: Global, symbols: &[Symbol]) -> Result<String, Fail> {
@@ -63,7 +64,7 @@ fn symbols_by_markers(alloc: Global, wide: bool, markers: &str) -> Result<String
     symbols(alloc, &file)
 }
 
-fn answer_to_markers(alloc: Global, markers: &str) -> Result<String, Fail> {
+pub fn answer_to_markers(alloc: Global, markers: &str) -> Result<String, Fail> {
     let narrow = symbols_by_markers(alloc, false, markers)?;
     let wide = symbols_by_markers(alloc, true, markers)?;
     alike(alloc, narrow, wide)
@@ -152,7 +153,7 @@ cause 8 Nothing 0";
 
 #[test]
 fn the_markers_are_taken_in_both_spellings_and_in_no_other(rt: HostRuntime) -> Result<(), Fail> {
-    let told = each_block(rt.alloc(), MARKERS, answer_to_markers)?;
+    let told = each_block(rt.alloc(), MARKERS, Kind::AnswerToMarkers)?;
     assert_eq!(rt; told.as_str(), "16 rows");
     Ok(())
 }
@@ -211,7 +212,7 @@ fn with_other_bytes(alloc: Global, linked: &Linked, change: &str) -> Result<Vec<
     Ok(file)
 }
 
-fn answer_to_header(alloc: Global, change: &str) -> Result<String, Fail> {
+pub fn answer_to_header(alloc: Global, change: &str) -> Result<String, Fail> {
     let (class, change) = parted(change);
     let linked = sound(alloc, class)?;
     let file = with_other_bytes(alloc, &linked, change)?;
@@ -220,7 +221,7 @@ fn answer_to_header(alloc: Global, change: &str) -> Result<String, Fail> {
 
 #[test]
 fn a_changed_header_gives_its_refusal(rt: HostRuntime) -> Result<(), Fail> {
-    let told = each_line(rt.alloc(), HEADERS, answer_to_header)?;
+    let told = each_line(rt.alloc(), HEADERS, Kind::AnswerToHeader)?;
     assert_eq!(rt; told.as_str(), "28 rows");
     Ok(())
 }
@@ -336,14 +337,14 @@ const WRITTEN: &str =
 =
 cause 7 Nothing 0"#;
 
-fn read_back(alloc: Global, text: &str) -> Result<String, Fail> {
+pub fn read_back(alloc: Global, text: &str) -> Result<String, Fail> {
     let file = written(alloc, text)?;
     symbols(alloc, file.as_slice())
 }
 
 #[test]
 fn of_written_symbols_those_with_a_brace_are_read_back(rt: HostRuntime) -> Result<(), Fail> {
-    let told = each_block(rt.alloc(), WRITTEN, read_back)?;
+    let told = each_block(rt.alloc(), WRITTEN, Kind::ElfSymbolReadBack)?;
     assert_eq!(rt; told.as_str(), "3 rows");
     assert_eq!(rt; read_back(rt.alloc(), "")?.as_str(), "0 symbols");
     Ok(())
@@ -356,7 +357,7 @@ at 163 78 = 0 symbols
 at 164 20 = 1 symbols; 1 { data":"hello","disambiguator":"1","package":"script","tag":"defmt_info"}
 at 106 01 = 1 symbols; 65537 {"data":"hello","disambiguator":"1","package":"script","tag":"defmt_info"}"#;
 
-fn answer_to_damage(alloc: Global, text: &str) -> Result<String, Fail> {
+pub fn answer_to_damage(alloc: Global, text: &str) -> Result<String, Fail> {
     let mut file = bytes_of(alloc, FILE)?;
     damage(alloc, &mut file, text)?;
     symbols(alloc, &file)
@@ -364,14 +365,14 @@ fn answer_to_damage(alloc: Global, text: &str) -> Result<String, Fail> {
 
 #[test]
 fn a_damaged_file_gives_its_refusal(rt: HostRuntime) -> Result<(), Fail> {
-    let told = each_line(rt.alloc(), REFUSED, answer_to_damage)?;
+    let told = each_line(rt.alloc(), REFUSED, Kind::ElfSymbolAnswerToDamage)?;
     assert_eq!(rt; told.as_str(), "16 rows");
     Ok(())
 }
 
 #[test]
 fn a_changed_symbol_is_read_as_it_stands(rt: HostRuntime) -> Result<(), Fail> {
-    let told = each_line(rt.alloc(), READ, answer_to_damage)?;
+    let told = each_line(rt.alloc(), READ, Kind::ElfSymbolAnswerToDamage)?;
     assert_eq!(rt; told.as_str(), "5 rows");
     Ok(())
 }

@@ -1,12 +1,12 @@
 //! Tables that are written and read back, those of linked files, and refusals.
 use crate::elf_files::{REFUSED, alike, damage, linked_of, parted};
+use crate::rows::{Kind, each_block, each_line};
 use defmt_grammar::Text;
 use defmt_intern::{Entry, Table, Tag};
 use dl_io::Bytes;
 use elf_table::{LoadFault, is_writable, read_table, write_table};
 use std::alloc::Global;
 use std::test::Fail;
-use test_rows::{each_block, each_line};
 
 /// How many entries there are, the index of the timestamp, and each entry's index, tag, package, disambiguator and text.
 fn listing(alloc: Global, table: &Table) -> Result<String, Fail> {
@@ -92,7 +92,7 @@ const WRITTEN: &str = "\
 3 entries, stamp 65535; 0 defmt_bitflags script 1 a\"b\\é\u{1}; 700 defmt_prim script 1 None|Some({=?}); \
 65535 defmt_timestamp script 1 {=u64:us}";
 
-fn read_back(alloc: Global, lines: &str) -> Result<String, Fail> {
+pub fn read_back(alloc: Global, lines: &str) -> Result<String, Fail> {
     let file = written(alloc, lines)?;
     table_in(alloc, file.as_slice())
 }
@@ -106,7 +106,7 @@ fn one_entry_makes_472_bytes(rt: HostRuntime) -> Result<(), Fail> {
 
 #[test]
 fn a_table_reads_back_with_its_indexes(rt: HostRuntime) -> Result<(), Fail> {
-    let told = each_block(rt.alloc(), WRITTEN, read_back)?;
+    let told = each_block(rt.alloc(), WRITTEN, Kind::ElfTableReadBack)?;
     assert_eq!(rt; told.as_str(), "2 rows");
     let none = written(rt.alloc(), "")?;
     assert_eq!(rt;
@@ -122,7 +122,7 @@ at 164 20 = cause 3 symbol 0
 at 106 01 = cause 6 symbol 0
 at 163 78 = 0 entries";
 
-fn answer_to_damage(alloc: Global, text: &str) -> Result<String, Fail> {
+pub fn answer_to_damage(alloc: Global, text: &str) -> Result<String, Fail> {
     let mut file = written(alloc, "1 defmt_info hello")?.into_vec();
     damage(alloc, &mut file, text)?;
     table_in(alloc, &file)
@@ -130,9 +130,9 @@ fn answer_to_damage(alloc: Global, text: &str) -> Result<String, Fail> {
 
 #[test]
 fn a_damaged_file_is_refused_with_its_cause_and_place(rt: HostRuntime) -> Result<(), Fail> {
-    let told = each_line(rt.alloc(), REFUSED, answer_to_damage)?;
+    let told = each_line(rt.alloc(), REFUSED, Kind::ElfTableAnswerToDamage)?;
     assert_eq!(rt; told.as_str(), "16 rows");
-    let told = each_line(rt.alloc(), NAMES, answer_to_damage)?;
+    let told = each_line(rt.alloc(), NAMES, Kind::ElfTableAnswerToDamage)?;
     assert_eq!(rt; told.as_str(), "3 rows");
     Ok(())
 }
@@ -189,7 +189,7 @@ fn table_in_linked(alloc: Global, wide: bool, lines: &str) -> Result<String, Fai
     table_in(alloc, &file)
 }
 
-fn answer_to_symbols(alloc: Global, lines: &str) -> Result<String, Fail> {
+pub fn answer_to_symbols(alloc: Global, lines: &str) -> Result<String, Fail> {
     let narrow = table_in_linked(alloc, false, lines)?;
     let wide = table_in_linked(alloc, true, lines)?;
     alike(alloc, narrow, wide)
@@ -197,7 +197,7 @@ fn answer_to_symbols(alloc: Global, lines: &str) -> Result<String, Fail> {
 
 #[test]
 fn linked_files_of_both_classes_name_their_table(rt: HostRuntime) -> Result<(), Fail> {
-    let told = each_block(rt.alloc(), LINKED, answer_to_symbols)?;
+    let told = each_block(rt.alloc(), LINKED, Kind::AnswerToSymbols)?;
     assert_eq!(rt; told.as_str(), "7 rows");
     Ok(())
 }

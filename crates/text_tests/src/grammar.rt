@@ -1,9 +1,9 @@
 // Format strings: their refusals, spellings, pieces and slots.
+use crate::rows::{Kind, each_line};
 use crate::shared::pieces_of;
 use defmt_grammar::{Cause, GrammarFault, Mode, Piece, Text, print};
 use std::alloc::Global;
 use std::test::Fail;
-use test_rows::each_line;
 
 const REFUSALS: &str = "\
 strict { = cause 1 at 0
@@ -144,7 +144,7 @@ fn spelling_in(alloc: Global, text: &str, mode: Mode) -> Result<String, Fail> {
     }
 }
 
-fn spelling_of(alloc: Global, input: &str) -> Result<String, Fail> {
+pub fn spelling_of(alloc: Global, input: &str) -> Result<String, Fail> {
     let (mode, text) = input.split_once(' ').ok_or("no mode")?;
     let mode = if mode == "strict" {
         Mode::Strict
@@ -180,7 +180,7 @@ fn piece_text(alloc: Global, piece: &Piece) -> Result<String, Fail> {
 }
 
 // The pieces of a text, as a copy has them.
-fn pieces_text(alloc: Global, text: &str) -> Result<String, Fail> {
+pub fn pieces_text(alloc: Global, text: &str) -> Result<String, Fail> {
     let pieces = pieces_of(alloc, text, Mode::Strict)?.copy(alloc)?;
     let mut list = String::new(alloc);
     for piece in pieces.as_slice() {
@@ -190,7 +190,7 @@ fn pieces_text(alloc: Global, text: &str) -> Result<String, Fail> {
     Ok(list)
 }
 
-fn slots_text(alloc: Global, text: &str) -> Result<String, Fail> {
+pub fn slots_text(alloc: Global, text: &str) -> Result<String, Fail> {
     let pieces = pieces_of(alloc, text, Mode::Strict)?;
     let mut list = String::new(alloc);
     for slot in pieces.slots() {
@@ -201,7 +201,7 @@ fn slots_text(alloc: Global, text: &str) -> Result<String, Fail> {
 }
 
 // How often each of the first four positions is used.
-fn uses_text(alloc: Global, text: &str) -> Result<String, Fail> {
+pub fn uses_text(alloc: Global, text: &str) -> Result<String, Fail> {
     let pieces = pieces_of(alloc, text, Mode::Strict)?.copy(alloc)?;
     Ok(format!(in alloc;
         "{} {} {} {}",
@@ -215,7 +215,7 @@ fn uses_text(alloc: Global, text: &str) -> Result<String, Fail> {
 #[test]
 fn the_first_fault_counts_with_its_place(rt: HostRuntime) -> Result<(), Fail> {
     assert_eq!(rt;
-        each_line(rt.alloc(), REFUSALS, spelling_of)?.as_str(),
+        each_line(rt.alloc(), REFUSALS, Kind::SpellingOf)?.as_str(),
         "51 rows"
     );
     Ok(())
@@ -226,7 +226,7 @@ fn the_canonical_spelling_is_printed_and_an_unknown_hint_refused_by_strict_alone
     rt: HostRuntime,
 ) -> Result<(), Fail> {
     assert_eq!(rt;
-        each_line(rt.alloc(), SPELLINGS, spelling_of)?.as_str(),
+        each_line(rt.alloc(), SPELLINGS, Kind::SpellingOf)?.as_str(),
         "33 rows"
     );
     Ok(())
@@ -235,7 +235,7 @@ fn the_canonical_spelling_is_printed_and_an_unknown_hint_refused_by_strict_alone
 #[test]
 fn pieces_tell_literals_and_parameters(rt: HostRuntime) -> Result<(), Fail> {
     assert_eq!(rt;
-        each_line(rt.alloc(), PIECES, pieces_text)?.as_str(),
+        each_line(rt.alloc(), PIECES, Kind::PiecesText)?.as_str(),
         "1 rows"
     );
     Ok(())
@@ -246,7 +246,7 @@ fn each_position_has_a_slot_of_its_kind_or_the_window_of_its_bit_fields(
     rt: HostRuntime,
 ) -> Result<(), Fail> {
     assert_eq!(rt;
-        each_line(rt.alloc(), SLOTS, slots_text)?.as_str(),
+        each_line(rt.alloc(), SLOTS, Kind::SlotsText)?.as_str(),
         "31 rows"
     );
     Ok(())
@@ -254,7 +254,10 @@ fn each_position_has_a_slot_of_its_kind_or_the_window_of_its_bit_fields(
 
 #[test]
 fn each_use_of_a_position_counts(rt: HostRuntime) -> Result<(), Fail> {
-    assert_eq!(rt; each_line(rt.alloc(), USES, uses_text)?.as_str(), "2 rows");
+    assert_eq!(rt;
+        each_line(rt.alloc(), USES, Kind::UsesText)?.as_str(),
+        "2 rows"
+    );
     Ok(())
 }
 

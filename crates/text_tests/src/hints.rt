@@ -1,4 +1,5 @@
 // Values under their hints: a format string and its arguments as a script spells them, and the text.
+use crate::rows::{self, each_line};
 use crate::shared::{script_of, visible};
 use defmt_grammar::{Base, Hint, Kind, Memory, Param, Piece, Text};
 use defmt_hints::{show_bool, show_bytes, show_char, show_int, show_str, show_uint};
@@ -7,7 +8,6 @@ use defmt_script::Script;
 use defmt_values::{Args, Value, is_signed, size_bits};
 use std::alloc::Global;
 use std::test::Fail;
-use test_rows::each_line;
 
 const NUMBERS: &str = "\
 {=u128} 340282366920938463463374607431768211455 = 340282366920938463463374607431768211455
@@ -114,7 +114,7 @@ fn shown_in(alloc: Global, script: &Script) -> Result<Text, Memory> {
     Ok(out)
 }
 
-fn shown(alloc: Global, input: &str) -> Result<String, Fail> {
+pub fn shown(alloc: Global, input: &str) -> Result<String, Fail> {
     let (format, args) = input.split_once(' ').ok_or("no arguments")?;
     let text = format!(in alloc; "s v defmt_info {format}\nw 0 v {args}")?;
     let script = script_of(alloc, text.as_str())?;
@@ -139,7 +139,7 @@ fn is_filled(alloc: Global, least: u8, front: &str, width: u8) -> Result<bool, M
 }
 
 // At how many widths 5 in binary is filled up, where its least width and its front are told.
-fn filled(alloc: Global, input: &str) -> Result<String, Fail> {
+pub fn filled(alloc: Global, input: &str) -> Result<String, Fail> {
     let (least, front) = input.split_once(' ').unwrap_or((input, ""));
     let least = least.parse::<u8>()?;
     let mut count = 0u16;
@@ -153,13 +153,19 @@ fn filled(alloc: Global, input: &str) -> Result<String, Fail> {
 
 #[test]
 fn numbers_follow_their_hint_in_their_own_width(rt: HostRuntime) -> Result<(), Fail> {
-    assert_eq!(rt; each_line(rt.alloc(), NUMBERS, shown)?.as_str(), "27 rows");
+    assert_eq!(rt;
+        each_line(rt.alloc(), NUMBERS, rows::Kind::HintShown)?.as_str(),
+        "27 rows"
+    );
     Ok(())
 }
 
 #[test]
 fn every_width_is_filled(rt: HostRuntime) -> Result<(), Fail> {
-    assert_eq!(rt; each_line(rt.alloc(), WIDTHS, filled)?.as_str(), "2 rows");
+    assert_eq!(rt;
+        each_line(rt.alloc(), WIDTHS, rows::Kind::Filled)?.as_str(),
+        "2 rows"
+    );
     Ok(())
 }
 
@@ -167,6 +173,9 @@ fn every_width_is_filled(rt: HostRuntime) -> Result<(), Fail> {
 fn texts_are_quoted_for_debugging_alone_and_bytes_a_list_or_a_byte_text(
     rt: HostRuntime,
 ) -> Result<(), Fail> {
-    assert_eq!(rt; each_line(rt.alloc(), TEXTS, shown)?.as_str(), "21 rows");
+    assert_eq!(rt;
+        each_line(rt.alloc(), TEXTS, rows::Kind::HintShown)?.as_str(),
+        "21 rows"
+    );
     Ok(())
 }

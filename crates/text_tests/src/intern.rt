@@ -1,4 +1,5 @@
 // Tables, what their texts stand for, and symbol names.
+use crate::rows::{self, each_block, each_line};
 use crate::shared::{entry_of, pieces_of, put, table_of, visible};
 use defmt_grammar::{Kind, Mode, Param, Piece};
 use defmt_intern::{
@@ -6,7 +7,7 @@ use defmt_intern::{
 };
 use std::alloc::Global;
 use std::test::Fail;
-use test_rows::{bytes_of, each_block, each_line};
+use test_rows::bytes_of;
 
 const ENTRIES: &str = "\
 - defmt_info a*5
@@ -99,7 +100,7 @@ fn text_at(table: &Table, index: u16) -> &str {
 }
 
 // What each entry is answered that is put into one table, and then the table.
-fn answers(alloc: Global, lines: &str) -> Result<String, Fail> {
+pub fn answers(alloc: Global, lines: &str) -> Result<String, Fail> {
     let mut table = Table::new(alloc);
     let mut told = String::new(alloc);
     for line in lines.lines() {
@@ -152,13 +153,13 @@ fn body_text(alloc: Global, parsed: Option<&Parsed>) -> Result<String, Fail> {
     Ok(shape)
 }
 
-fn parsed_text(alloc: Global, line: &str) -> Result<String, Fail> {
+pub fn parsed_text(alloc: Global, line: &str) -> Result<String, Fail> {
     let lines = if line == "none" { "" } else { line };
     let table = table_of(alloc, lines)?;
     body_text(alloc, table.parsed(1))
 }
 
-fn count_of_variants(alloc: Global, line: &str) -> Result<String, Fail> {
+pub fn count_of_variants(alloc: Global, line: &str) -> Result<String, Fail> {
     let table = table_of(alloc, line)?;
     let count = match table.parsed(1) {
         Some(Parsed::Variants(forms)) => forms.as_slice().len(),
@@ -204,7 +205,7 @@ fn copied(alloc: Global, lines: &str) -> Result<String, Fail> {
 }
 
 // The symbol name of an entry of this tag, whose text's bytes are given.
-fn written(alloc: Global, input: &str) -> Result<String, Fail> {
+pub fn written(alloc: Global, input: &str) -> Result<String, Fail> {
     let (tag, digits) = input.split_once(' ').ok_or("no text")?;
     let bytes = bytes_of(alloc, digits)?;
     let entry = entry_of(alloc, tag, str::from_utf8(bytes.as_slice())?)?;
@@ -249,7 +250,7 @@ fn read_text(alloc: Global, name: &[u8]) -> Result<String, Fail> {
 }
 
 // What a name reads as, which stands as it is or as `hex` and the digits of its bytes.
-fn name_text(alloc: Global, input: &str) -> Result<String, Fail> {
+pub fn name_text(alloc: Global, input: &str) -> Result<String, Fail> {
     match input.strip_prefix("hex ") {
         Some(digits) => read_text(alloc, bytes_of(alloc, digits)?.as_slice()),
         None => read_text(alloc, input.as_bytes()),
@@ -261,7 +262,7 @@ fn entries_are_put_behind_the_greatest_index_and_refusals_leave_the_table(
     rt: HostRuntime,
 ) -> Result<(), Fail> {
     assert_eq!(rt;
-        each_block(rt.alloc(), ENTRIES, answers)?.as_str(),
+        each_block(rt.alloc(), ENTRIES, rows::Kind::Answers)?.as_str(),
         "1 rows"
     );
     Ok(())
@@ -270,7 +271,7 @@ fn entries_are_put_behind_the_greatest_index_and_refusals_leave_the_table(
 #[test]
 fn texts_are_parsed_by_their_tags(rt: HostRuntime) -> Result<(), Fail> {
     assert_eq!(rt;
-        each_line(rt.alloc(), PARSED, parsed_text)?.as_str(),
+        each_line(rt.alloc(), PARSED, rows::Kind::ParsedText)?.as_str(),
         "10 rows"
     );
     Ok(())
@@ -279,7 +280,7 @@ fn texts_are_parsed_by_their_tags(rt: HostRuntime) -> Result<(), Fail> {
 #[test]
 fn variants_are_listed_up_to_255(rt: HostRuntime) -> Result<(), Fail> {
     assert_eq!(rt;
-        each_line(rt.alloc(), VARIANTS, count_of_variants)?.as_str(),
+        each_line(rt.alloc(), VARIANTS, rows::Kind::CountOfVariants)?.as_str(),
         "3 rows"
     );
     Ok(())
@@ -299,7 +300,10 @@ fn a_copy_has_the_same_entries_in_order(rt: HostRuntime) -> Result<(), Fail> {
 
 #[test]
 fn names_are_compact_json(rt: HostRuntime) -> Result<(), Fail> {
-    assert_eq!(rt; each_line(rt.alloc(), WRITTEN, written)?.as_str(), "2 rows");
+    assert_eq!(rt;
+        each_line(rt.alloc(), WRITTEN, rows::Kind::Written)?.as_str(),
+        "2 rows"
+    );
     Ok(())
 }
 
@@ -307,6 +311,9 @@ fn names_are_compact_json(rt: HostRuntime) -> Result<(), Fail> {
 fn names_are_read_or_refused_and_the_last_of_equal_keys_counts(
     rt: HostRuntime,
 ) -> Result<(), Fail> {
-    assert_eq!(rt; each_line(rt.alloc(), READ, name_text)?.as_str(), "11 rows");
+    assert_eq!(rt;
+        each_line(rt.alloc(), READ, rows::Kind::NameText)?.as_str(),
+        "11 rows"
+    );
     Ok(())
 }

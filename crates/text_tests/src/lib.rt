@@ -16,6 +16,8 @@ mod hints;
 #[cfg(test)]
 mod intern;
 #[cfg(test)]
+mod rows;
+#[cfg(test)]
 mod shared;
 #[cfg(test)]
 mod values;

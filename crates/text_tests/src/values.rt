@@ -1,11 +1,12 @@
 // What fits a small table, and each cause for which a statement doesn't.
+use crate::rows::{Kind, each_block, each_line};
 use crate::shared::{script_of, table_of, text_of};
 use defmt_intern::Table;
 use defmt_values::{Args, Item, Items, Node, Seq, Statement, Value, check};
 use dl_io::Bytes;
 use std::alloc::Global;
 use std::test::Fail;
-use test_rows::{bytes_of, each_block, each_line};
+use test_rows::bytes_of;
 
 // The strings behind the first one.
 const FURTHER: &str = "\
@@ -173,7 +174,7 @@ fn bare_verdict(alloc: Global, input: &str) -> Result<String, Fail> {
 }
 
 // What is said of a statement of a text, behind which its arguments stand.
-fn verdict_of(alloc: Global, input: &str) -> Result<String, Fail> {
+pub fn verdict_of(alloc: Global, input: &str) -> Result<String, Fail> {
     let Some((text, spelled)) = input.split_once(", ") else {
         return bare_verdict(alloc, input);
     };
@@ -183,7 +184,7 @@ fn verdict_of(alloc: Global, input: &str) -> Result<String, Fail> {
 }
 
 // What is said of a script's first statement, and how many arguments it has.
-fn verdict_in(alloc: Global, text: &str) -> Result<String, Fail> {
+pub fn verdict_in(alloc: Global, text: &str) -> Result<String, Fail> {
     let script = script_of(alloc, text)?;
     let Some(statement) = script.statement(0, 0) else {
         return Ok(String::from_str(alloc, "no statement")?);
@@ -195,7 +196,7 @@ fn verdict_in(alloc: Global, text: &str) -> Result<String, Fail> {
 #[test]
 fn nested_values_fit(rt: HostRuntime) -> Result<(), Fail> {
     assert_eq!(rt;
-        each_block(rt.alloc(), NESTED, verdict_in)?.as_str(),
+        each_block(rt.alloc(), NESTED, Kind::VerdictIn)?.as_str(),
         "1 rows"
     );
     Ok(())
@@ -204,7 +205,7 @@ fn nested_values_fit(rt: HostRuntime) -> Result<(), Fail> {
 #[test]
 fn values_are_tested_by_their_slots(rt: HostRuntime) -> Result<(), Fail> {
     assert_eq!(rt;
-        each_line(rt.alloc(), SLOTS, verdict_of)?.as_str(),
+        each_line(rt.alloc(), SLOTS, Kind::VerdictOf)?.as_str(),
         "20 rows"
     );
     Ok(())
@@ -213,7 +214,7 @@ fn values_are_tested_by_their_slots(rt: HostRuntime) -> Result<(), Fail> {
 #[test]
 fn counts_kinds_and_entries_are_refused_from_left_to_right(rt: HostRuntime) -> Result<(), Fail> {
     assert_eq!(rt;
-        each_line(rt.alloc(), CAUSES, verdict_of)?.as_str(),
+        each_line(rt.alloc(), CAUSES, Kind::VerdictOf)?.as_str(),
         "15 rows"
     );
     Ok(())
@@ -222,7 +223,7 @@ fn counts_kinds_and_entries_are_refused_from_left_to_right(rt: HostRuntime) -> R
 #[test]
 fn levels_weights_and_lists_fit_up_to_their_limits(rt: HostRuntime) -> Result<(), Fail> {
     assert_eq!(rt;
-        each_line(rt.alloc(), LISTS, verdict_of)?.as_str(),
+        each_line(rt.alloc(), LISTS, Kind::VerdictOf)?.as_str(),
         "10 rows"
     );
     Ok(())

@@ -1,9 +1,9 @@
 // Codes: what messages are written as, and what pieces stand for.
+use crate::rows::{Kind, each_line};
 use crate::runs::{bytes_of, words_of};
 use rzcobs_core::{bound, decode, encode};
 use std::alloc::Global;
 use std::test::Fail;
-use test_rows::each_line;
 
 // A message, and its code.
 const CODES: &str = "\
@@ -75,44 +75,50 @@ fn read_piece(alloc: Global, piece: &[u8]) -> Result<String, Fail> {
     }
 }
 
-fn encoded(alloc: Global, words: &str) -> Result<String, Fail> {
+pub fn encoded(alloc: Global, words: &str) -> Result<String, Fail> {
     let message = bytes_of(alloc, words)?;
     let code = code_of(alloc, &message)?;
     words_of(alloc, &code)
 }
 
-fn decoded(alloc: Global, words: &str) -> Result<String, Fail> {
+pub fn decoded(alloc: Global, words: &str) -> Result<String, Fail> {
     let piece = bytes_of(alloc, words)?;
     read_piece(alloc, &piece)
 }
 
-fn back_again(alloc: Global, words: &str) -> Result<String, Fail> {
+pub fn back_again(alloc: Global, words: &str) -> Result<String, Fail> {
     let message = bytes_of(alloc, words)?;
     let code = code_of(alloc, &message)?;
     read_piece(alloc, &code)
 }
 
-fn bound_of(alloc: Global, count: &str) -> Result<String, Fail> {
+pub fn bound_of(alloc: Global, count: &str) -> Result<String, Fail> {
     let count = count.parse::<u16>()?;
     Ok(format!(in alloc; "{}", bound(usize::from(count)))?)
 }
 
 #[test]
 fn messages_have_their_codes(rt: HostRuntime) -> Result<(), Fail> {
-    assert_eq!(rt; each_line(rt.alloc(), CODES, encoded)?.as_str(), "8 rows");
+    assert_eq!(rt;
+        each_line(rt.alloc(), CODES, Kind::Encoded)?.as_str(),
+        "8 rows"
+    );
     Ok(())
 }
 
 #[test]
 fn pieces_stand_for_bytes_or_are_malformed(rt: HostRuntime) -> Result<(), Fail> {
-    assert_eq!(rt; each_line(rt.alloc(), PIECES, decoded)?.as_str(), "15 rows");
+    assert_eq!(rt;
+        each_line(rt.alloc(), PIECES, Kind::Decoded)?.as_str(),
+        "15 rows"
+    );
     Ok(())
 }
 
 #[test]
 fn messages_come_back_at_each_edge(rt: HostRuntime) -> Result<(), Fail> {
     assert_eq!(rt;
-        each_line(rt.alloc(), EDGES, back_again)?.as_str(),
+        each_line(rt.alloc(), EDGES, Kind::BackAgain)?.as_str(),
         "6 rows"
     );
     Ok(())
@@ -120,7 +126,10 @@ fn messages_come_back_at_each_edge(rt: HostRuntime) -> Result<(), Fail> {
 
 #[test]
 fn the_bound_is_a_seventh_more(rt: HostRuntime) -> Result<(), Fail> {
-    assert_eq!(rt; each_line(rt.alloc(), BOUNDS, bound_of)?.as_str(), "5 rows");
+    assert_eq!(rt;
+        each_line(rt.alloc(), BOUNDS, Kind::BoundOf)?.as_str(),
+        "5 rows"
+    );
     Ok(())
 }
 

@@ -1,4 +1,5 @@
 // The events of streams: lines, faults, and fronts and tails that are cut off.
+use crate::rows::{Kind, each_block, each_line};
 use crate::runs::bytes_of;
 use crate::strings::{push_answer, script_of, table_of};
 use defmt_decode::{Event, Events, Host};
@@ -7,7 +8,6 @@ use defmt_intern::Table;
 use std::alloc::Global;
 use std::fmt::Write;
 use std::test::Fail;
-use test_rows::{each_block, each_line};
 
 const HELLO: &str = "s hello defmt_info hello";
 
@@ -176,13 +176,13 @@ fn told_by_hello(alloc: Global, bytes: &[u8]) -> Result<String, Fail> {
     told(alloc, table_by_script(alloc, HELLO)?, bytes)
 }
 
-fn told_of_words(alloc: Global, words: &str) -> Result<String, Fail> {
+pub fn told_of_words(alloc: Global, words: &str) -> Result<String, Fail> {
     let bytes = bytes_of(alloc, words)?;
     told_by_hello(alloc, &bytes)
 }
 
 // What two frames tell that are cut at a place.
-fn told_of_both(alloc: Global, place: &str) -> Result<String, Fail> {
+pub fn told_of_both(alloc: Global, place: &str) -> Result<String, Fail> {
     let place = place.parse::<usize>()?;
     let stream = [0u8, 1, 0x7e, 0, 0, 1, 0x7e, 0];
     if place > stream.len() {
@@ -204,7 +204,7 @@ fn told_of_each(alloc: Global, table: &Table, rows: &str) -> Result<String, Fail
     Ok(answers)
 }
 
-fn told_by_script(alloc: Global, block: &str) -> Result<String, Fail> {
+pub fn told_by_script(alloc: Global, block: &str) -> Result<String, Fail> {
     let Some((strings, rows)) = block.split_once("\nhear ") else {
         return Err("no stream".into());
     };
@@ -212,7 +212,7 @@ fn told_by_script(alloc: Global, block: &str) -> Result<String, Fail> {
     told_of_each(alloc, &table, rows)
 }
 
-fn told_by_table(alloc: Global, block: &str) -> Result<String, Fail> {
+pub fn told_by_table(alloc: Global, block: &str) -> Result<String, Fail> {
     let Some((strings, rows)) = block.split_once("\nhear ") else {
         return Err("no stream".into());
     };
@@ -235,7 +235,7 @@ fn push_call(host: &mut Host, bytes: &[u8], text: &mut String) -> Result<(), Fai
     Ok(())
 }
 
-fn calls_of(alloc: Global, stream: &str) -> Result<String, Fail> {
+pub fn calls_of(alloc: Global, stream: &str) -> Result<String, Fail> {
     let mut host = Host::new(alloc, table_by_script(alloc, HELLO)?)?;
     let mut text = String::new(alloc);
     for words in stream.split(" | ") {
@@ -250,7 +250,7 @@ fn calls_of(alloc: Global, stream: &str) -> Result<String, Fail> {
 #[test]
 fn parts_and_faults_are_told_in_their_order(rt: HostRuntime) -> Result<(), Fail> {
     assert_eq!(rt;
-        each_line(rt.alloc(), STREAMS, told_of_words)?.as_str(),
+        each_line(rt.alloc(), STREAMS, Kind::ToldOfWords)?.as_str(),
         "10 rows"
     );
     Ok(())
@@ -261,7 +261,7 @@ fn a_stream_cut_at_any_place_loses_the_frame_that_the_cut_falls_in(
     rt: HostRuntime,
 ) -> Result<(), Fail> {
     assert_eq!(rt;
-        each_line(rt.alloc(), CUTS, told_of_both)?.as_str(),
+        each_line(rt.alloc(), CUTS, Kind::ToldOfBoth)?.as_str(),
         "9 rows"
     );
     Ok(())
@@ -269,20 +269,23 @@ fn a_stream_cut_at_any_place_loses_the_frame_that_the_cut_falls_in(
 
 #[test]
 fn a_call_takes_bytes_up_to_and_with_the_zero(rt: HostRuntime) -> Result<(), Fail> {
-    assert_eq!(rt; each_line(rt.alloc(), CALLS, calls_of)?.as_str(), "1 rows");
+    assert_eq!(rt;
+        each_line(rt.alloc(), CALLS, Kind::EventCallsOf)?.as_str(),
+        "1 rows"
+    );
     Ok(())
 }
 
 #[test]
 fn strings_of_scripts_have_lines_and_faults(rt: HostRuntime) -> Result<(), Fail> {
-    let told = each_block(rt.alloc(), BY_SCRIPTS, told_by_script)?;
+    let told = each_block(rt.alloc(), BY_SCRIPTS, Kind::ToldByScript)?;
     assert_eq!(rt; told.as_str(), "8 rows");
     Ok(())
 }
 
 #[test]
 fn strings_that_no_script_has_are_faults(rt: HostRuntime) -> Result<(), Fail> {
-    let told = each_block(rt.alloc(), BY_TABLES, told_by_table)?;
+    let told = each_block(rt.alloc(), BY_TABLES, Kind::ToldByTable)?;
     assert_eq!(rt; told.as_str(), "2 rows");
     Ok(())
 }

@@ -10,6 +10,8 @@ mod messages;
 #[cfg(test)]
 mod parts;
 #[cfg(test)]
+mod rows;
+#[cfg(test)]
 mod runs;
 #[cfg(test)]
 mod strings;

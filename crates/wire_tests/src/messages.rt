@@ -1,4 +1,5 @@
 // Messages and frames of the statements of scripts, what messages are read as, and each cause for which bytes are none.
+use crate::rows::{Kind, each_block, each_line};
 use crate::runs::{bytes_of, words_of};
 use crate::strings::{push_answer, script_of, table_of};
 use defmt_encode::{Heard, ReadCause, frame, is_long, message, read_message};
@@ -9,7 +10,6 @@ use defmt_values::{Args, Statement, Value};
 use std::alloc::Global;
 use std::fmt::Write;
 use std::test::Fail;
-use test_rows::{each_block, each_line};
 
 // A script with a statement; its message, its frame, and the index, the arguments and the stamp that are read from the message where they give it again.
 const SENT: &str = r#"s hello defmt_info hello
@@ -230,7 +230,7 @@ fn read_each(alloc: Global, names: &Names, table: &Table, rows: &str) -> Result<
     Ok(answers)
 }
 
-fn read_by_script(alloc: Global, block: &str) -> Result<String, Fail> {
+pub fn read_by_script(alloc: Global, block: &str) -> Result<String, Fail> {
     let Some((strings, rows)) = block.split_once("\nread ") else {
         return Err("no message".into());
     };
@@ -238,7 +238,7 @@ fn read_by_script(alloc: Global, block: &str) -> Result<String, Fail> {
     read_each(alloc, script.names(), script.table(), rows)
 }
 
-fn read_by_table(alloc: Global, block: &str) -> Result<String, Fail> {
+pub fn read_by_table(alloc: Global, block: &str) -> Result<String, Fail> {
     let Some((strings, rows)) = block.split_once("\nread ") else {
         return Err("no message".into());
     };
@@ -300,7 +300,7 @@ fn carried(alloc: Global, script: &Script, message: &[u8]) -> Result<String, Fai
     Ok(answers)
 }
 
-fn sent(alloc: Global, text: &str) -> Result<String, Fail> {
+pub fn sent(alloc: Global, text: &str) -> Result<String, Fail> {
     let script = script_of(alloc, text)?;
     let message = message_by_script(alloc, &script)?;
     carried(alloc, &script, &message)
@@ -338,7 +338,7 @@ fn written(alloc: Global, table: &Table, stm: &Statement) -> Result<String, Fail
     Ok(text)
 }
 
-fn written_of_letters(alloc: Global, count: &str) -> Result<String, Fail> {
+pub fn written_of_letters(alloc: Global, count: &str) -> Result<String, Fail> {
     let script = script_of(alloc, "s say defmt_info {=str}")?;
     let stm = statement_of(alloc, &script, count)?;
     written(alloc, script.table(), &stm)
@@ -346,14 +346,17 @@ fn written_of_letters(alloc: Global, count: &str) -> Result<String, Fail> {
 
 #[test]
 fn statements_have_messages_and_frames_and_are_read_again(rt: HostRuntime) -> Result<(), Fail> {
-    assert_eq!(rt; each_block(rt.alloc(), SENT, sent)?.as_str(), "7 rows");
+    assert_eq!(rt;
+        each_block(rt.alloc(), SENT, Kind::Sent)?.as_str(),
+        "7 rows"
+    );
     Ok(())
 }
 
 #[test]
 fn messages_are_read_or_refused_with_their_causes(rt: HostRuntime) -> Result<(), Fail> {
     assert_eq!(rt;
-        each_block(rt.alloc(), READ, read_by_script)?.as_str(),
+        each_block(rt.alloc(), READ, Kind::ReadByScript)?.as_str(),
         "8 rows"
     );
     Ok(())
@@ -361,14 +364,14 @@ fn messages_are_read_or_refused_with_their_causes(rt: HostRuntime) -> Result<(),
 
 #[test]
 fn strings_that_no_script_has_are_refused(rt: HostRuntime) -> Result<(), Fail> {
-    let told = each_block(rt.alloc(), READ_BY_TABLES, read_by_table)?;
+    let told = each_block(rt.alloc(), READ_BY_TABLES, Kind::ReadByTable)?;
     assert_eq!(rt; told.as_str(), "2 rows");
     Ok(())
 }
 
 #[test]
 fn more_than_2000_bytes_are_long(rt: HostRuntime) -> Result<(), Fail> {
-    let told = each_line(rt.alloc(), LONG, written_of_letters)?;
+    let told = each_line(rt.alloc(), LONG, Kind::WrittenOfLetters)?;
     assert_eq!(rt; told.as_str(), "2 rows");
     Ok(())
 }

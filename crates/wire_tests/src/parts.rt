@@ -2,13 +2,13 @@
 ghost use Rattle.std.specs.Prelude.{length};
 ghost use Rattle.wire_tests.specs.declared.parts.Part.TheVariants.{Front, Piece, Long, Tail};
 
+use crate::rows::{Kind, each_line};
 use crate::runs::{bytes_of, words_of};
 use defmt_framing::{Framer, Teller, decode_piece};
 use dl_io::Memory;
 use std::alloc::Global;
 use std::fmt::Write;
 use std::test::Fail;
-use test_rows::each_line;
 
 // A part, with how many bytes it has.
 #[derive(Clone, Copy)]
@@ -117,7 +117,7 @@ fn told_in_two(alloc: Global, first: &[u8], second: &[u8]) -> Result<String, Fai
     Ok(told)
 }
 
-fn parts_of(alloc: Global, stream: &str) -> Result<String, Fail> {
+pub fn parts_of(alloc: Global, stream: &str) -> Result<String, Fail> {
     let (first, second) = stream.split_once(" | ").unwrap_or((stream, "nothing"));
     let first = bytes_of(alloc, first)?;
     let second = bytes_of(alloc, second)?;
@@ -146,7 +146,7 @@ fn push_call(framer: &mut Framer, bytes: &[u8], told: &mut String) -> Result<(),
     Ok(())
 }
 
-fn calls_of(alloc: Global, stream: &str) -> Result<String, Fail> {
+pub fn calls_of(alloc: Global, stream: &str) -> Result<String, Fail> {
     let mut framer = Framer::new(alloc);
     let mut told = String::new(alloc);
     for words in stream.split(" | ") {
@@ -158,7 +158,7 @@ fn calls_of(alloc: Global, stream: &str) -> Result<String, Fail> {
     Ok(told)
 }
 
-fn piece_of(alloc: Global, words: &str) -> Result<String, Fail> {
+pub fn piece_of(alloc: Global, words: &str) -> Result<String, Fail> {
     let piece = bytes_of(alloc, words)?;
     if piece.len() > 2 {
         return Err("long".into());
@@ -174,7 +174,7 @@ fn piece_of(alloc: Global, words: &str) -> Result<String, Fail> {
 #[test]
 fn each_part_is_told_in_its_place(rt: HostRuntime) -> Result<(), Fail> {
     assert_eq!(rt;
-        each_line(rt.alloc(), STREAMS, parts_of)?.as_str(),
+        each_line(rt.alloc(), STREAMS, Kind::PartsOf)?.as_str(),
         "7 rows"
     );
     Ok(())
@@ -189,12 +189,18 @@ fn every_cut_in_two_tells_the_same(rt: HostRuntime) -> Result<(), Fail> {
 
 #[test]
 fn a_call_takes_bytes_up_to_and_with_the_zero(rt: HostRuntime) -> Result<(), Fail> {
-    assert_eq!(rt; each_line(rt.alloc(), CALLS, calls_of)?.as_str(), "1 rows");
+    assert_eq!(rt;
+        each_line(rt.alloc(), CALLS, Kind::PartCallsOf)?.as_str(),
+        "1 rows"
+    );
     Ok(())
 }
 
 #[test]
 fn a_piece_gives_back_its_message(rt: HostRuntime) -> Result<(), Fail> {
-    assert_eq!(rt; each_line(rt.alloc(), PIECES, piece_of)?.as_str(), "2 rows");
+    assert_eq!(rt;
+        each_line(rt.alloc(), PIECES, Kind::PieceOf)?.as_str(),
+        "2 rows"
+    );
     Ok(())
 }
