@@ -191,7 +191,7 @@ pub fn pieces_text(alloc: Global, text: &str) -> Result<String, Fail> {
 }
 
 pub fn slots_text(alloc: Global, text: &str) -> Result<String, Fail> {
-    let pieces = pieces_of(alloc, text, Mode::Strict)?;
+    let pieces = pieces_of(alloc, text, Mode::Strict)?.copy(alloc)?;
     let mut list = String::new(alloc);
     for slot in pieces.slots() {
         let part = format!(in alloc; "{slot:?}")?;
