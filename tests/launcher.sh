@@ -111,6 +111,8 @@ all_crates='defmt_cli defmt_run left low right top '
 
 # until_true WORD..: waits until a command succeeds, at most ten seconds
 until_true() { for ((turn = 0; turn < 200; turn++)); do "$@" > /dev/null 2>&1 && return; sleep 0.05; done; return 1; }
+# What a launcher leaves to the shell that stands by is removed a moment after it has ended.
+is_tidy() { [ -z "$(strays)" ]; }
 has_begun() { [ "$(wc -l < "$kit/sleeps")" -ge "$1" ]; }
 is_gone() { ! kill -0 "$1" 2> /dev/null; }
 touch "$work/began"
@@ -128,6 +130,7 @@ has 'how long it will take' "$said" 'About '
 has 'how long the first build takes' "$said" 'about 20 minutes on four processors, 40 on two'
 is 'the crates side by side get all processors' "$(sed -n 1p "$kit/calls" | grep -c "^defmt_cli all check --jobs [1-9]")" 1
 is 'so does each of the chain' "$(grep -c '^top lib --jobs [1-9]\|^defmt_run lib --jobs [1-9]\|^defmt_cli run --jobs [1-9]' "$kit/calls")" 3
+until_true is_tidy
 is 'no file is left behind' "$(strays)" ''
 : > "$kit/calls"
 call run < <(echo hello)
@@ -202,6 +205,7 @@ stopped() {
     call run < <(echo hello)
     is "$1: the next call ends with the program" "$status $wrote" '0 hello'
     is "$1: it goes on where the other stopped" "$(proofs)" "$all_crates"
+    until_true is_tidy
     is "$1: then no file is left behind" "$(strays)" ''
 }
 stopped 'a build that is ended' TERM 143
@@ -303,6 +307,7 @@ is 'an unproved call' "$status $wrote" $'0 words\na\nb  c'
 has 'an unproved call says so' "$said" 'running with no proof: nothing that follows is proved'
 has 'the unproved program' "$said" 'unproved one'
 is 'an unproved call proves nothing' "$(proofs)" ''
+until_true is_tidy
 is 'an unproved call leaves no file behind' "$(strays)" ''
 : > "$kit/calls"
 call run < /dev/null
