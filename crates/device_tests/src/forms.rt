@@ -13,6 +13,7 @@ ghost use Rattle.defmt_values.specs.View.{plain};
 ghost use Rattle.defmt_macros.specs.Sites.{IsSite};
 ghost use Rattle.defmt_macros.specs.Stamps.{StampSuits};
 
+use crate::rows::{self, each_line};
 use crate::scripts::script_of;
 use defmt_grammar::{IntSize, Kind, Slot};
 use defmt_intern::{Table, Tag};
@@ -21,7 +22,7 @@ use defmt_script::Script;
 use defmt_values::Value;
 use std::alloc::Global;
 use std::test::Fail;
-use test_rows::{bytes_of, digits_of, each_line};
+use test_rows::{bytes_of, digits_of};
 
 // A number and a truth value.
 const TRACES: &str = "\
@@ -192,7 +193,7 @@ fn words_of(row: &str) -> Result<(&str, &str), Fail> {
     }
 }
 
-fn trace_of(alloc: Global, row: &str) -> Result<String, Fail> {
+pub fn trace_of(alloc: Global, row: &str) -> Result<String, Fail> {
     let (a, b) = words_of(row)?;
     let a = u8::from_str_radix(a, 10)?;
     let script = script_of(alloc, "s v defmt_trace {=u8} {=bool}")?;
@@ -206,7 +207,7 @@ fn trace_of(alloc: Global, row: &str) -> Result<String, Fail> {
     front_of(alloc, &buf, count)
 }
 
-fn debug_of(alloc: Global, row: &str) -> Result<String, Fail> {
+pub fn debug_of(alloc: Global, row: &str) -> Result<String, Fail> {
     let (a, b) = words_of(row)?;
     let a = i128::from_str_radix(a, 10)?;
     let bytes = bytes_of(alloc, b)?;
@@ -224,7 +225,7 @@ fn debug_of(alloc: Global, row: &str) -> Result<String, Fail> {
     front_of(alloc, &buf, count)
 }
 
-fn info_of(alloc: Global, row: &str) -> Result<String, Fail> {
+pub fn info_of(alloc: Global, row: &str) -> Result<String, Fail> {
     let (a, b) = words_of(row)?;
     let Some(b) = char::from_u32(u32::from_str_radix(b, 10)?) else {
         return Err(Fail::new("no character"));
@@ -243,7 +244,7 @@ fn info_of(alloc: Global, row: &str) -> Result<String, Fail> {
     front_of(alloc, &buf, count)
 }
 
-fn warn_of(alloc: Global, row: &str) -> Result<String, Fail> {
+pub fn warn_of(alloc: Global, row: &str) -> Result<String, Fail> {
     let (a, b) = words_of(row)?;
     let a = u128::from_str_radix(a, 10)?;
     let b = u32::from_str_radix(b, 10)?;
@@ -263,24 +264,36 @@ fn warn_of(alloc: Global, row: &str) -> Result<String, Fail> {
 
 #[test]
 fn trace_puts_its_arguments(rt: HostRuntime) -> Result<(), Fail> {
-    assert_eq!(rt; each_line(rt.alloc(), TRACES, trace_of)?.as_str(), "2 rows");
+    assert_eq!(rt;
+        each_line(&rt, rt.alloc(), TRACES, rows::Kind::TraceOf)?.as_str(),
+        "2 rows"
+    );
     Ok(())
 }
 
 #[test]
 fn debug_puts_its_arguments(rt: HostRuntime) -> Result<(), Fail> {
-    assert_eq!(rt; each_line(rt.alloc(), DEBUGS, debug_of)?.as_str(), "1 rows");
+    assert_eq!(rt;
+        each_line(&rt, rt.alloc(), DEBUGS, rows::Kind::DebugOf)?.as_str(),
+        "1 rows"
+    );
     Ok(())
 }
 
 #[test]
 fn info_puts_its_arguments(rt: HostRuntime) -> Result<(), Fail> {
-    assert_eq!(rt; each_line(rt.alloc(), INFOS, info_of)?.as_str(), "1 rows");
+    assert_eq!(rt;
+        each_line(&rt, rt.alloc(), INFOS, rows::Kind::InfoOf)?.as_str(),
+        "1 rows"
+    );
     Ok(())
 }
 
 #[test]
 fn warn_puts_its_arguments(rt: HostRuntime) -> Result<(), Fail> {
-    assert_eq!(rt; each_line(rt.alloc(), WARNS, warn_of)?.as_str(), "1 rows");
+    assert_eq!(rt;
+        each_line(&rt, rt.alloc(), WARNS, rows::Kind::WarnOf)?.as_str(),
+        "1 rows"
+    );
     Ok(())
 }

@@ -2,10 +2,10 @@
 ghost use Rattle.std.specs.Prelude.{◌≡◌, ◌≤◌, ◌+◌, ◌*◌};
 ghost use Rattle.defmt_hooks.specs.Even.{RunsEvenly};
 
+use crate::rows::{Kind, each_line};
 use defmt_hooks::{Clock, Stamp};
 use std::alloc::Global;
 use std::test::Fail;
-use test_rows::each_line;
 
 const MOST: u64 = 281_474_976_710_656;
 
@@ -36,7 +36,7 @@ fn answers_of(base: u64, step: u64, t: u32) -> (u64, u64)
     (stamp.at(t), tick_of(&stamp, t))
 }
 
-fn stamps_of(alloc: Global, row: &str) -> Result<String, Fail> {
+pub fn stamps_of(alloc: Global, row: &str) -> Result<String, Fail> {
     let Some((base, rest)) = row.split_once(' ') else {
         return Err(Fail::new("no step"));
     };
@@ -56,7 +56,7 @@ fn stamps_of(alloc: Global, row: &str) -> Result<String, Fail> {
 #[test]
 fn stamps_are_evenly_apart(rt: HostRuntime) -> Result<(), Fail> {
     assert_eq!(rt;
-        each_line(rt.alloc(), STAMPS, stamps_of)?.as_str(),
+        each_line(&rt, rt.alloc(), STAMPS, Kind::StampsOf)?.as_str(),
         "4 rows"
     );
     Ok(())

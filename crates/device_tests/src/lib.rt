@@ -10,6 +10,8 @@ mod logger;
 #[cfg(test)]
 mod macros;
 #[cfg(test)]
+mod rows;
+#[cfg(test)]
 mod scripts;
 #[cfg(test)]
 mod sites;

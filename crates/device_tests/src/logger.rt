@@ -7,6 +7,7 @@ ghost use Rattle.defmt_logger.specs.Kept.{IsClockOf};
 ghost use Rattle.rtt_ring.specs.PlainView.{up_of};
 ghost use Rattle.rtt_ring.specs.Views.{new_up};
 
+use crate::rows::{self, each_block};
 use crate::scripts::{bytes_text, clock_of, marks_text, script_of};
 use defmt_grammar::{IntSize, Kind, Slot};
 use defmt_hooks::Clock;
@@ -22,7 +23,6 @@ use std::marker::Brand;
 use std::sync::Wait;
 use std::sync::ledger::{Blank, Ledger};
 use std::test::Fail;
-use test_rows::each_block;
 
 // A script: what came of it where the writer 1 logs a statement, then the writer 0 three, as far as they have them.
 const LOGGED: &str = "\
@@ -199,13 +199,13 @@ fn told(alloc: Global, tape: &Tape, sent: &Bytes) -> Result<String, Fail> {
     Ok(format!(in alloc; "{marks}{count} marks, room for {spare}\nsent {sent}")?)
 }
 
-fn logged<W: Wait>(rt: &W, alloc: Global, text: &str) -> Result<String, Fail> {
+pub fn logged<W: Wait>(rt: &W, alloc: Global, text: &str) -> Result<String, Fail> {
     let script = script_of(alloc, text)?;
     let (tape, sent) = log_script(rt, alloc, script, None)?;
     told(alloc, &tape, &sent)
 }
 
-fn logged_and_dropped<W: Wait>(rt: &W, alloc: Global, text: &str) -> Result<String, Fail> {
+pub fn logged_and_dropped<W: Wait>(rt: &W, alloc: Global, text: &str) -> Result<String, Fail> {
     let script = script_of(alloc, text)?;
     let table = script.table().copy()?;
     let (tape, sent) = log_script(rt, alloc, script, Some(&table))?;
@@ -214,18 +214,14 @@ fn logged_and_dropped<W: Wait>(rt: &W, alloc: Global, text: &str) -> Result<Stri
 
 #[test]
 fn pens_log_what_fits_and_report_what_does_not(rt: HostRuntime) -> Result<(), Fail> {
-    let answer = each_block(rt.alloc(), LOGGED, |alloc, text| logged(&rt, alloc, text))?;
+    let answer = each_block(&rt, rt.alloc(), LOGGED, rows::Kind::Logged)?;
     assert_eq!(rt; answer.as_str(), "1 rows");
     Ok(())
 }
 
 #[test]
 fn a_frame_that_is_dropped_leaves_ring_and_tape(rt: HostRuntime) -> Result<(), Fail> {
-    let answer = each_block(
-        rt.alloc(),
-        DROPPED,
-        |alloc, text| logged_and_dropped(&rt, alloc, text),
-    )?;
+    let answer = each_block(&rt, rt.alloc(), DROPPED, rows::Kind::LoggedAndDropped)?;
     assert_eq!(rt; answer.as_str(), "1 rows");
     Ok(())
 }

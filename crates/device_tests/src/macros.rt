@@ -1,6 +1,7 @@
 // The messages that the macros put.
 ghost use Rattle.defmt_macros.specs.Sites.{IsSite};
 
+use crate::rows::{Kind, each_block};
 use crate::scripts::script_of;
 use defmt_encode::message;
 use defmt_intern::Table;
@@ -9,7 +10,7 @@ use defmt_script::Script;
 use defmt_values::{Statement, check, own_form};
 use std::alloc::Global;
 use std::test::Fail;
-use test_rows::{digits_of, each_block};
+use test_rows::digits_of;
 
 // A script: the message of its statement, with the script's first stamp, by the macro of the string's tag with all arguments.
 const MESSAGES: &str = "\
@@ -91,7 +92,7 @@ fn first_stamp(script: &Script) -> Option<u64> {
     }
 }
 
-fn message_of(alloc: Global, text: &str) -> Result<String, Fail> {
+pub fn message_of(alloc: Global, text: &str) -> Result<String, Fail> {
     let script = script_of(alloc, text)?;
     let Some(statement) = script.statement(0, 0) else {
         return Err(Fail::new("no statement"));
@@ -111,7 +112,7 @@ fn message_of(alloc: Global, text: &str) -> Result<String, Fail> {
 #[test]
 fn each_tag_has_its_macro(rt: HostRuntime) -> Result<(), Fail> {
     assert_eq!(rt;
-        each_block(rt.alloc(), MESSAGES, message_of)?.as_str(),
+        each_block(&rt, rt.alloc(), MESSAGES, Kind::MessageOf)?.as_str(),
         "8 rows"
     );
     Ok(())

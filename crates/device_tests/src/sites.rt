@@ -1,10 +1,10 @@
 // Sites that are made and refused, and lists of slots.
+use crate::rows::{Kind, each_line};
 use defmt_grammar::{Mode, Pieces, Slot, Text, parse};
 use defmt_intern::{Entry, Table, Tag};
 use defmt_macros::{Site, SiteFault, Slots};
 use std::alloc::Global;
 use std::test::Fail;
-use test_rows::each_line;
 
 // The entries 1, 2 and 3.
 const TABLE: &str = "\
@@ -82,7 +82,7 @@ fn made_text(alloc: Global, made: &Result<Site, SiteFault>) -> Result<String, Fa
     }
 }
 
-fn site_of(alloc: Global, row: &str) -> Result<String, Fail> {
+pub fn site_of(alloc: Global, row: &str) -> Result<String, Fail> {
     let Some((index, text)) = row.split_once(' ') else {
         return Err(Fail::new("no text"));
     };
@@ -93,7 +93,7 @@ fn site_of(alloc: Global, row: &str) -> Result<String, Fail> {
     made_text(alloc, &made)
 }
 
-fn list_of(alloc: Global, text: &str) -> Result<String, Fail> {
+pub fn list_of(alloc: Global, text: &str) -> Result<String, Fail> {
     let pieces = pieces_of(alloc, text)?;
     let mut slots = Slots::new(alloc);
     for slot in pieces.slots() {
@@ -104,12 +104,18 @@ fn list_of(alloc: Global, text: &str) -> Result<String, Fail> {
 
 #[test]
 fn sites_are_checked_against_the_table(rt: HostRuntime) -> Result<(), Fail> {
-    assert_eq!(rt; each_line(rt.alloc(), SITES, site_of)?.as_str(), "6 rows");
+    assert_eq!(rt;
+        each_line(&rt, rt.alloc(), SITES, Kind::SiteOf)?.as_str(),
+        "6 rows"
+    );
     Ok(())
 }
 
 #[test]
 fn slots_are_kept_in_their_order(rt: HostRuntime) -> Result<(), Fail> {
-    assert_eq!(rt; each_line(rt.alloc(), LISTS, list_of)?.as_str(), "1 rows");
+    assert_eq!(rt;
+        each_line(&rt, rt.alloc(), LISTS, Kind::ListOf)?.as_str(),
+        "1 rows"
+    );
     Ok(())
 }

@@ -3,6 +3,7 @@ ghost use Rattle.std.specs.Prelude.{◌≡◌};
 ghost use Rattle.defmt_logger.specs.Kept.{IsClockOf, TellsIn};
 ghost use Rattle.rtt_ring.specs.Views.{new_down, new_up};
 
+use crate::rows::{Kind, each_block};
 use crate::scripts::{bytes_text, clock_of, marks_text, script_of};
 use defmt_hooks::Clock;
 use defmt_logger::{Eight, Logger, Naming};
@@ -18,7 +19,6 @@ use std::sync::ledger::{Blank, Ledger};
 use std::test::Fail;
 use std::thread;
 use std::thread::Threads;
-use test_rows::each_block;
 
 // A script of the writers 0 and 1 with a statement each: what came of it where they wait for each other.
 const MEETINGS: &str = "\
@@ -235,7 +235,7 @@ fn told_with_marks(alloc: Global, run: &Run) -> Result<String, Fail> {
     Ok(text)
 }
 
-fn meet<R: Threads + Wait + Sync>(rt: &R, alloc: Global, text: &str) -> Result<String, Fail> {
+pub fn meet<R: Threads + Wait + Sync>(rt: &R, alloc: Global, text: &str) -> Result<String, Fail> {
     let gate = Meeting {
         asked: AtomicU64::new(0),
         met: AtomicU64::new(0),
@@ -246,12 +246,16 @@ fn meet<R: Threads + Wait + Sync>(rt: &R, alloc: Global, text: &str) -> Result<S
     Ok(format!(in alloc; "{met} met\n{rest}")?)
 }
 
-fn queue<R: Threads + Wait + Sync>(rt: &R, alloc: Global, text: &str) -> Result<String, Fail> {
+pub fn queue<R: Threads + Wait + Sync>(rt: &R, alloc: Global, text: &str) -> Result<String, Fail> {
     let run = run_queue(rt, alloc, text)?;
     told(alloc, &run)
 }
 
-fn in_time<R: Threads + Wait + Sync>(rt: &R, alloc: Global, text: &str) -> Result<String, Fail> {
+pub fn in_time<R: Threads + Wait + Sync>(
+    rt: &R,
+    alloc: Global,
+    text: &str,
+) -> Result<String, Fail> {
     let gate = Twelve {
         taken: AtomicU64::new(0),
         reached: AtomicU64::new(0),
@@ -263,7 +267,7 @@ fn in_time<R: Threads + Wait + Sync>(rt: &R, alloc: Global, text: &str) -> Resul
     Ok(format!(in alloc; "{reached} reached, {looks} looks\n{rest}")?)
 }
 
-fn openly<R: Threads + Wait + Sync>(rt: &R, alloc: Global, text: &str) -> Result<String, Fail> {
+pub fn openly<R: Threads + Wait + Sync>(rt: &R, alloc: Global, text: &str) -> Result<String, Fail> {
     let run = run_words(rt, alloc, text, &OpenGate)?;
     told_with_marks(alloc, &run)
 }
@@ -360,7 +364,7 @@ fn run_alone<W: Wait>(rt: &W, alloc: Global, script: Script) -> Result<Bytes, Fa
     )
 }
 
-fn alone<W: Wait>(rt: &W, alloc: Global, text: &str) -> Result<String, Fail> {
+pub fn alone<W: Wait>(rt: &W, alloc: Global, text: &str) -> Result<String, Fail> {
     let script = script_of(alloc, text)?;
     let sent = run_alone(rt, alloc, script)?;
     let bytes = sent.as_slice();
@@ -375,35 +379,35 @@ fn alone<W: Wait>(rt: &W, alloc: Global, text: &str) -> Result<String, Fail> {
 
 #[test]
 fn two_writers_wait_for_each_other_in_each_mode(rt: HostRuntime) -> Result<(), Fail> {
-    let answer = each_block(rt.alloc(), MEETINGS, |alloc, text| meet(&rt, alloc, text))?;
+    let answer = each_block(&rt, rt.alloc(), MEETINGS, Kind::Meet)?;
     assert_eq!(rt; answer.as_str(), "3 rows");
     Ok(())
 }
 
 #[test]
 fn a_reader_takes_while_two_writers_wait_for_room(rt: HostRuntime) -> Result<(), Fail> {
-    let answer = each_block(rt.alloc(), QUEUED, |alloc, text| queue(&rt, alloc, text))?;
+    let answer = each_block(&rt, rt.alloc(), QUEUED, Kind::Queue)?;
     assert_eq!(rt; answer.as_str(), "1 rows");
     Ok(())
 }
 
 #[test]
 fn nothing_is_dropped_beside_a_reader_that_takes_in_time(rt: HostRuntime) -> Result<(), Fail> {
-    let answer = each_block(rt.alloc(), IN_TIME, |alloc, text| in_time(&rt, alloc, text))?;
+    let answer = each_block(&rt, rt.alloc(), IN_TIME, Kind::InTime)?;
     assert_eq!(rt; answer.as_str(), "1 rows");
     Ok(())
 }
 
 #[test]
 fn beside_a_late_reader_frames_are_dropped_or_cut(rt: HostRuntime) -> Result<(), Fail> {
-    let answer = each_block(rt.alloc(), LATE, |alloc, text| openly(&rt, alloc, text))?;
+    let answer = each_block(&rt, rt.alloc(), LATE, Kind::Openly)?;
     assert_eq!(rt; answer.as_str(), "2 rows");
     Ok(())
 }
 
 #[test]
 fn a_script_without_lines_sends_nothing(rt: HostRuntime) -> Result<(), Fail> {
-    let answer = each_block(rt.alloc(), EMPTY, |alloc, text| openly(&rt, alloc, text))?;
+    let answer = each_block(&rt, rt.alloc(), EMPTY, Kind::Openly)?;
     assert_eq!(rt; answer.as_str(), "1 rows");
     Ok(())
 }
@@ -412,7 +416,7 @@ fn a_script_without_lines_sends_nothing(rt: HostRuntime) -> Result<(), Fail> {
 fn one_thread_serves_itself_where_a_frame_is_longer_than_the_ring(
     rt: HostRuntime,
 ) -> Result<(), Fail> {
-    let answer = each_block(rt.alloc(), ALONE, |alloc, text| alone(&rt, alloc, text))?;
+    let answer = each_block(&rt, rt.alloc(), ALONE, Kind::Alone)?;
     assert_eq!(rt; answer.as_str(), "1 rows");
     Ok(())
 }
