@@ -1,14 +1,8 @@
 #![tactic(auto)]
 
-//! Tests of the crates of texts, values and tables.
+//! Tests of the crates of texts, values and tables, as rows of texts.
 #[cfg(test)]
 mod eager;
-#[cfg(test)]
-mod elf_files;
-#[cfg(test)]
-mod elf_symbols;
-#[cfg(test)]
-mod elf_tables;
 #[cfg(test)]
 mod grammar;
 #[cfg(test)]

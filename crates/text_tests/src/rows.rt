@@ -1,12 +1,10 @@
 // The rows of the tests, by what is asked of their inputs.
 use crate::eager::{length_for, line_in};
-use crate::elf_symbols::{answer_to_header, answer_to_markers};
-use crate::elf_tables::answer_to_symbols;
 use crate::grammar::{pieces_text, slots_text, spelling_of, uses_text};
 use crate::hints::filled;
 use crate::intern::{answers, count_of_variants, name_text, parsed_text, written};
 use crate::values::{verdict_in, verdict_of};
-use crate::{eager, elf_symbols, elf_tables, hints};
+use crate::{eager, hints};
 use std::alloc::Global;
 use std::test::Fail;
 
@@ -16,13 +14,6 @@ pub enum Kind {
     EagerShown,
     LineIn,
     LengthFor,
-    AnswerToMarkers,
-    AnswerToHeader,
-    ElfSymbolReadBack,
-    ElfSymbolAnswerToDamage,
-    ElfTableReadBack,
-    ElfTableAnswerToDamage,
-    AnswerToSymbols,
     SpellingOf,
     PiecesText,
     SlotsText,
@@ -43,13 +34,6 @@ fn answer(alloc: Global, kind: Kind, input: &str) -> Result<String, Fail> {
         Kind::EagerShown => eager::shown(alloc, input),
         Kind::LineIn => line_in(alloc, input),
         Kind::LengthFor => length_for(alloc, input),
-        Kind::AnswerToMarkers => answer_to_markers(alloc, input),
-        Kind::AnswerToHeader => answer_to_header(alloc, input),
-        Kind::ElfSymbolReadBack => elf_symbols::read_back(alloc, input),
-        Kind::ElfSymbolAnswerToDamage => elf_symbols::answer_to_damage(alloc, input),
-        Kind::ElfTableReadBack => elf_tables::read_back(alloc, input),
-        Kind::ElfTableAnswerToDamage => elf_tables::answer_to_damage(alloc, input),
-        Kind::AnswerToSymbols => answer_to_symbols(alloc, input),
         Kind::SpellingOf => spelling_of(alloc, input),
         Kind::PiecesText => pieces_text(alloc, input),
         Kind::SlotsText => slots_text(alloc, input),

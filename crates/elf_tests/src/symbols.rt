@@ -4,7 +4,7 @@ ghost use Rattle.std.specs.Bool.{OnTrue};
 ghost use Rattle.elf_section.specs.Symbol.{plain_all};
 ghost use Rattle.elf_section.specs.Written.{IsWritable};
 
-use crate::elf_files::{Linked, REFUSED, alike, damage, linked_of, parted, put_over};
+use crate::files::{Linked, REFUSED, alike, damage, linked_of, parted, put_over};
 use crate::rows::{Kind, each_block, each_line};
 use dl_io::Bytes;
 use elf_section::{ElfFault, Symbol, read_symbols, write_symbols};
@@ -344,7 +344,7 @@ pub fn read_back(alloc: Global, text: &str) -> Result<String, Fail> {
 
 #[test]
 fn of_written_symbols_those_with_a_brace_are_read_back(rt: HostRuntime) -> Result<(), Fail> {
-    let told = each_block(rt.alloc(), WRITTEN, Kind::ElfSymbolReadBack)?;
+    let told = each_block(rt.alloc(), WRITTEN, Kind::SymbolReadBack)?;
     assert_eq!(rt; told.as_str(), "3 rows");
     assert_eq!(rt; read_back(rt.alloc(), "")?.as_str(), "0 symbols");
     Ok(())
@@ -365,14 +365,14 @@ pub fn answer_to_damage(alloc: Global, text: &str) -> Result<String, Fail> {
 
 #[test]
 fn a_damaged_file_gives_its_refusal(rt: HostRuntime) -> Result<(), Fail> {
-    let told = each_line(rt.alloc(), REFUSED, Kind::ElfSymbolAnswerToDamage)?;
+    let told = each_line(rt.alloc(), REFUSED, Kind::SymbolAnswerToDamage)?;
     assert_eq!(rt; told.as_str(), "16 rows");
     Ok(())
 }
 
 #[test]
 fn a_changed_symbol_is_read_as_it_stands(rt: HostRuntime) -> Result<(), Fail> {
-    let told = each_line(rt.alloc(), READ, Kind::ElfSymbolAnswerToDamage)?;
+    let told = each_line(rt.alloc(), READ, Kind::SymbolAnswerToDamage)?;
     assert_eq!(rt; told.as_str(), "5 rows");
     Ok(())
 }

@@ -1,6 +1,6 @@
 use Rattle.std.proofs.Common.{arith, ap, length}
-use Rattle.text_tests.proofs.WritableLaws.{pushed}
-use Rattle.text_tests.proofs.elf_symbols.list_of.Goals as goal
+use Rattle.elf_tests.proofs.WritableLaws.{pushed}
+use Rattle.elf_tests.proofs.symbols.list_of.Goals as goal
 
 pub loop-line-preserved : goal.loop-line-preserved
 loop-line-preserved c =

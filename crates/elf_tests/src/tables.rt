@@ -1,5 +1,5 @@
 //! Tables that are written and read back, those of linked files, and refusals.
-use crate::elf_files::{REFUSED, alike, damage, linked_of, parted};
+use crate::files::{REFUSED, alike, damage, linked_of, parted};
 use crate::rows::{Kind, each_block, each_line};
 use defmt_grammar::Text;
 use defmt_intern::{Entry, Table, Tag};
@@ -106,7 +106,7 @@ fn one_entry_makes_472_bytes(rt: HostRuntime) -> Result<(), Fail> {
 
 #[test]
 fn a_table_reads_back_with_its_indexes(rt: HostRuntime) -> Result<(), Fail> {
-    let told = each_block(rt.alloc(), WRITTEN, Kind::ElfTableReadBack)?;
+    let told = each_block(rt.alloc(), WRITTEN, Kind::TableReadBack)?;
     assert_eq!(rt; told.as_str(), "2 rows");
     let none = written(rt.alloc(), "")?;
     assert_eq!(rt;
@@ -130,9 +130,9 @@ pub fn answer_to_damage(alloc: Global, text: &str) -> Result<String, Fail> {
 
 #[test]
 fn a_damaged_file_is_refused_with_its_cause_and_place(rt: HostRuntime) -> Result<(), Fail> {
-    let told = each_line(rt.alloc(), REFUSED, Kind::ElfTableAnswerToDamage)?;
+    let told = each_line(rt.alloc(), REFUSED, Kind::TableAnswerToDamage)?;
     assert_eq!(rt; told.as_str(), "16 rows");
-    let told = each_line(rt.alloc(), NAMES, Kind::ElfTableAnswerToDamage)?;
+    let told = each_line(rt.alloc(), NAMES, Kind::TableAnswerToDamage)?;
     assert_eq!(rt; told.as_str(), "3 rows");
     Ok(())
 }

@@ -1,0 +1,11 @@
+#![tactic(auto)]
+
+//! Tests of the files that carry a table, as rows of texts.
+#[cfg(test)]
+mod files;
+#[cfg(test)]
+mod rows;
+#[cfg(test)]
+mod symbols;
+#[cfg(test)]
+mod tables;
