@@ -1,5 +1,6 @@
 // Bytes as pairs of hexadecimal digits with a space between them.
 use std::alloc::Global;
+use std::fmt::Write;
 use std::test::Fail;
 
 /// The bytes of these digits, as `01 7e`; none of an empty text.
@@ -22,4 +23,14 @@ pub fn digits_of(alloc: Global, bytes: &[u8]) -> Result<String, Fail> {
         text.push_str(pair.as_str())?;
     }
     Ok(text)
+}
+
+/// Puts the digits of these bytes behind a text.
+pub fn put_digits(out: &mut String, bytes: &[u8]) -> Result<(), Fail> {
+    let mut gap = "";
+    for byte in bytes {
+        write!(out, "{gap}{byte:02x}")?;
+        gap = " ";
+    }
+    Ok(())
 }
