@@ -12,6 +12,7 @@ use defmt_script::Script;
 use defmt_values::{Args, Statement, Value, check, look_up};
 use dl_io::Bytes;
 use std::alloc::Global;
+use std::fmt::Write;
 use std::test::Fail;
 
 const TEXTS: &str = r#"{=u8:#04x} {0=u8:b}, 10 = 0x0a 1010
@@ -90,29 +91,35 @@ fn logged(table: &Table, index: u16) -> Result<(), &'static str>
     }
 }
 
-fn told(alloc: Global, text: Result<Text, EagerFault>) -> Result<String, Fail> {
+// A text, or the word for why there is none.
+fn told(text: &Result<Text, EagerFault>) -> &str {
     match text {
-        Ok(text) => Ok(text.into_string()),
-        Err(EagerFault::Wide) => Ok(String::from_str(alloc, "wide")?),
-        Err(EagerFault::Memory) => Ok(String::from_str(alloc, "memory")?),
+        Ok(text) => text.as_str(),
+        Err(EagerFault::Wide) => "wide",
+        Err(EagerFault::Memory) => "memory",
     }
 }
 
-// The line of a statement, with a stamp of these arguments where the table has a timestamp's entry.
-fn line_of(
+fn put_told(text: &Result<Text, EagerFault>, out: &mut String) -> Result<(), Fail> {
+    Ok(out.push_str(told(text))?)
+}
+
+// Puts the line of a statement, with a stamp of these arguments where the table has a timestamp's entry.
+fn put_line(
     alloc: Global,
     table: &Table,
     stamp: Args,
     statement: &Statement,
-) -> Result<String, Fail> {
+    out: &mut String,
+) -> Result<(), Fail> {
     check(table, statement)?;
     logged(table, statement.index)?;
     match stamp_at(table) {
-        None => told(alloc, line(alloc, table, &Args::new(alloc), statement)),
+        None => put_told(&line(alloc, table, &Args::new(alloc), statement), out),
         Some(index) => {
             let stamp = Statement { index, args: stamp };
             check(table, &stamp)?;
-            told(alloc, line(alloc, table, &stamp.args, statement))
+            put_told(&line(alloc, table, &stamp.args, statement), out)
         }
     }
 }
@@ -123,35 +130,37 @@ fn one(alloc: Global, value: Value) -> Result<Args, Fail> {
     Ok(args)
 }
 
-// The line of a script's first statement with its first stamp.
-pub fn line_in(alloc: Global, text: &str) -> Result<String, Fail> {
-    let script = script_of(alloc, text)?;
+fn put_first_line(alloc: Global, script: &Script, out: &mut String) -> Result<(), Fail> {
+    let statement = script.statement(0, 0).ok_or("no statement")?;
     let stamp = script.stamp().map_or(0, |(base, _)| base);
     let stamp = one(alloc, Value::Uint(u128::from(stamp)))?;
-    match script.statement(0, 0) {
-        Some(statement) => line_of(alloc, script.table(), stamp, statement),
-        None => Ok(String::from_str(alloc, "no statement")?),
-    }
+    put_line(alloc, script.table(), stamp, statement, out)
 }
 
-fn text_in(alloc: Global, script: &Script) -> Result<String, Fail> {
-    match script.statement(0, 0) {
-        Some(statement) => {
-            check(script.table(), statement)?;
-            told(alloc, text_of(alloc, script.table(), statement))
-        }
-        None => Ok(String::from_str(alloc, "no statement")?),
-    }
+// Puts the line of a script's first statement with its first stamp.
+pub fn put_line_in(alloc: Global, text: &str, out: &mut String) -> Result<(), Fail> {
+    let script = script_of(alloc, text)?;
+    put_first_line(alloc, &script, out)
 }
 
-// The text of a statement of this format string, behind which its arguments stand.
-pub fn shown(alloc: Global, input: &str) -> Result<String, Fail> {
+fn put_first_text(alloc: Global, script: &Script, out: &mut String) -> Result<(), Fail> {
+    let statement = script.statement(0, 0).ok_or("no statement")?;
+    check(script.table(), statement)?;
+    put_told(&text_of(alloc, script.table(), statement), out)
+}
+
+fn put_text_in(alloc: Global, text: &str, out: &mut String) -> Result<(), Fail> {
+    let script = script_of(alloc, text)?;
+    put_first_text(alloc, &script, out)
+}
+
+// Puts the text of a statement of this format string, behind which its arguments stand.
+pub fn put_shown(alloc: Global, input: &str, out: &mut String) -> Result<(), Fail> {
     let (format, args) = input.split_once(", ").ok_or("no arguments")?;
     let text = format!(in alloc;
         "s v defmt_info {format}\ns k defmt_prim k{{=u8}}\ns word defmt_str {{word|\nw 0 v {args}"
     )?;
-    let script = script_of(alloc, text.as_str())?;
-    text_in(alloc, &script)
+    put_text_in(alloc, text.as_str(), out)
 }
 
 // So many bytes of 1.
@@ -163,37 +172,44 @@ fn ones(alloc: Global, count: u16) -> Result<Args, Fail> {
     one(alloc, Value::Bytes(bytes))
 }
 
-fn length_of(alloc: Global, table: &Table, statement: &Statement) -> Result<String, Fail> {
-    check(table, statement)?;
-    let wide = is_wide(alloc, table, statement)?;
-    match text_of(alloc, table, statement) {
-        Ok(text) => Ok(format!(in alloc; "{} bytes, wide {wide}", text.len())?),
-        Err(EagerFault::Wide) => Ok(format!(in alloc; "wide, wide {wide}")?),
-        Err(EagerFault::Memory) => Ok(format!(in alloc; "memory, wide {wide}")?),
+fn put_size(text: &Result<Text, EagerFault>, out: &mut String) -> Result<(), Fail> {
+    match text {
+        Ok(text) => Ok(write!(out, "{} bytes", text.len())?),
+        Err(_) => put_told(text, out),
     }
 }
 
-// How long the text of so many bytes is, each of which fills 255 places.
-pub fn length_for(alloc: Global, count: &str) -> Result<String, Fail> {
-    let args = ones(alloc, count.parse::<u16>()?)?;
-    let table = table_of(alloc, "1 defmt_info {=[u8]:#0255b}")?;
-    length_of(alloc, &table, &Statement { index: 1, args })
+fn put_length(
+    alloc: Global,
+    table: &Table,
+    statement: &Statement,
+    out: &mut String,
+) -> Result<(), Fail> {
+    check(table, statement)?;
+    let wide = is_wide(alloc, table, statement)?;
+    put_size(&text_of(alloc, table, statement), out)?;
+    Ok(write!(out, ", wide {wide}")?)
 }
 
-// The line of a statement without a stamp, where so many bytes stand for it.
-fn bare_line(alloc: Global, count: u16) -> Result<String, Fail> {
+// Puts how long the text of so many bytes is, each of which fills 255 places.
+pub fn put_length_for(alloc: Global, count: &str, out: &mut String) -> Result<(), Fail> {
+    let args = ones(alloc, count.parse::<u16>()?)?;
+    let table = table_of(alloc, "1 defmt_info {=[u8]:#0255b}")?;
+    put_length(alloc, &table, &Statement { index: 1, args }, out)
+}
+
+// Puts the line of a statement without a stamp, where so many bytes stand for it.
+fn put_bare_line(alloc: Global, count: u16, out: &mut String) -> Result<(), Fail> {
     let stamp = ones(alloc, count)?;
     let table = table_of(alloc, WIDE_STAMP)?;
     let args = Args::new(alloc);
-    line_of(alloc, &table, stamp, &Statement { index: 1, args })
+    put_line(alloc, &table, stamp, &Statement { index: 1, args }, out)
 }
 
 #[test]
 fn values_print_under_their_hints_and_lists_between_brackets(rt: HostRuntime) -> Result<(), Fail> {
-    assert_eq!(rt;
-        each_line(rt.alloc(), TEXTS, Kind::EagerShown)?.as_str(),
-        "15 rows"
-    );
+    let rows = each_line(rt.alloc(), TEXTS, Kind::EagerShown)?;
+    assert_eq!(rt; rows.as_str(), "15 rows");
     Ok(())
 }
 
@@ -201,24 +217,19 @@ fn values_print_under_their_hints_and_lists_between_brackets(rt: HostRuntime) ->
 fn lines_take_hints_inwards_and_stamps_in_front_of_levels_alone(
     rt: HostRuntime,
 ) -> Result<(), Fail> {
-    assert_eq!(rt;
-        each_block(rt.alloc(), LINES, Kind::LineIn)?.as_str(),
-        "5 rows"
-    );
+    let rows = each_block(rt.alloc(), LINES, Kind::LineIn)?;
+    assert_eq!(rt; rows.as_str(), "5 rows");
     Ok(())
 }
 
 #[test]
-fn texts_of_too_many_bytes_are_wide(rt: HostRuntime) -> Result<(), Fail> {
-    assert_eq!(rt;
-        each_line(rt.alloc(), WIDE, Kind::LengthFor)?.as_str(),
-        "3 rows"
-    );
-    Ok(())
-}
-
-#[test]
-fn a_wide_stamp_refuses_a_line_that_does_not_show_it(rt: HostRuntime) -> Result<(), Fail> {
-    assert_eq!(rt; bare_line(rt.alloc(), 256)?.as_str(), "wide");
+fn texts_of_too_many_bytes_are_wide_and_a_stamp_refuses_a_line_that_does_not_show_it(
+    rt: HostRuntime,
+) -> Result<(), Fail> {
+    let rows = each_line(rt.alloc(), WIDE, Kind::LengthFor)?;
+    assert_eq!(rt; rows.as_str(), "3 rows");
+    let mut line = String::new(rt.alloc());
+    put_bare_line(rt.alloc(), 256, &mut line)?;
+    assert_eq!(rt; line.as_str(), "wide");
     Ok(())
 }

@@ -1,8 +1,9 @@
 // Format strings: their refusals, spellings, pieces and slots.
 use crate::rows::{Kind, each_line};
 use crate::shared::pieces_of;
-use defmt_grammar::{Cause, GrammarFault, Mode, Piece, Text, print};
+use defmt_grammar::{Cause, GrammarFault, Mode, Piece, Pieces, Slot, Text, print};
 use std::alloc::Global;
+use std::fmt::Write;
 use std::test::Fail;
 
 const REFUSALS: &str = "\
@@ -133,45 +134,44 @@ const USES: &str = "\
 {1=str}{0=[?; 3]}{=[?;3]:x}{2=4..9}{1=str:?} = 2 2 1 0
 x{{y{=u16:#06X}{0=u16}}} = 2 0 0 0";
 
-// The canonical spelling of a text's pieces, or where it is refused.
-fn spelling_in(alloc: Global, text: &str, mode: Mode) -> Result<String, Fail> {
+fn put_print(alloc: Global, pieces: &Pieces, out: &mut String) -> Result<(), Fail> {
+    Ok(out.push_str(print(alloc, pieces)?.as_str())?)
+}
+
+// Puts the canonical spelling of a text's pieces, or where it is refused.
+fn put_spelling_in(alloc: Global, text: &str, mode: Mode, out: &mut String) -> Result<(), Fail> {
     match pieces_of(alloc, text, mode) {
-        Ok(pieces) => Ok(print(alloc, &pieces)?.into_string()),
-        Err(GrammarFault::Refused { cause, at }) => {
-            Ok(format!(in alloc; "cause {cause} at {at}")?)
-        }
-        Err(GrammarFault::Memory) => Ok(String::from_str(alloc, "memory")?),
+        Ok(pieces) => put_print(alloc, &pieces, out),
+        Err(GrammarFault::Refused { cause, at }) => Ok(write!(out, "cause {cause} at {at}")?),
+        Err(GrammarFault::Memory) => Ok(out.push_str("memory")?),
     }
 }
 
-pub fn spelling_of(alloc: Global, input: &str) -> Result<String, Fail> {
+pub fn put_spelling(alloc: Global, input: &str, out: &mut String) -> Result<(), Fail> {
     let (mode, text) = input.split_once(' ').ok_or("no mode")?;
     let mode = if mode == "strict" {
         Mode::Strict
     } else {
         Mode::Lenient
     };
-    let spelling = spelling_in(alloc, text, mode)?;
-    if spelling.is_empty() {
-        return Ok(String::from_str(alloc, "nothing")?);
+    put_spelling_in(alloc, text, mode, out)?;
+    if out.is_empty() {
+        out.push_str("nothing")?;
     }
-    Ok(spelling)
-}
-
-// Appends one more part of a list.
-fn push_part(list: &mut String, part: &str) -> Result<(), Fail> {
-    if !list.is_empty() {
-        list.push_str(", ")?;
-    }
-    list.push_str(part)?;
     Ok(())
 }
 
-fn piece_text(alloc: Global, piece: &Piece) -> Result<String, Fail> {
+// A copy of the pieces of a text.
+fn copied(alloc: Global, text: &str) -> Result<Pieces, Fail> {
+    Ok(pieces_of(alloc, text, Mode::Strict)?.copy(alloc)?)
+}
+
+fn put_piece(piece: &Piece, out: &mut String) -> Result<(), Fail> {
     match piece {
-        Piece::Literal(text) => Ok(format!(in alloc; "literal {}", text.as_str())?),
+        Piece::Literal(text) => Ok(write!(out, "literal {}", text.as_str())?),
         Piece::Param(param) => {
-            Ok(format!(in alloc;
+            Ok(write!(
+                out,
                 "param {} {:?} {:?}",
                 param.position, param.kind, param.hint
             )?)
@@ -179,31 +179,41 @@ fn piece_text(alloc: Global, piece: &Piece) -> Result<String, Fail> {
     }
 }
 
-// The pieces of a text, as a copy has them.
-pub fn pieces_text(alloc: Global, text: &str) -> Result<String, Fail> {
-    let pieces = pieces_of(alloc, text, Mode::Strict)?.copy(alloc)?;
-    let mut list = String::new(alloc);
-    for piece in pieces.as_slice() {
-        let part = piece_text(alloc, piece)?;
-        push_part(&mut list, part.as_str())?;
+fn put_list(pieces: &[Piece], out: &mut String) -> Result<(), Fail> {
+    let mut gap = "";
+    for piece in pieces {
+        out.push_str(gap)?;
+        put_piece(piece, out)?;
+        gap = ", ";
     }
-    Ok(list)
+    Ok(())
 }
 
-pub fn slots_text(alloc: Global, text: &str) -> Result<String, Fail> {
-    let pieces = pieces_of(alloc, text, Mode::Strict)?.copy(alloc)?;
-    let mut list = String::new(alloc);
-    for slot in pieces.slots() {
-        let part = format!(in alloc; "{slot:?}")?;
-        push_part(&mut list, part.as_str())?;
-    }
-    Ok(list)
+// Puts the pieces of a text, as a copy has them.
+pub fn put_pieces_text(alloc: Global, text: &str, out: &mut String) -> Result<(), Fail> {
+    let pieces = copied(alloc, text)?;
+    put_list(pieces.as_slice(), out)
 }
 
-// How often each of the first four positions is used.
-pub fn uses_text(alloc: Global, text: &str) -> Result<String, Fail> {
-    let pieces = pieces_of(alloc, text, Mode::Strict)?.copy(alloc)?;
-    Ok(format!(in alloc;
+fn put_slot_list(slots: &[Slot], out: &mut String) -> Result<(), Fail> {
+    let mut gap = "";
+    for slot in slots {
+        write!(out, "{gap}{slot:?}")?;
+        gap = ", ";
+    }
+    Ok(())
+}
+
+pub fn put_slots(alloc: Global, text: &str, out: &mut String) -> Result<(), Fail> {
+    let pieces = copied(alloc, text)?;
+    put_slot_list(pieces.slots(), out)
+}
+
+// Puts how often each of the first four positions is used.
+pub fn put_uses(alloc: Global, text: &str, out: &mut String) -> Result<(), Fail> {
+    let pieces = copied(alloc, text)?;
+    Ok(write!(
+        out,
         "{} {} {} {}",
         pieces.uses(0),
         pieces.uses(1),
@@ -213,67 +223,44 @@ pub fn uses_text(alloc: Global, text: &str) -> Result<String, Fail> {
 }
 
 #[test]
-fn the_first_fault_counts_with_its_place(rt: HostRuntime) -> Result<(), Fail> {
-    assert_eq!(rt;
-        each_line(rt.alloc(), REFUSALS, Kind::SpellingOf)?.as_str(),
-        "51 rows"
-    );
-    Ok(())
-}
-
-#[test]
-fn the_canonical_spelling_is_printed_and_an_unknown_hint_refused_by_strict_alone(
+fn the_first_fault_counts_with_its_place_and_the_canonical_spelling_is_printed(
     rt: HostRuntime,
 ) -> Result<(), Fail> {
-    assert_eq!(rt;
-        each_line(rt.alloc(), SPELLINGS, Kind::SpellingOf)?.as_str(),
-        "33 rows"
-    );
+    let rows = each_line(rt.alloc(), REFUSALS, Kind::SpellingOf)?;
+    assert_eq!(rt; rows.as_str(), "51 rows");
+    let rows = each_line(rt.alloc(), SPELLINGS, Kind::SpellingOf)?;
+    assert_eq!(rt; rows.as_str(), "33 rows");
     Ok(())
 }
 
 #[test]
-fn pieces_tell_literals_and_parameters(rt: HostRuntime) -> Result<(), Fail> {
-    assert_eq!(rt;
-        each_line(rt.alloc(), PIECES, Kind::PiecesText)?.as_str(),
-        "1 rows"
-    );
-    Ok(())
-}
-
-#[test]
-fn each_position_has_a_slot_of_its_kind_or_the_window_of_its_bit_fields(
+fn pieces_tell_literals_and_parameters_and_each_position_its_slot_and_uses(
     rt: HostRuntime,
 ) -> Result<(), Fail> {
-    assert_eq!(rt;
-        each_line(rt.alloc(), SLOTS, Kind::SlotsText)?.as_str(),
-        "31 rows"
-    );
+    let rows = each_line(rt.alloc(), PIECES, Kind::PiecesText)?;
+    assert_eq!(rt; rows.as_str(), "1 rows");
+    let rows = each_line(rt.alloc(), SLOTS, Kind::SlotsText)?;
+    assert_eq!(rt; rows.as_str(), "31 rows");
+    let rows = each_line(rt.alloc(), USES, Kind::UsesText)?;
+    assert_eq!(rt; rows.as_str(), "2 rows");
     Ok(())
 }
 
-#[test]
-fn each_use_of_a_position_counts(rt: HostRuntime) -> Result<(), Fail> {
-    assert_eq!(rt;
-        each_line(rt.alloc(), USES, Kind::UsesText)?.as_str(),
-        "2 rows"
-    );
-    Ok(())
-}
-
-// What a text tells of itself while it grows.
-fn grown(alloc: Global) -> Result<String, Fail> {
+// Puts what a text tells of itself while it grows.
+fn put_grown(alloc: Global, out: &mut String) -> Result<(), Fail> {
     let mut text = Text::from_string(String::new(alloc));
-    let was_empty = text.is_empty();
+    write!(out, "{}, then ", text.is_empty())?;
     text.push('é')?;
     text.push_str("ab")?;
     let copy = text.copy()?.into_string();
-    Ok(format!(in alloc; "{was_empty}, then {} bytes, {copy}", text.len())?)
+    Ok(write!(out, "{} bytes, {copy}", text.len())?)
 }
 
 #[test]
 fn a_text_grows_and_gives_its_string_back(rt: HostRuntime) -> Result<(), Fail> {
-    assert_eq!(rt; grown(rt.alloc())?.as_str(), "true, then 4 bytes, éab");
+    let mut told = String::new(rt.alloc());
+    put_grown(rt.alloc(), &mut told)?;
+    assert_eq!(rt; told.as_str(), "true, then 4 bytes, éab");
     Ok(())
 }
 

@@ -1,12 +1,13 @@
 // Values under their hints: a format string and its arguments as a script spells them, and the text.
 use crate::rows::{self, each_line};
-use crate::shared::{script_of, visible};
+use crate::shared::{put_visible, script_of};
 use defmt_grammar::{Base, Hint, Kind, Memory, Param, Piece, Text};
 use defmt_hints::{show_bool, show_bytes, show_char, show_int, show_str, show_uint};
 use defmt_intern::{Parsed, Table};
 use defmt_script::Script;
 use defmt_values::{Args, Value, is_signed, size_bits};
 use std::alloc::Global;
+use std::fmt::Write;
 use std::test::Fail;
 
 const NUMBERS: &str = "\
@@ -114,11 +115,15 @@ fn shown_in(alloc: Global, script: &Script) -> Result<Text, Memory> {
     Ok(out)
 }
 
-pub fn shown(alloc: Global, input: &str) -> Result<String, Fail> {
+fn put_shown_in(alloc: Global, text: &str, out: &mut String) -> Result<(), Fail> {
+    let script = script_of(alloc, text)?;
+    put_visible(shown_in(alloc, &script)?.as_str(), out)
+}
+
+pub fn put_shown(alloc: Global, input: &str, out: &mut String) -> Result<(), Fail> {
     let (format, args) = input.split_once(' ').ok_or("no arguments")?;
     let text = format!(in alloc; "s v defmt_info {format}\nw 0 v {args}")?;
-    let script = script_of(alloc, text.as_str())?;
-    visible(alloc, shown_in(alloc, &script)?.as_str())
+    put_shown_in(alloc, text.as_str(), out)
 }
 
 // Whether 5 in binary has this front at a width, and as many digits as are due.
@@ -138,8 +143,8 @@ fn is_filled(alloc: Global, least: u8, front: &str, width: u8) -> Result<bool, M
     )
 }
 
-// At how many widths 5 in binary is filled up, where its least width and its front are told.
-pub fn filled(alloc: Global, input: &str) -> Result<String, Fail> {
+// Puts at how many widths 5 in binary is filled up, where its least width and its front are told.
+pub fn put_filled(alloc: Global, input: &str, out: &mut String) -> Result<(), Fail> {
     let (least, front) = input.split_once(' ').unwrap_or((input, ""));
     let least = least.parse::<u8>()?;
     let mut count = 0u16;
@@ -148,24 +153,17 @@ pub fn filled(alloc: Global, input: &str) -> Result<String, Fail> {
             count = count.saturating_add(1);
         }
     }
-    Ok(format!(in alloc; "{count} widths")?)
+    Ok(write!(out, "{count} widths")?)
 }
 
 #[test]
-fn numbers_follow_their_hint_in_their_own_width(rt: HostRuntime) -> Result<(), Fail> {
-    assert_eq!(rt;
-        each_line(rt.alloc(), NUMBERS, rows::Kind::HintShown)?.as_str(),
-        "27 rows"
-    );
-    Ok(())
-}
-
-#[test]
-fn every_width_is_filled(rt: HostRuntime) -> Result<(), Fail> {
-    assert_eq!(rt;
-        each_line(rt.alloc(), WIDTHS, rows::Kind::Filled)?.as_str(),
-        "2 rows"
-    );
+fn numbers_follow_their_hint_in_their_own_width_and_every_width_is_filled(
+    rt: HostRuntime,
+) -> Result<(), Fail> {
+    let rows = each_line(rt.alloc(), NUMBERS, rows::Kind::HintShown)?;
+    assert_eq!(rt; rows.as_str(), "27 rows");
+    let rows = each_line(rt.alloc(), WIDTHS, rows::Kind::Filled)?;
+    assert_eq!(rt; rows.as_str(), "2 rows");
     Ok(())
 }
 
@@ -173,9 +171,7 @@ fn every_width_is_filled(rt: HostRuntime) -> Result<(), Fail> {
 fn texts_are_quoted_for_debugging_alone_and_bytes_a_list_or_a_byte_text(
     rt: HostRuntime,
 ) -> Result<(), Fail> {
-    assert_eq!(rt;
-        each_line(rt.alloc(), TEXTS, rows::Kind::HintShown)?.as_str(),
-        "21 rows"
-    );
+    let rows = each_line(rt.alloc(), TEXTS, rows::Kind::HintShown)?;
+    assert_eq!(rt; rows.as_str(), "21 rows");
     Ok(())
 }

@@ -1,11 +1,12 @@
 // Tables, what their texts stand for, and symbol names.
 use crate::rows::{self, each_block, each_line};
-use crate::shared::{entry_of, pieces_of, put, table_of, visible};
-use defmt_grammar::{Kind, Mode, Param, Piece};
+use crate::shared::{entry_of, pieces_of, put, put_visible, table_of};
+use defmt_grammar::{Kind, Mode, Param, Piece, Text};
 use defmt_intern::{
     Entry, Forms, NameFault, NameKey, Parsed, Table, TableFault, Tag, read_name, symbol_name,
 };
 use std::alloc::Global;
+use std::fmt::Write;
 use std::test::Fail;
 use test_rows::bytes_of;
 
@@ -82,14 +83,13 @@ hex 7b 22 61 22 3a 22 ff 22 7d = no object
 {"package":"p","tag":"t"} = no data
 {"package":"p","tag":"t","data":"","disambiguator":null} = no disambiguator"#;
 
-fn put_text(alloc: Global, table: &mut Table, line: &str) -> Result<String, Fail> {
+fn put_entry(alloc: Global, table: &mut Table, line: &str, out: &mut String) -> Result<(), Fail> {
     match put(alloc, table, line)? {
-        Ok(index) => Ok(format!(in alloc; "at {index}, stamp {:?}\n", table.stamp())?),
-        Err(TableFault::Refused { cause }) => {
-            Ok(format!(in alloc; "cause {cause}, stamp {:?}\n", table.stamp())?)
-        }
-        Err(TableFault::Memory) => Ok(String::from_str(alloc, "memory\n")?),
+        Ok(index) => write!(out, "at {index}")?,
+        Err(TableFault::Refused { cause }) => write!(out, "cause {cause}")?,
+        Err(TableFault::Memory) => out.push_str("memory")?,
     }
+    Ok(write!(out, ", stamp {:?}\n", table.stamp())?)
 }
 
 fn text_at(table: &Table, index: u16) -> &str {
@@ -99,18 +99,18 @@ fn text_at(table: &Table, index: u16) -> &str {
     }
 }
 
-// What each entry is answered that is put into one table, and then the table.
-pub fn answers(alloc: Global, lines: &str) -> Result<String, Fail> {
+fn put_table(table: &Table, out: &mut String) -> Result<(), Fail> {
+    let (first, third) = (text_at(table, 1), text_at(table, 3));
+    Ok(write!(out, "length {}\n1 is {first}\n3 is {third}", table.len())?)
+}
+
+// Puts what each entry is answered that is put into one table, and then the table.
+pub fn put_answers(alloc: Global, lines: &str, out: &mut String) -> Result<(), Fail> {
     let mut table = Table::new(alloc);
-    let mut told = String::new(alloc);
     for line in lines.lines() {
-        let answer = put_text(alloc, &mut table, line)?;
-        told.push_str(answer.as_str())?;
+        put_entry(alloc, &mut table, line, out)?;
     }
-    let (first, third) = (text_at(&table, 1), text_at(&table, 3));
-    let end = format!(in alloc; "length {}\n1 is {first}\n3 is {third}", table.len())?;
-    told.push_str(end.as_str())?;
-    Ok(told)
+    put_table(&table, out)
 }
 
 fn kind_text(param: &Param) -> &'static str {
@@ -121,10 +121,10 @@ fn kind_text(param: &Param) -> &'static str {
     }
 }
 
-// Appends the literals of some pieces, and the kinds of the parameters.
-fn push_shape(shape: &mut String, pieces: &[Piece]) -> Result<(), Fail> {
+// Puts the literals of some pieces, and the kinds of the parameters.
+fn put_shape(pieces: &[Piece], out: &mut String) -> Result<(), Fail> {
     for piece in pieces {
-        shape.push_str(match piece {
+        out.push_str(match piece {
             Piece::Literal(text) => text.as_str(),
             Piece::Param(param) => kind_text(param),
         })?;
@@ -132,47 +132,48 @@ fn push_shape(shape: &mut String, pieces: &[Piece]) -> Result<(), Fail> {
     Ok(())
 }
 
-fn push_forms(shape: &mut String, forms: &Forms) -> Result<(), Fail> {
+fn put_forms(forms: &Forms, out: &mut String) -> Result<(), Fail> {
     for pieces in forms.as_slice() {
-        shape.push_str("|")?;
-        push_shape(shape, pieces.as_slice())?;
+        out.push_str("|")?;
+        put_shape(pieces.as_slice(), out)?;
     }
     Ok(())
 }
 
-// What a text stands for, with `|` in front of each variant.
-fn body_text(alloc: Global, parsed: Option<&Parsed>) -> Result<String, Fail> {
-    let mut shape = String::new(alloc);
+// Puts what a text stands for, with `|` in front of each variant.
+fn put_body(parsed: Option<&Parsed>, out: &mut String) -> Result<(), Fail> {
     match parsed {
-        None => shape.push_str("nothing")?,
-        Some(Parsed::Unsupported) => shape.push_str("unsupported")?,
-        Some(Parsed::Raw) => shape.push_str("raw")?,
-        Some(Parsed::One(pieces)) => push_shape(&mut shape, pieces.as_slice())?,
-        Some(Parsed::Variants(forms)) => push_forms(&mut shape, forms)?,
+        None => Ok(out.push_str("nothing")?),
+        Some(Parsed::Unsupported) => Ok(out.push_str("unsupported")?),
+        Some(Parsed::Raw) => Ok(out.push_str("raw")?),
+        Some(Parsed::One(pieces)) => put_shape(pieces.as_slice(), out),
+        Some(Parsed::Variants(forms)) => put_forms(forms, out),
     }
-    Ok(shape)
 }
 
-pub fn parsed_text(alloc: Global, line: &str) -> Result<String, Fail> {
+pub fn put_parsed(alloc: Global, line: &str, out: &mut String) -> Result<(), Fail> {
     let lines = if line == "none" { "" } else { line };
     let table = table_of(alloc, lines)?;
-    body_text(alloc, table.parsed(1))
+    put_body(table.parsed(1), out)
 }
 
-pub fn count_of_variants(alloc: Global, line: &str) -> Result<String, Fail> {
-    let table = table_of(alloc, line)?;
-    let count = match table.parsed(1) {
+fn count_in(table: &Table) -> usize {
+    match table.parsed(1) {
         Some(Parsed::Variants(forms)) => forms.as_slice().len(),
         _ => 0,
-    };
-    Ok(format!(in alloc; "{count}")?)
+    }
 }
 
-// The text of an enum of one variant.
-fn pushed_form(alloc: Global) -> Result<String, Fail> {
+pub fn put_count_of_variants(alloc: Global, line: &str, out: &mut String) -> Result<(), Fail> {
+    let count = count_in(&table_of(alloc, line)?);
+    Ok(write!(out, "{count}")?)
+}
+
+// Puts the text of an enum of one variant.
+fn put_pushed(alloc: Global, out: &mut String) -> Result<(), Fail> {
     let mut forms = Forms::new(alloc);
     forms.push(pieces_of(alloc, "b {=u8}", Mode::Lenient)?)?;
-    body_text(alloc, Some(&Parsed::Variants(forms)))
+    put_body(Some(&Parsed::Variants(forms)), out)
 }
 
 // A copy of a table, with one more entry that is a copy itself.
@@ -182,49 +183,67 @@ fn copy_with_more(alloc: Global, table: &Table) -> Result<Table, Fail> {
     Ok(copy)
 }
 
-fn push_entries(alloc: Global, told: &mut String, table: &Table) -> Result<(), Fail> {
+fn put_entries(table: &Table, out: &mut String) -> Result<(), Fail> {
     for (index, entry) in table.entries() {
-        let line = format!(in alloc; "{index} {} {}\n", entry.tag.name(), entry.text.as_str())?;
-        told.push_str(line.as_str())?;
+        write!(
+            out,
+            "{index} {} {}\n",
+            entry.tag.name(),
+            entry.text.as_str()
+        )?;
     }
     Ok(())
 }
 
-fn copied(alloc: Global, lines: &str) -> Result<String, Fail> {
+fn put_copy(table: &Table, copy: &Table, out: &mut String) -> Result<(), Fail> {
+    let stamp = copy.stamp();
+    write!(
+        out,
+        "length {}, of the copy {}\nstamp {stamp:?}\n40 is ",
+        table.len(),
+        copy.len()
+    )?;
+    put_body(copy.parsed(40), out)?;
+    out.push('\n')?;
+    put_entries(copy, out)
+}
+
+fn put_copied(alloc: Global, lines: &str, out: &mut String) -> Result<(), Fail> {
     let table = table_of(alloc, lines)?;
     let copy = copy_with_more(alloc, &table)?;
-    let body = body_text(alloc, copy.parsed(40))?;
-    let mut told = format!(in alloc;
-        "length {}, of the copy {}\nstamp {:?}\n40 is {body}\n",
-        table.len(),
-        copy.len(),
-        copy.stamp()
-    )?;
-    push_entries(alloc, &mut told, &copy)?;
-    Ok(told)
+    put_copy(&table, &copy, out)
 }
 
-// The symbol name of an entry of this tag, whose text's bytes are given.
-pub fn written(alloc: Global, input: &str) -> Result<String, Fail> {
+fn name_of(alloc: Global, tag: &str, text: &str) -> Result<Text, Fail> {
+    let entry = entry_of(alloc, tag, text)?;
+    Ok(symbol_name(alloc, &entry)?)
+}
+
+fn put_name(alloc: Global, tag: &str, text: &str, out: &mut String) -> Result<(), Fail> {
+    let name = name_of(alloc, tag, text)?;
+    Ok(write!(out, "{} bytes {}", name.len(), name.as_str())?)
+}
+
+// Puts the symbol name of an entry of this tag, whose text's bytes are given.
+pub fn put_written(alloc: Global, input: &str, out: &mut String) -> Result<(), Fail> {
     let (tag, digits) = input.split_once(' ').ok_or("no text")?;
     let bytes = bytes_of(alloc, digits)?;
-    let entry = entry_of(alloc, tag, str::from_utf8(bytes.as_slice())?)?;
-    let name = symbol_name(alloc, &entry)?;
-    Ok(format!(in alloc; "{} bytes {}", name.len(), name.as_str())?)
+    put_name(alloc, tag, str::from_utf8(bytes.as_slice())?, out)
 }
 
-fn entry_text(alloc: Global, entry: &Entry) -> Result<String, Fail> {
+fn put_read_entry(entry: &Entry, out: &mut String) -> Result<(), Fail> {
     let front = match entry.tag {
         Tag::Other(_) => "other ",
         _ => "",
     };
-    let text = visible(alloc, entry.text.as_str())?;
-    Ok(format!(in alloc;
-        "{front}{}, {}, {}, {text}",
+    write!(
+        out,
+        "{front}{}, {}, {}, ",
         entry.tag.name(),
         entry.package.as_str(),
         entry.disambiguator.as_str()
-    )?)
+    )?;
+    put_visible(entry.text.as_str(), out)
 }
 
 fn fault_text(fault: NameFault) -> &'static str {
@@ -242,18 +261,18 @@ fn fault_text(fault: NameFault) -> &'static str {
     }
 }
 
-fn read_text(alloc: Global, name: &[u8]) -> Result<String, Fail> {
+fn put_read(alloc: Global, name: &[u8], out: &mut String) -> Result<(), Fail> {
     match read_name(alloc, name) {
-        Ok(entry) => entry_text(alloc, &entry),
-        Err(fault) => Ok(String::from_str(alloc, fault_text(fault))?),
+        Ok(entry) => put_read_entry(&entry, out),
+        Err(fault) => Ok(out.push_str(fault_text(fault))?),
     }
 }
 
-// What a name reads as, which stands as it is or as `hex` and the digits of its bytes.
-pub fn name_text(alloc: Global, input: &str) -> Result<String, Fail> {
+// Puts what a name reads as, which stands as it is or as `hex` and the digits of its bytes.
+pub fn put_name_text(alloc: Global, input: &str, out: &mut String) -> Result<(), Fail> {
     match input.strip_prefix("hex ") {
-        Some(digits) => read_text(alloc, bytes_of(alloc, digits)?.as_slice()),
-        None => read_text(alloc, input.as_bytes()),
+        Some(digits) => put_read(alloc, bytes_of(alloc, digits)?.as_slice(), out),
+        None => put_read(alloc, input.as_bytes(), out),
     }
 }
 
@@ -261,59 +280,42 @@ pub fn name_text(alloc: Global, input: &str) -> Result<String, Fail> {
 fn entries_are_put_behind_the_greatest_index_and_refusals_leave_the_table(
     rt: HostRuntime,
 ) -> Result<(), Fail> {
-    assert_eq!(rt;
-        each_block(rt.alloc(), ENTRIES, rows::Kind::Answers)?.as_str(),
-        "1 rows"
-    );
+    let rows = each_block(rt.alloc(), ENTRIES, rows::Kind::Answers)?;
+    assert_eq!(rt; rows.as_str(), "1 rows");
     Ok(())
 }
 
 #[test]
-fn texts_are_parsed_by_their_tags(rt: HostRuntime) -> Result<(), Fail> {
-    assert_eq!(rt;
-        each_line(rt.alloc(), PARSED, rows::Kind::ParsedText)?.as_str(),
-        "10 rows"
-    );
-    Ok(())
-}
-
-#[test]
-fn variants_are_listed_up_to_255(rt: HostRuntime) -> Result<(), Fail> {
-    assert_eq!(rt;
-        each_line(rt.alloc(), VARIANTS, rows::Kind::CountOfVariants)?.as_str(),
-        "3 rows"
-    );
-    Ok(())
-}
-
-#[test]
-fn variants_are_pushed(rt: HostRuntime) -> Result<(), Fail> {
-    assert_eq!(rt; pushed_form(rt.alloc())?.as_str(), "|b <uint>");
-    Ok(())
-}
-
-#[test]
-fn a_copy_has_the_same_entries_in_order(rt: HostRuntime) -> Result<(), Fail> {
-    assert_eq!(rt; copied(rt.alloc(), COPIED)?.as_str(), IN_THE_COPY);
-    Ok(())
-}
-
-#[test]
-fn names_are_compact_json(rt: HostRuntime) -> Result<(), Fail> {
-    assert_eq!(rt;
-        each_line(rt.alloc(), WRITTEN, rows::Kind::Written)?.as_str(),
-        "2 rows"
-    );
-    Ok(())
-}
-
-#[test]
-fn names_are_read_or_refused_and_the_last_of_equal_keys_counts(
+fn texts_are_parsed_by_their_tags_and_variants_listed_up_to_255(
     rt: HostRuntime,
 ) -> Result<(), Fail> {
-    assert_eq!(rt;
-        each_line(rt.alloc(), READ, rows::Kind::NameText)?.as_str(),
-        "11 rows"
-    );
+    let rows = each_line(rt.alloc(), PARSED, rows::Kind::ParsedText)?;
+    assert_eq!(rt; rows.as_str(), "10 rows");
+    let rows = each_line(rt.alloc(), VARIANTS, rows::Kind::CountOfVariants)?;
+    assert_eq!(rt; rows.as_str(), "3 rows");
+    Ok(())
+}
+
+#[test]
+fn variants_are_pushed_and_a_copy_has_the_same_entries_in_order(
+    rt: HostRuntime,
+) -> Result<(), Fail> {
+    let mut form = String::new(rt.alloc());
+    put_pushed(rt.alloc(), &mut form)?;
+    assert_eq!(rt; form.as_str(), "|b <uint>");
+    let mut copy = String::new(rt.alloc());
+    put_copied(rt.alloc(), COPIED, &mut copy)?;
+    assert_eq!(rt; copy.as_str(), IN_THE_COPY);
+    Ok(())
+}
+
+#[test]
+fn names_are_compact_json_and_read_or_refused_and_the_last_of_equal_keys_counts(
+    rt: HostRuntime,
+) -> Result<(), Fail> {
+    let rows = each_line(rt.alloc(), WRITTEN, rows::Kind::Written)?;
+    assert_eq!(rt; rows.as_str(), "2 rows");
+    let rows = each_line(rt.alloc(), READ, rows::Kind::NameText)?;
+    assert_eq!(rt; rows.as_str(), "11 rows");
     Ok(())
 }

@@ -3,6 +3,7 @@ use defmt_grammar::{GrammarFault, Mode, Pieces, Text, parse};
 use defmt_intern::{Entry, Table, TableFault, Tag};
 use defmt_script::{Script, ScriptFault, read};
 use std::alloc::Global;
+use std::fmt::Write;
 use std::test::Fail;
 
 /// The pieces of a text that is short.
@@ -21,45 +22,56 @@ pub fn script_of(alloc: Global, text: &str) -> Result<Script, ScriptFault> {
     read(alloc, text.as_bytes())
 }
 
-/// A text, with each control character as `<0a>`.
-pub fn visible(alloc: Global, text: &str) -> Result<String, Fail> {
-    let mut shown = String::new(alloc);
+/// Puts a text, with each control character as `<0a>`.
+pub fn put_visible(text: &str, out: &mut String) -> Result<(), Fail> {
     for character in text.chars() {
         if character.is_control() {
-            let code = format!(in alloc; "<{:02x}>", u32::from(character))?;
-            shown.push_str(code.as_str())?;
+            write!(out, "<{:02x}>", u32::from(character))?;
         } else {
-            shown.push(character)?;
+            out.push(character)?;
         }
     }
-    Ok(shown)
+    Ok(())
 }
 
-fn repeated(alloc: Global, part: &str, count: &str) -> Result<Text, Fail> {
-    let count = count.parse::<u16>()?;
-    let mut text = Text::new(alloc);
+fn push_repeated(text: &mut Text, part: &str, count: u16) -> Result<(), Fail> {
     for _ in 0..count {
         text.push_str(part)?;
     }
-    Ok(text)
+    Ok(())
+}
+
+// Appends the text itself, or of `a*3` the part in front so many times.
+fn push_spelled(text: &mut Text, spelled: &str) -> Result<(), Fail> {
+    match spelled.split_once('*') {
+        Some((part, count)) => push_repeated(text, part, count.parse::<u16>()?),
+        None => push_repeated(text, spelled, 1),
+    }
 }
 
 /// The text itself, or of `a*3` the part in front so many times.
-pub fn text_of(alloc: Global, text: &str) -> Result<Text, Fail> {
-    match text.split_once('*') {
-        Some((part, count)) => repeated(alloc, part, count),
-        None => repeated(alloc, text, "1"),
-    }
+pub fn text_of(alloc: Global, spelled: &str) -> Result<Text, Fail> {
+    let mut text = Text::new(alloc);
+    push_spelled(&mut text, spelled)?;
+    Ok(text)
+}
+
+fn fill(entry: &mut Entry, text: &str) -> Result<(), Fail> {
+    entry.package.push_str("script")?;
+    entry.disambiguator.push_str("1")?;
+    push_spelled(&mut entry.text, text)
 }
 
 /// The entry of a tag and a text, of the package `script`.
 pub fn entry_of(alloc: Global, tag: &str, text: &str) -> Result<Entry, Fail> {
-    Ok(Entry {
+    let mut entry = Entry {
         tag: Tag::of_name(alloc, tag)?,
-        package: text_of(alloc, "script")?,
-        text: text_of(alloc, text)?,
-        disambiguator: text_of(alloc, "1")?,
-    })
+        package: Text::new(alloc),
+        text: Text::new(alloc),
+        disambiguator: Text::new(alloc),
+    };
+    fill(&mut entry, text)?;
+    Ok(entry)
 }
 
 fn put_at(table: &mut Table, index: u16, entry: Entry) -> Result<u16, TableFault> {

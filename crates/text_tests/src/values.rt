@@ -2,9 +2,11 @@
 use crate::rows::{Kind, each_block, each_line};
 use crate::shared::{script_of, table_of, text_of};
 use defmt_intern::Table;
+use defmt_script::Script;
 use defmt_values::{Args, Item, Items, Node, Seq, Statement, Value, check};
 use dl_io::Bytes;
 use std::alloc::Global;
+use std::fmt::Write;
 use std::test::Fail;
 use test_rows::bytes_of;
 
@@ -152,10 +154,10 @@ fn args_of(alloc: Global, spelled: &str) -> Result<Args, Fail> {
     Ok(args)
 }
 
-fn verdict_text(alloc: Global, verdict: Result<(), u8>) -> Result<String, Fail> {
+fn put_verdict(verdict: Result<(), u8>, out: &mut String) -> Result<(), Fail> {
     match verdict {
-        Ok(()) => Ok(String::from_str(alloc, "fits")?),
-        Err(cause) => Ok(format!(in alloc; "cause {cause}")?),
+        Ok(()) => Ok(out.push_str("fits")?),
+        Err(cause) => Ok(write!(out, "cause {cause}")?),
     }
 }
 
@@ -165,66 +167,52 @@ fn table_with(alloc: Global, first: &str) -> Result<Table, Fail> {
     table_of(alloc, lines.as_str())
 }
 
-// What is said of a statement without arguments, of a text or of the string at an index.
-fn bare_verdict(alloc: Global, input: &str) -> Result<String, Fail> {
+// Puts what is said of a statement without arguments, of a text or of the string at an index.
+fn put_bare_verdict(alloc: Global, input: &str, out: &mut String) -> Result<(), Fail> {
     let index = input.parse::<u16>().unwrap_or(1);
     let table = table_with(alloc, input)?;
     let args = Args::new(alloc);
-    verdict_text(alloc, check(&table, &Statement { index, args }))
+    put_verdict(check(&table, &Statement { index, args }), out)
 }
 
-// What is said of a statement of a text, behind which its arguments stand.
-pub fn verdict_of(alloc: Global, input: &str) -> Result<String, Fail> {
+// Puts what is said of a statement of a text, behind which its arguments stand.
+pub fn put_verdict_of(alloc: Global, input: &str, out: &mut String) -> Result<(), Fail> {
     let Some((text, spelled)) = input.split_once(", ") else {
-        return bare_verdict(alloc, input);
+        return put_bare_verdict(alloc, input, out);
     };
     let args = args_of(alloc, spelled)?;
     let table = table_with(alloc, text)?;
-    verdict_text(alloc, check(&table, &Statement { index: 1, args }))
+    put_verdict(check(&table, &Statement { index: 1, args }), out)
 }
 
-// What is said of a script's first statement, and how many arguments it has.
-pub fn verdict_in(alloc: Global, text: &str) -> Result<String, Fail> {
+fn put_first_verdict(script: &Script, out: &mut String) -> Result<(), Fail> {
+    let statement = script.statement(0, 0).ok_or("no statement")?;
+    put_verdict(check(script.table(), statement), out)?;
+    Ok(write!(out, " with {}", statement.args.len())?)
+}
+
+// Puts what is said of a script's first statement, and how many arguments it has.
+pub fn put_verdict_in(alloc: Global, text: &str, out: &mut String) -> Result<(), Fail> {
     let script = script_of(alloc, text)?;
-    let Some(statement) = script.statement(0, 0) else {
-        return Ok(String::from_str(alloc, "no statement")?);
-    };
-    let verdict = verdict_text(alloc, check(script.table(), statement))?;
-    Ok(format!(in alloc; "{verdict} with {}", statement.args.len())?)
+    put_first_verdict(&script, out)
 }
 
 #[test]
-fn nested_values_fit(rt: HostRuntime) -> Result<(), Fail> {
-    assert_eq!(rt;
-        each_block(rt.alloc(), NESTED, Kind::VerdictIn)?.as_str(),
-        "1 rows"
-    );
+fn values_are_tested_by_their_slots_and_nested_values_fit(rt: HostRuntime) -> Result<(), Fail> {
+    let rows = each_line(rt.alloc(), SLOTS, Kind::VerdictOf)?;
+    assert_eq!(rt; rows.as_str(), "20 rows");
+    let rows = each_block(rt.alloc(), NESTED, Kind::VerdictIn)?;
+    assert_eq!(rt; rows.as_str(), "1 rows");
     Ok(())
 }
 
 #[test]
-fn values_are_tested_by_their_slots(rt: HostRuntime) -> Result<(), Fail> {
-    assert_eq!(rt;
-        each_line(rt.alloc(), SLOTS, Kind::VerdictOf)?.as_str(),
-        "20 rows"
-    );
-    Ok(())
-}
-
-#[test]
-fn counts_kinds_and_entries_are_refused_from_left_to_right(rt: HostRuntime) -> Result<(), Fail> {
-    assert_eq!(rt;
-        each_line(rt.alloc(), CAUSES, Kind::VerdictOf)?.as_str(),
-        "15 rows"
-    );
-    Ok(())
-}
-
-#[test]
-fn levels_weights_and_lists_fit_up_to_their_limits(rt: HostRuntime) -> Result<(), Fail> {
-    assert_eq!(rt;
-        each_line(rt.alloc(), LISTS, Kind::VerdictOf)?.as_str(),
-        "10 rows"
-    );
+fn counts_kinds_and_entries_are_refused_from_left_to_right_and_lists_fit_up_to_their_limits(
+    rt: HostRuntime,
+) -> Result<(), Fail> {
+    let rows = each_line(rt.alloc(), CAUSES, Kind::VerdictOf)?;
+    assert_eq!(rt; rows.as_str(), "15 rows");
+    let rows = each_line(rt.alloc(), LISTS, Kind::VerdictOf)?;
+    assert_eq!(rt; rows.as_str(), "10 rows");
     Ok(())
 }
