@@ -1,8 +1,9 @@
 // Codes: what messages are written as, and what pieces stand for.
 use crate::rows::{Kind, each_line};
-use crate::runs::{bytes_of, words_of};
+use crate::runs::{bytes_of, put_words};
 use rzcobs_core::{bound, decode, encode};
 use std::alloc::Global;
+use std::fmt::Write;
 use std::test::Fail;
 
 // A message, and its code.
@@ -51,85 +52,70 @@ const BOUNDS: &str = "\
 8 = 10
 2000 = 2286";
 
-fn code_of(alloc: Global, message: &[u8]) -> Result<Vec<u8>, Fail> {
+fn put_code(message: &[u8], out: &mut String) -> Result<(), Fail> {
     if message.len() > 2000 {
         return Err("long".into());
     }
-    let mut out = vec![in alloc; 9u8; bound(message.len())]?;
-    let size = encode(message, &mut out);
-    out.truncate(size);
-    Ok(out)
+    let mut code = [9u8; 2286];
+    let size = encode(message, &mut code);
+    put_words(out, &code[..size])
 }
 
-fn read_piece(alloc: Global, piece: &[u8]) -> Result<String, Fail> {
+fn put_piece(alloc: Global, piece: &[u8], out: &mut String) -> Result<(), Fail> {
     if piece.len() > 65536 {
         return Err("long".into());
     }
-    let mut out = vec![in alloc; 9u8; 7 * piece.len()]?;
-    match decode(piece, &mut out) {
-        Ok(size) => {
-            out.truncate(size);
-            words_of(alloc, &out)
-        }
-        Err(_) => Ok(String::from_str(alloc, "malformed")?),
+    let mut room = vec![in alloc; 9u8; 7 * piece.len()]?;
+    match decode(piece, &mut room) {
+        Ok(size) => put_words(out, &room[..size]),
+        Err(_) => Ok(out.push_str("malformed")?),
     }
 }
 
-pub fn encoded(alloc: Global, words: &str) -> Result<String, Fail> {
-    let message = bytes_of(alloc, words)?;
-    let code = code_of(alloc, &message)?;
-    words_of(alloc, &code)
+fn put_back(alloc: Global, message: &[u8], out: &mut String) -> Result<(), Fail> {
+    if message.len() > 2000 {
+        return Err("long".into());
+    }
+    let mut code = [9u8; 2286];
+    let size = encode(message, &mut code);
+    put_piece(alloc, &code[..size], out)
 }
 
-pub fn decoded(alloc: Global, words: &str) -> Result<String, Fail> {
+pub fn put_encoded(alloc: Global, words: &str, out: &mut String) -> Result<(), Fail> {
+    let message = bytes_of(alloc, words)?;
+    put_code(&message, out)
+}
+
+pub fn put_decoded(alloc: Global, words: &str, out: &mut String) -> Result<(), Fail> {
     let piece = bytes_of(alloc, words)?;
-    read_piece(alloc, &piece)
+    put_piece(alloc, &piece, out)
 }
 
-pub fn back_again(alloc: Global, words: &str) -> Result<String, Fail> {
+pub fn put_back_again(alloc: Global, words: &str, out: &mut String) -> Result<(), Fail> {
     let message = bytes_of(alloc, words)?;
-    let code = code_of(alloc, &message)?;
-    read_piece(alloc, &code)
+    put_back(alloc, &message, out)
 }
 
-pub fn bound_of(alloc: Global, count: &str) -> Result<String, Fail> {
+pub fn put_bound_of(count: &str, out: &mut String) -> Result<(), Fail> {
     let count = count.parse::<u16>()?;
-    Ok(format!(in alloc; "{}", bound(usize::from(count)))?)
+    Ok(write!(out, "{}", bound(usize::from(count)))?)
 }
 
 #[test]
-fn messages_have_their_codes(rt: HostRuntime) -> Result<(), Fail> {
-    assert_eq!(rt;
-        each_line(rt.alloc(), CODES, Kind::Encoded)?.as_str(),
-        "8 rows"
-    );
+fn messages_have_their_codes_within_the_bound(rt: HostRuntime) -> Result<(), Fail> {
+    let rows = each_line(rt.alloc(), CODES, Kind::Encoded)?;
+    assert_eq!(rt; rows.as_str(), "8 rows");
+    let rows = each_line(rt.alloc(), BOUNDS, Kind::BoundOf)?;
+    assert_eq!(rt; rows.as_str(), "5 rows");
     Ok(())
 }
 
 #[test]
 fn pieces_stand_for_bytes_or_are_malformed(rt: HostRuntime) -> Result<(), Fail> {
-    assert_eq!(rt;
-        each_line(rt.alloc(), PIECES, Kind::Decoded)?.as_str(),
-        "15 rows"
-    );
-    Ok(())
-}
-
-#[test]
-fn messages_come_back_at_each_edge(rt: HostRuntime) -> Result<(), Fail> {
-    assert_eq!(rt;
-        each_line(rt.alloc(), EDGES, Kind::BackAgain)?.as_str(),
-        "6 rows"
-    );
-    Ok(())
-}
-
-#[test]
-fn the_bound_is_a_seventh_more(rt: HostRuntime) -> Result<(), Fail> {
-    assert_eq!(rt;
-        each_line(rt.alloc(), BOUNDS, Kind::BoundOf)?.as_str(),
-        "5 rows"
-    );
+    let rows = each_line(rt.alloc(), PIECES, Kind::Decoded)?;
+    assert_eq!(rt; rows.as_str(), "15 rows");
+    let rows = each_line(rt.alloc(), EDGES, Kind::BackAgain)?;
+    assert_eq!(rt; rows.as_str(), "6 rows");
     Ok(())
 }
 
@@ -137,6 +123,8 @@ fn the_bound_is_a_seventh_more(rt: HostRuntime) -> Result<(), Fail> {
 fn what_lies_behind_the_code_is_left(rt: HostRuntime) -> Result<(), Fail> {
     let mut out = [9u8; 12];
     assert_eq!(rt; encode(&[1, 0, 3], &mut out), 3);
-    assert_eq!(rt; words_of(rt.alloc(), &out)?.as_str(), "01 03 7a 09*9");
+    let mut words = String::new(rt.alloc());
+    put_words(&mut words, &out)?;
+    assert_eq!(rt; words.as_str(), "01 03 7a 09*9");
     Ok(())
 }

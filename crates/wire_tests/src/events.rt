@@ -1,8 +1,8 @@
 // The events of streams: lines, faults, and fronts and tails that are cut off.
 use crate::rows::{Kind, each_block, each_line};
-use crate::runs::bytes_of;
-use crate::strings::{push_answer, script_of, table_of};
-use defmt_decode::{Event, Events, Host};
+use crate::runs::{bytes_of, put_count};
+use crate::strings::{end_line, script_of, table_of};
+use defmt_decode::{Event, Host};
 use defmt_grammar::Text;
 use defmt_intern::Table;
 use std::alloc::Global;
@@ -101,191 +101,183 @@ hear 00 01 7e 00
 =
 E4";
 
-// The table of a script's strings.
-fn table_by_script(alloc: Global, text: &str) -> Result<Table, Fail> {
-    let script = script_of(alloc, text)?;
-    Ok(script.table().copy()?)
-}
-
-fn push_line(text: &mut String, index: u16, line: &Text) -> Result<(), Fail> {
+fn put_line(out: &mut String, index: u16, line: &Text) -> Result<(), Fail> {
     if line.len() > 100 {
-        write!(text, "{index}: {} bytes", line.len())?;
-    } else {
-        write!(text, "{index}: {}", line.as_str())?;
+        return Ok(write!(out, "{index}: {} bytes", line.len())?);
     }
-    Ok(())
+    Ok(write!(out, "{index}: {}", line.as_str())?)
 }
 
-fn push_event(text: &mut String, event: &Event) -> Result<(), Fail> {
+fn put_event(out: &mut String, event: &Event) -> Result<(), Fail> {
     match event {
-        Event::Line { index, text: line } => push_line(text, *index, line),
-        Event::Bad { cause } => Ok(write!(text, "E{cause}")?),
-        Event::CutFront { bytes } => Ok(write!(text, "front {bytes}")?),
-        Event::CutTail { bytes } => Ok(write!(text, "tail {bytes}")?),
+        Event::Line { index, text } => put_line(out, *index, text),
+        Event::Bad { cause } => Ok(write!(out, "E{cause}")?),
+        Event::CutFront { bytes } => Ok(write!(out, "front {bytes}")?),
+        Event::CutTail { bytes } => Ok(write!(out, "tail {bytes}")?),
+    }
+}
+
+fn put_behind(out: &mut String, start: usize, event: &Event) -> Result<(), Fail> {
+    if out.len() > start {
+        out.push_str("; ")?;
+    }
+    put_event(out, event)
+}
+
+// Puts what a call tells, behind what those before told from the start on.
+fn put_told(out: &mut String, start: usize, event: Option<Event>) -> Result<(), Fail> {
+    match event {
+        Some(event) => put_behind(out, start, &event),
+        None => Ok(()),
     }
 }
 
 // Feeds all the bytes.
-fn feed_all(host: &mut Host, bytes: &[u8], events: &mut Events) -> Result<(), Fail> {
+fn put_all(host: &mut Host, bytes: &[u8], start: usize, out: &mut String) -> Result<(), Fail> {
     let mut rest = bytes;
     for _ in 0..bytes.len() {
         if rest.is_empty() {
             break;
         }
         let (taken, event) = host.feed(rest)?;
-        if let Some(event) = event {
-            events.push(event)?;
-        }
+        put_told(out, start, event)?;
         let (_, behind) = rest.split_at(taken);
         rest = behind;
     }
     Ok(())
 }
 
+// Puts what the end tells; that nothing was told, where nothing was.
+fn put_end(out: &mut String, start: usize, event: Option<Event>) -> Result<(), Fail> {
+    match event {
+        Some(event) => put_behind(out, start, &event),
+        None if out.len() == start => Ok(out.push_str("nothing")?),
+        None => Ok(()),
+    }
+}
+
 // The events of a stream.
-fn events_of(alloc: Global, table: Table, bytes: &[u8]) -> Result<Events, Fail> {
-    let mut host = Host::new(alloc, table)?;
-    let mut events = Events::new(alloc);
-    feed_all(&mut host, bytes, &mut events)?;
-    if let Some(event) = host.finish() {
-        events.push(event)?;
-    }
-    Ok(events)
+fn put_stream(alloc: Global, table: &Table, bytes: &[u8], out: &mut String) -> Result<(), Fail> {
+    let start = out.len();
+    let mut host = Host::new(alloc, table.copy()?)?;
+    put_all(&mut host, bytes, start, out)?;
+    put_end(out, start, host.finish())
 }
 
-fn said(alloc: Global, events: &Events) -> Result<String, Fail> {
-    let mut text = String::new(alloc);
-    for event in events.as_slice() {
-        if !text.is_empty() {
-            text.push_str("; ")?;
-        }
-        push_event(&mut text, event)?;
-    }
-    if text.is_empty() {
-        text.push_str("nothing")?;
-    }
-    Ok(text)
-}
-
-fn told(alloc: Global, table: Table, bytes: &[u8]) -> Result<String, Fail> {
-    let events = events_of(alloc, table, bytes)?;
-    said(alloc, &events)
-}
-
-fn told_by_hello(alloc: Global, bytes: &[u8]) -> Result<String, Fail> {
-    told(alloc, table_by_script(alloc, HELLO)?, bytes)
-}
-
-pub fn told_of_words(alloc: Global, words: &str) -> Result<String, Fail> {
+fn put_words_told(alloc: Global, table: &Table, words: &str, out: &mut String) -> Result<(), Fail> {
     let bytes = bytes_of(alloc, words)?;
-    told_by_hello(alloc, &bytes)
+    put_stream(alloc, table, &bytes, out)
 }
 
-// What two frames tell that are cut at a place.
-pub fn told_of_both(alloc: Global, place: &str) -> Result<String, Fail> {
+pub fn put_told_of_words(alloc: Global, words: &str, out: &mut String) -> Result<(), Fail> {
+    let script = script_of(alloc, HELLO)?;
+    put_words_told(alloc, script.table(), words, out)
+}
+
+fn put_both(alloc: Global, table: &Table, place: &str, out: &mut String) -> Result<(), Fail> {
     let place = place.parse::<usize>()?;
     let stream = [0u8, 1, 0x7e, 0, 0, 1, 0x7e, 0];
     if place > stream.len() {
         return Err("no place".into());
     }
     let (front, behind) = stream.split_at(place);
-    let start = told_by_hello(alloc, front)?;
-    let rest = told_by_hello(alloc, behind)?;
-    Ok(format!(in alloc; "{start} | {rest}")?)
+    put_stream(alloc, table, front, out)?;
+    out.push_str(" | ")?;
+    put_stream(alloc, table, behind, out)
 }
 
-fn told_of_each(alloc: Global, table: &Table, rows: &str) -> Result<String, Fail> {
-    let mut answers = String::new(alloc);
+// What two frames tell that are cut at a place.
+pub fn put_told_of_both(alloc: Global, place: &str, out: &mut String) -> Result<(), Fail> {
+    let script = script_of(alloc, HELLO)?;
+    put_both(alloc, script.table(), place, out)
+}
+
+fn put_told_of_each(
+    alloc: Global,
+    table: &Table,
+    rows: &str,
+    out: &mut String,
+) -> Result<(), Fail> {
     for words in rows.split("\nhear ") {
-        let bytes = bytes_of(alloc, words)?;
-        let answer = told(alloc, table.copy()?, &bytes)?;
-        push_answer(&mut answers, answer.as_str())?;
+        end_line(out)?;
+        put_words_told(alloc, table, words, out)?;
     }
-    Ok(answers)
+    Ok(())
 }
 
-pub fn told_by_script(alloc: Global, block: &str) -> Result<String, Fail> {
+pub fn put_told_by_script(alloc: Global, block: &str, out: &mut String) -> Result<(), Fail> {
     let Some((strings, rows)) = block.split_once("\nhear ") else {
         return Err("no stream".into());
     };
-    let table = table_by_script(alloc, strings)?;
-    told_of_each(alloc, &table, rows)
+    let script = script_of(alloc, strings)?;
+    put_told_of_each(alloc, script.table(), rows, out)
 }
 
-pub fn told_by_table(alloc: Global, block: &str) -> Result<String, Fail> {
+pub fn put_told_by_table(alloc: Global, block: &str, out: &mut String) -> Result<(), Fail> {
     let Some((strings, rows)) = block.split_once("\nhear ") else {
         return Err("no stream".into());
     };
     let table = table_of(alloc, strings)?;
-    told_of_each(alloc, &table, rows)
+    put_told_of_each(alloc, &table, rows, out)
 }
 
-fn push_told(text: &mut String, event: Option<Event>) -> Result<(), Fail> {
-    match event {
-        Some(event) => push_event(text, &event),
-        None => Ok(text.push_str("nothing")?),
-    }
-}
-
-fn push_call(host: &mut Host, bytes: &[u8], text: &mut String) -> Result<(), Fail> {
+fn put_call(host: &mut Host, bytes: &[u8], out: &mut String) -> Result<(), Fail> {
     let (taken, event) = host.feed(bytes)?;
-    write!(text, "took {taken}: ")?;
-    push_told(text, event)?;
-    text.push_str("; ")?;
-    Ok(())
+    put_taken(out, taken, event)
 }
 
-pub fn calls_of(alloc: Global, stream: &str) -> Result<String, Fail> {
-    let mut host = Host::new(alloc, table_by_script(alloc, HELLO)?)?;
-    let mut text = String::new(alloc);
+fn put_taken(out: &mut String, taken: usize, event: Option<Event>) -> Result<(), Fail> {
+    put_count(out, taken)?;
+    let start = out.len();
+    put_end(out, start, event)?;
+    Ok(out.push_str("; ")?)
+}
+
+fn put_call_of(alloc: Global, host: &mut Host, words: &str, out: &mut String) -> Result<(), Fail> {
+    let bytes = bytes_of(alloc, words)?;
+    put_call(host, &bytes, out)
+}
+
+fn put_calls(alloc: Global, host: &mut Host, stream: &str, out: &mut String) -> Result<(), Fail> {
     for words in stream.split(" | ") {
-        let bytes = bytes_of(alloc, words)?;
-        push_call(&mut host, &bytes, &mut text)?;
+        put_call_of(alloc, host, words, out)?;
     }
-    write!(text, "heard {}: ", host.heard_len())?;
-    push_told(&mut text, host.finish())?;
-    Ok(text)
+    Ok(write!(out, "heard {}: ", host.heard_len())?)
+}
+
+fn put_calls_by(alloc: Global, table: &Table, stream: &str, out: &mut String) -> Result<(), Fail> {
+    let mut host = Host::new(alloc, table.copy()?)?;
+    put_calls(alloc, &mut host, stream, out)?;
+    let start = out.len();
+    put_end(out, start, host.finish())
+}
+
+pub fn put_calls_of(alloc: Global, stream: &str, out: &mut String) -> Result<(), Fail> {
+    let script = script_of(alloc, HELLO)?;
+    put_calls_by(alloc, script.table(), stream, out)
 }
 
 #[test]
 fn parts_and_faults_are_told_in_their_order(rt: HostRuntime) -> Result<(), Fail> {
-    assert_eq!(rt;
-        each_line(rt.alloc(), STREAMS, Kind::ToldOfWords)?.as_str(),
-        "10 rows"
-    );
+    let rows = each_line(rt.alloc(), STREAMS, Kind::ToldOfWords)?;
+    assert_eq!(rt; rows.as_str(), "10 rows");
     Ok(())
 }
 
 #[test]
-fn a_stream_cut_at_any_place_loses_the_frame_that_the_cut_falls_in(
-    rt: HostRuntime,
-) -> Result<(), Fail> {
-    assert_eq!(rt;
-        each_line(rt.alloc(), CUTS, Kind::ToldOfBoth)?.as_str(),
-        "9 rows"
-    );
+fn streams_are_heard_by_calls_and_cut_at_any_place(rt: HostRuntime) -> Result<(), Fail> {
+    let rows = each_line(rt.alloc(), CUTS, Kind::ToldOfBoth)?;
+    assert_eq!(rt; rows.as_str(), "9 rows");
+    let rows = each_line(rt.alloc(), CALLS, Kind::EventCallsOf)?;
+    assert_eq!(rt; rows.as_str(), "1 rows");
     Ok(())
 }
 
 #[test]
-fn a_call_takes_bytes_up_to_and_with_the_zero(rt: HostRuntime) -> Result<(), Fail> {
-    assert_eq!(rt;
-        each_line(rt.alloc(), CALLS, Kind::EventCallsOf)?.as_str(),
-        "1 rows"
-    );
-    Ok(())
-}
-
-#[test]
-fn strings_of_scripts_have_lines_and_faults(rt: HostRuntime) -> Result<(), Fail> {
-    let told = each_block(rt.alloc(), BY_SCRIPTS, Kind::ToldByScript)?;
-    assert_eq!(rt; told.as_str(), "8 rows");
-    Ok(())
-}
-
-#[test]
-fn strings_that_no_script_has_are_faults(rt: HostRuntime) -> Result<(), Fail> {
-    let told = each_block(rt.alloc(), BY_TABLES, Kind::ToldByTable)?;
-    assert_eq!(rt; told.as_str(), "2 rows");
+fn strings_of_scripts_and_others_have_lines_and_faults(rt: HostRuntime) -> Result<(), Fail> {
+    let rows = each_block(rt.alloc(), BY_SCRIPTS, Kind::ToldByScript)?;
+    assert_eq!(rt; rows.as_str(), "8 rows");
+    let rows = each_block(rt.alloc(), BY_TABLES, Kind::ToldByTable)?;
+    assert_eq!(rt; rows.as_str(), "2 rows");
     Ok(())
 }

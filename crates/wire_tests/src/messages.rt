@@ -1,8 +1,9 @@
 // Messages and frames of the statements of scripts, what messages are read as, and each cause for which bytes are none.
 use crate::rows::{Kind, each_block, each_line};
-use crate::runs::{bytes_of, words_of};
-use crate::strings::{push_answer, script_of, table_of};
+use crate::runs::{bytes_of, put_words};
+use crate::strings::{end_line, script_of, table_of};
 use defmt_encode::{Heard, ReadCause, frame, is_long, message, read_message};
+use defmt_grammar::Text;
 use defmt_intern::Table;
 use defmt_script::Script;
 use defmt_spelling::{Names, print_args, read_args};
@@ -156,111 +157,126 @@ const LONG: &str = "\
 1995 = long true first 9
 1994 = size 2000 long false first 1";
 
-// The message of a statement.
-fn message_of(
-    alloc: Global,
-    table: &Table,
-    stamp: Option<u64>,
-    stm: &Statement,
-) -> Result<Vec<u8>, Fail> {
-    let mut out = vec![in alloc; 0u8; 2000]?;
-    let count = message(table, stamp, stm, &mut out).map_err(|_| "long")?;
-    out.truncate(count);
-    Ok(out)
-}
-
-fn frame_of(alloc: Global, message: &[u8]) -> Result<Vec<u8>, Fail> {
+// The frame of a message.
+fn put_frame(message: &[u8], out: &mut String) -> Result<(), Fail> {
     if message.len() > 2000 {
         return Err("long".into());
     }
-    let mut out = vec![in alloc; 9u8; 2288]?;
-    let count = frame(message, &mut out);
-    out.truncate(count);
-    Ok(out)
+    let mut framed = [9u8; 2288];
+    let count = frame(message, &mut framed);
+    if count > 2288 {
+        return Err("beyond the buffer".into());
+    }
+    put_words(out, &framed[..count])
 }
 
-fn push_stamp(text: &mut String, stamp: &Args) -> Result<(), Fail> {
+fn put_stamp(out: &mut String, stamp: &Args) -> Result<(), Fail> {
     for value in stamp.as_slice() {
         match value {
-            Value::Uint(stamp) => write!(text, " at {stamp}")?,
-            _ => text.push_str(" at another")?,
+            Value::Uint(stamp) => write!(out, " at {stamp}")?,
+            _ => out.push_str(" at another")?,
         }
     }
     Ok(())
 }
 
-// The index, the arguments as they are spelled, and the stamp.
-fn spelled(alloc: Global, names: &Names, table: &Table, heard: &Heard) -> Result<String, Fail> {
-    let args = print_args(alloc, names, table, &heard.stm)?;
-    let mut text = format!(in alloc; "{}", heard.stm.index)?;
-    if args.len() > 100 {
-        write!(text, " {} bytes", args.len())?;
-    } else if args.len() > 0 {
-        write!(text, " {}", args.as_str())?;
+fn put_text(out: &mut String, text: &Text) -> Result<(), Fail> {
+    if text.len() > 100 {
+        return Ok(write!(out, " {} bytes", text.len())?);
     }
-    push_stamp(&mut text, &heard.stamp)?;
-    Ok(text)
+    if text.len() > 0 {
+        out.push(' ')?;
+    }
+    Ok(out.push_str(text.as_str())?)
 }
 
-fn cause_text(alloc: Global, cause: ReadCause) -> Result<String, Fail> {
+fn put_args(
+    alloc: Global,
+    names: &Names,
+    table: &Table,
+    stm: &Statement,
+    out: &mut String,
+) -> Result<(), Fail> {
+    let args = print_args(alloc, names, table, stm)?;
+    put_text(out, &args)
+}
+
+// The index, the arguments as they are spelled, and the stamp.
+fn put_spelled(
+    alloc: Global,
+    names: &Names,
+    table: &Table,
+    heard: &Heard,
+    out: &mut String,
+) -> Result<(), Fail> {
+    write!(out, "{}", heard.stm.index)?;
+    put_args(alloc, names, table, &heard.stm, out)?;
+    put_stamp(out, &heard.stamp)
+}
+
+fn put_cause(out: &mut String, cause: ReadCause) -> Result<(), Fail> {
     match cause {
-        ReadCause::Bad { cause } => Ok(format!(in alloc; "cause {cause}")?),
-        ReadCause::Memory => Ok(String::from_str(alloc, "memory")?),
+        ReadCause::Bad { cause } => Ok(write!(out, "cause {cause}")?),
+        ReadCause::Memory => Ok(out.push_str("memory")?),
+    }
+}
+
+fn put_read(
+    alloc: Global,
+    names: &Names,
+    table: &Table,
+    bytes: &[u8],
+    out: &mut String,
+) -> Result<(), Fail> {
+    if bytes.len() > 2000 {
+        return Err("long".into());
+    }
+    match read_message(alloc, table, bytes) {
+        Ok(heard) => put_spelled(alloc, names, table, &heard, out),
+        Err(cause) => put_cause(out, cause),
     }
 }
 
 // What a message is read as.
-fn read_as(alloc: Global, names: &Names, table: &Table, words: &str) -> Result<String, Fail> {
+fn put_read_as(
+    alloc: Global,
+    names: &Names,
+    table: &Table,
+    words: &str,
+    out: &mut String,
+) -> Result<(), Fail> {
     let bytes = bytes_of(alloc, words)?;
-    if bytes.len() > 2000 {
-        return Err("long".into());
-    }
-    match read_message(alloc, table, &bytes) {
-        Ok(heard) => spelled(alloc, names, table, &heard),
-        Err(cause) => cause_text(alloc, cause),
-    }
+    put_read(alloc, names, table, &bytes, out)
 }
 
-fn read_each(alloc: Global, names: &Names, table: &Table, rows: &str) -> Result<String, Fail> {
-    let mut answers = String::new(alloc);
+fn put_read_each(
+    alloc: Global,
+    names: &Names,
+    table: &Table,
+    rows: &str,
+    out: &mut String,
+) -> Result<(), Fail> {
     for words in rows.split("\nread ") {
-        let answer = read_as(alloc, names, table, words)?;
-        push_answer(&mut answers, answer.as_str())?;
+        end_line(out)?;
+        put_read_as(alloc, names, table, words, out)?;
     }
-    Ok(answers)
+    Ok(())
 }
 
-pub fn read_by_script(alloc: Global, block: &str) -> Result<String, Fail> {
+pub fn put_read_by_script(alloc: Global, block: &str, out: &mut String) -> Result<(), Fail> {
     let Some((strings, rows)) = block.split_once("\nread ") else {
         return Err("no message".into());
     };
     let script = script_of(alloc, strings)?;
-    read_each(alloc, script.names(), script.table(), rows)
+    put_read_each(alloc, script.names(), script.table(), rows, out)
 }
 
-pub fn read_by_table(alloc: Global, block: &str) -> Result<String, Fail> {
+pub fn put_read_by_table(alloc: Global, block: &str, out: &mut String) -> Result<(), Fail> {
     let Some((strings, rows)) = block.split_once("\nread ") else {
         return Err("no message".into());
     };
     let table = table_of(alloc, strings)?;
-    read_each(alloc, &Names::new(alloc), &table, rows)
-}
-
-// What the message reads as, where the message of that is the same.
-fn again(alloc: Global, script: &Script, bytes: &[u8]) -> Result<String, Fail> {
-    if bytes.len() > 2000 {
-        return Err("long".into());
-    }
-    let heard = match read_message(alloc, script.table(), bytes) {
-        Ok(heard) => heard,
-        Err(cause) => return cause_text(alloc, cause),
-    };
-    let back = message_of(alloc, script.table(), first_stamp(script), &heard.stm)?;
-    if back.as_slice() == bytes {
-        spelled(alloc, script.names(), script.table(), &heard)
-    } else {
-        words_of(alloc, &back)
-    }
+    put_read_each(alloc, &Names::new(alloc), &table, rows, out)
 }
 
 fn first_stamp(script: &Script) -> Option<u64> {
@@ -270,108 +286,135 @@ fn first_stamp(script: &Script) -> Option<u64> {
     }
 }
 
-fn message_by_script(alloc: Global, script: &Script) -> Result<Vec<u8>, Fail> {
+// What was heard, where its message is the same.
+fn put_same(
+    alloc: Global,
+    script: &Script,
+    heard: &Heard,
+    bytes: &[u8],
+    out: &mut String,
+) -> Result<(), Fail> {
+    let mut buffer = [0u8; 2000];
+    let count = match message(script.table(), first_stamp(script), &heard.stm, &mut buffer) {
+        Ok(count) if count <= 2000 => count,
+        _ => return Err("long".into()),
+    };
+    let back = &buffer[..count];
+    if back != bytes {
+        return put_words(out, back);
+    }
+    put_spelled(alloc, script.names(), script.table(), heard, out)
+}
+
+// What the message reads as.
+fn put_again(alloc: Global, script: &Script, bytes: &[u8], out: &mut String) -> Result<(), Fail> {
+    if bytes.len() > 2000 {
+        return Err("long".into());
+    }
+    match read_message(alloc, script.table(), bytes) {
+        Ok(heard) => put_same(alloc, script, &heard, bytes, out),
+        Err(cause) => put_cause(out, cause),
+    }
+}
+
+fn put_carried(
+    alloc: Global,
+    script: &Script,
+    message: &[u8],
+    out: &mut String,
+) -> Result<(), Fail> {
+    put_words(out, message)?;
+    end_line(out)?;
+    put_frame(message, out)?;
+    end_line(out)?;
+    put_again(alloc, script, message, out)
+}
+
+fn put_statement(
+    alloc: Global,
+    script: &Script,
+    stm: &Statement,
+    out: &mut String,
+) -> Result<(), Fail> {
+    let mut bytes = [0u8; 2000];
+    match message(script.table(), first_stamp(script), stm, &mut bytes) {
+        Ok(count) if count <= 2000 => put_carried(alloc, script, &bytes[..count], out),
+        _ => Err("long".into()),
+    }
+}
+
+fn put_first(alloc: Global, script: &Script, out: &mut String) -> Result<(), Fail> {
     match script.statement(0, 0) {
-        Some(stm) => message_of(alloc, script.table(), first_stamp(script), stm),
+        Some(stm) => put_statement(alloc, script, stm, out),
         None => Err("no statement".into()),
     }
 }
 
-fn push_frame(alloc: Global, answers: &mut String, message: &[u8]) -> Result<(), Fail> {
-    let frame = frame_of(alloc, message)?;
-    let words = words_of(alloc, &frame)?;
-    push_answer(answers, words.as_str())
-}
-
-fn push_again(
-    alloc: Global,
-    answers: &mut String,
-    script: &Script,
-    message: &[u8],
-) -> Result<(), Fail> {
-    let read = again(alloc, script, message)?;
-    push_answer(answers, read.as_str())
-}
-
-fn carried(alloc: Global, script: &Script, message: &[u8]) -> Result<String, Fail> {
-    let mut answers = words_of(alloc, message)?;
-    push_frame(alloc, &mut answers, message)?;
-    push_again(alloc, &mut answers, script, message)?;
-    Ok(answers)
-}
-
-pub fn sent(alloc: Global, text: &str) -> Result<String, Fail> {
+pub fn put_sent(alloc: Global, text: &str, out: &mut String) -> Result<(), Fail> {
     let script = script_of(alloc, text)?;
-    let message = message_by_script(alloc, &script)?;
-    carried(alloc, &script, &message)
+    put_first(alloc, &script, out)
 }
 
-fn letters_of(alloc: Global, count: u16) -> Result<String, Fail> {
-    let mut text = String::from_str(alloc, "\"")?;
+fn put_letters(out: &mut String, count: u16) -> Result<(), Fail> {
+    out.push('"')?;
     for _ in 0..count {
-        text.push('a')?;
+        out.push('a')?;
     }
-    text.push('"')?;
+    Ok(out.push('"')?)
+}
+
+fn letters_of(alloc: Global, count: &str) -> Result<String, Fail> {
+    let count = count.parse::<u16>()?;
+    let mut text = String::new(alloc);
+    put_letters(&mut text, count)?;
     Ok(text)
 }
 
 // A statement with a text of so many letters.
 fn statement_of(alloc: Global, script: &Script, count: &str) -> Result<Statement, Fail> {
-    let text = letters_of(alloc, count.parse()?)?;
+    let text = letters_of(alloc, count)?;
     let args = read_args(alloc, script.names(), script.table(), 1, text.as_str())?;
     Ok(Statement { index: 1, args })
 }
 
-fn written(alloc: Global, table: &Table, stm: &Statement) -> Result<String, Fail> {
-    let mut out = vec![in alloc; 9u8; 2000]?;
-    let mut text = String::new(alloc);
-    if let Ok(count) = message(table, None, stm, &mut out) {
-        write!(text, "size {count} ")?;
+fn put_written(table: &Table, stm: &Statement, out: &mut String) -> Result<(), Fail> {
+    let mut bytes = [9u8; 2000];
+    if let Ok(count) = message(table, None, stm, &mut bytes) {
+        write!(out, "size {count} ")?;
     }
-    let first = out.first().copied();
-    write!(
-        text,
-        "long {} first {}",
-        is_long(table, None, stm),
-        first.unwrap_or(0)
-    )?;
-    Ok(text)
+    let first = bytes[0];
+    Ok(write!(out, "long {} first {first}", is_long(table, None, stm))?)
 }
 
-pub fn written_of_letters(alloc: Global, count: &str) -> Result<String, Fail> {
+fn put_written_by(
+    alloc: Global,
+    script: &Script,
+    count: &str,
+    out: &mut String,
+) -> Result<(), Fail> {
+    let stm = statement_of(alloc, script, count)?;
+    put_written(script.table(), &stm, out)
+}
+
+pub fn put_written_of_letters(alloc: Global, count: &str, out: &mut String) -> Result<(), Fail> {
     let script = script_of(alloc, "s say defmt_info {=str}")?;
-    let stm = statement_of(alloc, &script, count)?;
-    written(alloc, script.table(), &stm)
+    put_written_by(alloc, &script, count, out)
 }
 
 #[test]
 fn statements_have_messages_and_frames_and_are_read_again(rt: HostRuntime) -> Result<(), Fail> {
-    assert_eq!(rt;
-        each_block(rt.alloc(), SENT, Kind::Sent)?.as_str(),
-        "7 rows"
-    );
+    let rows = each_block(rt.alloc(), SENT, Kind::Sent)?;
+    assert_eq!(rt; rows.as_str(), "7 rows");
+    let rows = each_line(rt.alloc(), LONG, Kind::WrittenOfLetters)?;
+    assert_eq!(rt; rows.as_str(), "2 rows");
     Ok(())
 }
 
 #[test]
 fn messages_are_read_or_refused_with_their_causes(rt: HostRuntime) -> Result<(), Fail> {
-    assert_eq!(rt;
-        each_block(rt.alloc(), READ, Kind::ReadByScript)?.as_str(),
-        "8 rows"
-    );
-    Ok(())
-}
-
-#[test]
-fn strings_that_no_script_has_are_refused(rt: HostRuntime) -> Result<(), Fail> {
-    let told = each_block(rt.alloc(), READ_BY_TABLES, Kind::ReadByTable)?;
-    assert_eq!(rt; told.as_str(), "2 rows");
-    Ok(())
-}
-
-#[test]
-fn more_than_2000_bytes_are_long(rt: HostRuntime) -> Result<(), Fail> {
-    let told = each_line(rt.alloc(), LONG, Kind::WrittenOfLetters)?;
-    assert_eq!(rt; told.as_str(), "2 rows");
+    let rows = each_block(rt.alloc(), READ, Kind::ReadByScript)?;
+    assert_eq!(rt; rows.as_str(), "8 rows");
+    let rows = each_block(rt.alloc(), READ_BY_TABLES, Kind::ReadByTable)?;
+    assert_eq!(rt; rows.as_str(), "2 rows");
     Ok(())
 }

@@ -3,7 +3,7 @@ ghost use Rattle.std.specs.Prelude.{length};
 ghost use Rattle.wire_tests.specs.declared.parts.Part.TheVariants.{Front, Piece, Long, Tail};
 
 use crate::rows::{Kind, each_line};
-use crate::runs::{bytes_of, words_of};
+use crate::runs::{bytes_of, put_count, put_words};
 use defmt_framing::{Framer, Teller, decode_piece};
 use dl_io::Memory;
 use std::alloc::Global;
@@ -68,139 +68,164 @@ const PIECES: &str = "\
 01 7e = 01 00 00 00 00 00 00
 01 = none";
 
-fn push_part(text: &mut String, part: Option<Part>) -> Result<(), Fail> {
+fn put_part(out: &mut String, part: Option<Part>) -> Result<(), Fail> {
     match part {
-        Some(Part::Front(bytes)) => write!(text, "front {bytes}")?,
-        Some(Part::Piece(bytes)) => write!(text, "piece {bytes}")?,
-        Some(Part::Long) => text.push_str("long")?,
-        Some(Part::Tail(bytes)) => write!(text, "tail {bytes}")?,
-        None => text.push_str("nothing")?,
+        Some(Part::Front(bytes)) => Ok(write!(out, "front {bytes}")?),
+        Some(Part::Piece(bytes)) => Ok(write!(out, "piece {bytes}")?),
+        Some(Part::Long) => Ok(out.push_str("long")?),
+        Some(Part::Tail(bytes)) => Ok(write!(out, "tail {bytes}")?),
+        None => Ok(out.push_str("nothing")?),
     }
-    Ok(())
 }
 
-fn push_told(text: &mut String, part: Option<Part>) -> Result<(), Fail> {
+// Puts what a call tells, behind what those before told from the start on.
+fn put_told(out: &mut String, start: usize, part: Option<Part>) -> Result<(), Fail> {
     if part.is_none() {
         return Ok(());
     }
-    if !text.is_empty() {
-        text.push_str(", ")?;
+    if out.len() > start {
+        out.push_str(", ")?;
     }
-    push_part(text, part)
+    put_part(out, part)
 }
 
-// Feeds all the bytes, and appends what they tell.
-fn feed_all(framer: &mut Framer, bytes: &[u8], told: &mut String) -> Result<(), Fail> {
+// Feeds all the bytes, and puts what they tell.
+fn put_all(framer: &mut Framer, bytes: &[u8], start: usize, out: &mut String) -> Result<(), Fail> {
     let mut rest = bytes;
     for _ in 0..bytes.len() {
         if rest.is_empty() {
             break;
         }
         let (taken, part) = framer.feed(&mut Sizes, rest)?;
-        push_told(told, part)?;
+        put_told(out, start, part)?;
         let (_, behind) = rest.split_at(taken);
         rest = behind;
     }
     Ok(())
 }
 
-// What a stream tells that is fed in two parts.
-fn told_in_two(alloc: Global, first: &[u8], second: &[u8]) -> Result<String, Fail> {
-    let mut framer = Framer::new(alloc);
-    let mut told = String::new(alloc);
-    feed_all(&mut framer, first, &mut told)?;
-    feed_all(&mut framer, second, &mut told)?;
-    push_told(&mut told, framer.finish(&Sizes))?;
-    if told.is_empty() {
-        told.push_str("nothing")?;
+// Puts what the end tells; that nothing was told, where nothing was.
+fn put_end(out: &mut String, start: usize, part: Option<Part>) -> Result<(), Fail> {
+    if out.len() == start {
+        return put_part(out, part);
     }
-    Ok(told)
+    put_told(out, start, part)
 }
 
-pub fn parts_of(alloc: Global, stream: &str) -> Result<String, Fail> {
+// What a stream tells that is fed in two parts.
+fn put_in_two(alloc: Global, first: &[u8], second: &[u8], out: &mut String) -> Result<(), Fail> {
+    let start = out.len();
+    let mut framer = Framer::new(alloc);
+    put_all(&mut framer, first, start, out)?;
+    put_all(&mut framer, second, start, out)?;
+    put_end(out, start, framer.finish(&Sizes))
+}
+
+pub fn put_parts_of(alloc: Global, stream: &str, out: &mut String) -> Result<(), Fail> {
     let (first, second) = stream.split_once(" | ").unwrap_or((stream, "nothing"));
     let first = bytes_of(alloc, first)?;
     let second = bytes_of(alloc, second)?;
-    told_in_two(alloc, &first, &second)
+    put_in_two(alloc, &first, &second, out)
+}
+
+// Whether a stream that is fed in two parts tells this.
+fn tells(alloc: Global, first: &[u8], second: &[u8], due: &str) -> Result<bool, Fail> {
+    let mut told = String::new(alloc);
+    put_in_two(alloc, first, second, &mut told)?;
+    Ok(told.as_str() == due)
+}
+
+// What the stream tells at the first place where it tells not this when it is cut there; this where there is none.
+fn put_cut(alloc: Global, stream: &[u8], whole: &str, out: &mut String) -> Result<(), Fail> {
+    for place in 0..stream.len() {
+        let (first, second) = stream.split_at(place);
+        if !tells(alloc, first, second, whole)? {
+            write!(out, "cut at {place}: ")?;
+            return put_in_two(alloc, first, second, out);
+        }
+    }
+    Ok(out.push_str(whole)?)
+}
+
+fn put_cuts(alloc: Global, stream: &[u8], out: &mut String) -> Result<(), Fail> {
+    let mut whole = String::new(alloc);
+    put_in_two(alloc, stream, &[], &mut whole)?;
+    put_cut(alloc, stream, whole.as_str(), out)
 }
 
 // What the stream tells wherever it is cut in two; what it tells otherwise at the first place where it does.
-fn parts_at_each_cut(alloc: Global, stream: &str) -> Result<String, Fail> {
+fn put_parts_at_each_cut(alloc: Global, stream: &str, out: &mut String) -> Result<(), Fail> {
     let stream = bytes_of(alloc, stream)?;
-    let whole = told_in_two(alloc, &stream, &[])?;
-    for place in 0..stream.len() {
-        let (first, second) = stream.split_at(place);
-        let told = told_in_two(alloc, first, second)?;
-        if told != whole {
-            return Ok(format!(in alloc; "cut at {place}: {told}")?);
-        }
-    }
-    Ok(whole)
+    put_cuts(alloc, &stream, out)
 }
 
-fn push_call(framer: &mut Framer, bytes: &[u8], told: &mut String) -> Result<(), Fail> {
+fn put_call(framer: &mut Framer, bytes: &[u8], out: &mut String) -> Result<(), Fail> {
     let (taken, part) = framer.feed(&mut Sizes, bytes)?;
-    write!(told, "took {taken}: ")?;
-    push_part(told, part)?;
-    told.push_str(", ")?;
-    Ok(())
+    put_count(out, taken)?;
+    put_part(out, part)?;
+    Ok(out.push_str(", ")?)
 }
 
-pub fn calls_of(alloc: Global, stream: &str) -> Result<String, Fail> {
-    let mut framer = Framer::new(alloc);
-    let mut told = String::new(alloc);
+fn put_call_of(
+    alloc: Global,
+    framer: &mut Framer,
+    words: &str,
+    out: &mut String,
+) -> Result<(), Fail> {
+    let bytes = bytes_of(alloc, words)?;
+    put_call(framer, &bytes, out)
+}
+
+fn put_calls(
+    alloc: Global,
+    framer: &mut Framer,
+    stream: &str,
+    out: &mut String,
+) -> Result<(), Fail> {
     for words in stream.split(" | ") {
-        let bytes = bytes_of(alloc, words)?;
-        push_call(&mut framer, &bytes, &mut told)?;
+        put_call_of(alloc, framer, words, out)?;
     }
-    write!(told, "heard {}: ", framer.heard_len())?;
-    push_part(&mut told, framer.finish(&Sizes))?;
-    Ok(told)
+    Ok(write!(out, "heard {}: ", framer.heard_len())?)
 }
 
-pub fn piece_of(alloc: Global, words: &str) -> Result<String, Fail> {
-    let piece = bytes_of(alloc, words)?;
+pub fn put_calls_of(alloc: Global, stream: &str, out: &mut String) -> Result<(), Fail> {
+    let mut framer = Framer::new(alloc);
+    put_calls(alloc, &mut framer, stream, out)?;
+    put_part(out, framer.finish(&Sizes))
+}
+
+fn put_message(piece: &[u8], out: &mut String) -> Result<(), Fail> {
     if piece.len() > 2 {
         return Err("long".into());
     }
-    let mut out = [9u8; 14];
-    match decode_piece(&piece, &mut out) {
-        Some(count) if count <= 14 => words_of(alloc, &out[..count]),
+    let mut room = [9u8; 14];
+    match decode_piece(piece, &mut room) {
+        Some(count) if count <= 14 => put_words(out, &room[..count]),
         Some(_) => Err("beyond the buffer".into()),
-        None => Ok(String::from_str(alloc, "none")?),
+        None => Ok(out.push_str("none")?),
     }
+}
+
+pub fn put_piece_of(alloc: Global, words: &str, out: &mut String) -> Result<(), Fail> {
+    let piece = bytes_of(alloc, words)?;
+    put_message(&piece, out)
 }
 
 #[test]
 fn each_part_is_told_in_its_place(rt: HostRuntime) -> Result<(), Fail> {
-    assert_eq!(rt;
-        each_line(rt.alloc(), STREAMS, Kind::PartsOf)?.as_str(),
-        "7 rows"
-    );
+    let rows = each_line(rt.alloc(), STREAMS, Kind::PartsOf)?;
+    assert_eq!(rt; rows.as_str(), "7 rows");
+    let rows = each_line(rt.alloc(), PIECES, Kind::PieceOf)?;
+    assert_eq!(rt; rows.as_str(), "2 rows");
     Ok(())
 }
 
 #[test]
-fn every_cut_in_two_tells_the_same(rt: HostRuntime) -> Result<(), Fail> {
-    let told = parts_at_each_cut(rt.alloc(), "07 08 00 01 00 00 02 03 04 00 09")?;
+fn calls_and_every_cut_in_two_tell_the_same(rt: HostRuntime) -> Result<(), Fail> {
+    let rows = each_line(rt.alloc(), CALLS, Kind::PartCallsOf)?;
+    assert_eq!(rt; rows.as_str(), "1 rows");
+    let mut told = String::new(rt.alloc());
+    put_parts_at_each_cut(rt.alloc(), "07 08 00 01 00 00 02 03 04 00 09", &mut told)?;
     assert_eq!(rt; told.as_str(), "front 2, piece 1, piece 3, tail 1");
-    Ok(())
-}
-
-#[test]
-fn a_call_takes_bytes_up_to_and_with_the_zero(rt: HostRuntime) -> Result<(), Fail> {
-    assert_eq!(rt;
-        each_line(rt.alloc(), CALLS, Kind::PartCallsOf)?.as_str(),
-        "1 rows"
-    );
-    Ok(())
-}
-
-#[test]
-fn a_piece_gives_back_its_message(rt: HostRuntime) -> Result<(), Fail> {
-    assert_eq!(rt;
-        each_line(rt.alloc(), PIECES, Kind::PieceOf)?.as_str(),
-        "2 rows"
-    );
     Ok(())
 }

@@ -1,9 +1,5 @@
 // The rows of the tests, by what is asked of their inputs.
-use crate::codes::{back_again, bound_of, decoded, encoded};
-use crate::events::{told_by_script, told_by_table, told_of_both, told_of_words};
-use crate::messages::{read_by_script, read_by_table, sent, written_of_letters};
-use crate::parts::{parts_of, piece_of};
-use crate::{events, parts};
+use crate::{codes, events, messages, parts};
 use std::alloc::Global;
 use std::test::Fail;
 
@@ -28,33 +24,37 @@ pub enum Kind {
     PieceOf,
 }
 
-fn answer(alloc: Global, kind: Kind, input: &str) -> Result<String, Fail> {
+fn put_answer(alloc: Global, kind: Kind, input: &str, out: &mut String) -> Result<(), Fail> {
     match kind {
-        Kind::Encoded => encoded(alloc, input),
-        Kind::Decoded => decoded(alloc, input),
-        Kind::BackAgain => back_again(alloc, input),
-        Kind::BoundOf => bound_of(alloc, input),
-        Kind::ToldOfWords => told_of_words(alloc, input),
-        Kind::ToldOfBoth => told_of_both(alloc, input),
-        Kind::EventCallsOf => events::calls_of(alloc, input),
-        Kind::ToldByScript => told_by_script(alloc, input),
-        Kind::ToldByTable => told_by_table(alloc, input),
-        Kind::Sent => sent(alloc, input),
-        Kind::ReadByScript => read_by_script(alloc, input),
-        Kind::ReadByTable => read_by_table(alloc, input),
-        Kind::WrittenOfLetters => written_of_letters(alloc, input),
-        Kind::PartsOf => parts_of(alloc, input),
-        Kind::PartCallsOf => parts::calls_of(alloc, input),
-        Kind::PieceOf => piece_of(alloc, input),
+        Kind::Encoded => codes::put_encoded(alloc, input, out),
+        Kind::Decoded => codes::put_decoded(alloc, input, out),
+        Kind::BackAgain => codes::put_back_again(alloc, input, out),
+        Kind::BoundOf => codes::put_bound_of(input, out),
+        Kind::ToldOfWords => events::put_told_of_words(alloc, input, out),
+        Kind::ToldOfBoth => events::put_told_of_both(alloc, input, out),
+        Kind::EventCallsOf => events::put_calls_of(alloc, input, out),
+        Kind::ToldByScript => events::put_told_by_script(alloc, input, out),
+        Kind::ToldByTable => events::put_told_by_table(alloc, input, out),
+        Kind::Sent => messages::put_sent(alloc, input, out),
+        Kind::ReadByScript => messages::put_read_by_script(alloc, input, out),
+        Kind::ReadByTable => messages::put_read_by_table(alloc, input, out),
+        Kind::WrittenOfLetters => messages::put_written_of_letters(alloc, input, out),
+        Kind::PartsOf => parts::put_parts_of(alloc, input, out),
+        Kind::PartCallsOf => parts::put_calls_of(alloc, input, out),
+        Kind::PieceOf => parts::put_piece_of(alloc, input, out),
     }
 }
 
-/// Asks for the answers of lines, as `test_rows::each_line` does.
+/// Asks for the answers of lines, as `test_rows::ask_lines` does.
 pub fn each_line(alloc: Global, lines: &str, kind: Kind) -> Result<String, Fail> {
-    test_rows::each_line(alloc, lines, |alloc, input| answer(alloc, kind, input))
+    test_rows::ask_lines(alloc, lines, |alloc, input, out| {
+        put_answer(alloc, kind, input, out)
+    })
 }
 
-/// Asks for the answers of blocks, as `test_rows::each_block` does.
+/// Asks for the answers of blocks, as `test_rows::ask_blocks` does.
 pub fn each_block(alloc: Global, blocks: &str, kind: Kind) -> Result<String, Fail> {
-    test_rows::each_block(alloc, blocks, |alloc, input| answer(alloc, kind, input))
+    test_rows::ask_blocks(alloc, blocks, |alloc, input, out| {
+        put_answer(alloc, kind, input, out)
+    })
 }

@@ -1,5 +1,6 @@
 // Bytes as words of two hexadecimal digits, in which a run of one value may be one word, as `01*134`; no bytes are the word `nothing`.
 use std::alloc::Global;
+use std::fmt::Write;
 use std::test::Fail;
 
 pub fn bytes_of(alloc: Global, words: &str) -> Result<Vec<u8>, Fail> {
@@ -21,44 +22,45 @@ fn push_word(bytes: &mut Vec<u8>, word: &str) -> Result<(), Fail> {
     Ok(())
 }
 
-/// The words of these bytes, where more than eight of one value are one word.
-pub fn words_of(alloc: Global, bytes: &[u8]) -> Result<String, Fail> {
-    let mut text = String::new(alloc);
+/// Puts the words of these bytes, where more than eight of one value are one word.
+pub fn put_words(out: &mut String, bytes: &[u8]) -> Result<(), Fail> {
+    let start = out.len();
     let mut last = 0u8;
     let mut count = 0u32;
     for byte in bytes {
         if *byte != last {
-            push_run(&mut text, last, count)?;
+            put_run(out, start, last, count)?;
             count = 0;
         }
         last = *byte;
         count = count.saturating_add(1);
     }
-    push_run(&mut text, last, count)?;
-    if text.is_empty() {
-        text.push_str("nothing")?;
+    put_run(out, start, last, count)?;
+    if out.len() == start {
+        out.push_str("nothing")?;
     }
-    Ok(text)
+    Ok(())
 }
 
-fn push_run(text: &mut String, byte: u8, count: u32) -> Result<(), Fail> {
+fn put_run(out: &mut String, start: usize, byte: u8, count: u32) -> Result<(), Fail> {
     if count > 8 {
-        return push_word_of(text, byte, Some(count));
+        put_pair(out, start, byte)?;
+        return Ok(write!(out, "*{count}")?);
     }
     for _ in 0..count {
-        push_word_of(text, byte, None)?;
+        put_pair(out, start, byte)?;
     }
     Ok(())
 }
 
-fn push_word_of(text: &mut String, byte: u8, count: Option<u32>) -> Result<(), Fail> {
-    use std::fmt::Write;
-    if !text.is_empty() {
-        text.push(' ')?;
+fn put_pair(out: &mut String, start: usize, byte: u8) -> Result<(), Fail> {
+    if out.len() > start {
+        out.push(' ')?;
     }
-    match count {
-        Some(count) => write!(text, "{byte:02x}*{count}")?,
-        None => write!(text, "{byte:02x}")?,
-    }
-    Ok(())
+    Ok(write!(out, "{byte:02x}")?)
+}
+
+/// Puts how many bytes a call took.
+pub fn put_count(out: &mut String, taken: usize) -> Result<(), Fail> {
+    Ok(write!(out, "took {taken}: ")?)
 }

@@ -37,11 +37,10 @@ pub fn table_of(alloc: Global, lines: &str) -> Result<Table, Fail> {
     Ok(table)
 }
 
-/// Appends an answer, behind a newline where one stands before it.
-pub fn push_answer(answers: &mut String, answer: &str) -> Result<(), Fail> {
-    if !answers.is_empty() {
-        answers.push('\n')?;
+/// Puts a newline, where something stands before it.
+pub fn end_line(out: &mut String) -> Result<(), Fail> {
+    if !out.is_empty() {
+        out.push('\n')?;
     }
-    answers.push_str(answer)?;
     Ok(())
 }
