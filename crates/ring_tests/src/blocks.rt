@@ -1,10 +1,11 @@
 //! Images, their blocks and the bytes that wait, and each refusal.
 use crate::rows::{Kind, each_block, each_line};
-use crate::words::{digits_or_nothing, parted, tell};
+use crate::words::{parted, put_digits_or_nothing};
 use rtt_control::{Block, Cause, ControlFault, Descriptor, Descriptors, find, read, unread, write};
 use std::alloc::Global;
+use std::fmt::Write;
 use std::test::Fail;
-use test_rows::{bytes_of, digits_of};
+use test_rows::{bytes_of, put_digits};
 
 // A block with one up-descriptor, and its buffer of 16 bytes in which four wait.
 const IMAGE: &str = "\
@@ -14,24 +15,31 @@ const IMAGE: &str = "\
 
 const BASE: u32 = 0x2000_0000;
 
-fn put_at(image: &mut Vec<u8>, at: usize, bytes: &[u8]) -> Result<(), Fail> {
-    for (k, byte) in bytes.iter().enumerate() {
+fn put_at(image: &mut Vec<u8>, at: usize, digits: &str) -> Result<(), Fail> {
+    for (k, pair) in digits.split_whitespace().enumerate() {
         match image.get_mut(at.wrapping_add(k)) {
-            Some(place) => *place = *byte,
+            Some(place) => *place = u8::from_str_radix(pair, 16)?,
             None => return Err(Fail::new("no such place")),
         }
     }
     Ok(())
 }
 
-fn change(alloc: Global, image: &mut Vec<u8>, step: &str) -> Result<(), Fail> {
+fn append(image: &mut Vec<u8>, digits: &str) -> Result<(), Fail> {
+    for pair in digits.split_whitespace() {
+        image.push(u8::from_str_radix(pair, 16)?)?;
+    }
+    Ok(())
+}
+
+fn change(image: &mut Vec<u8>, step: &str) -> Result<(), Fail> {
     let (what, rest) = parted(step);
     match what {
-        "image" => image.extend_from_slice(&bytes_of(alloc, IMAGE)?)?,
-        "bytes" => image.extend_from_slice(&bytes_of(alloc, rest)?)?,
+        "image" => append(image, IMAGE)?,
+        "bytes" => append(image, rest)?,
         "zeros" => image.resize(rest.parse::<u8>()? as usize, 0)?,
         "cut" => image.truncate(rest.parse::<usize>()?),
-        _ => put_at(image, what.parse::<usize>()?, &bytes_of(alloc, rest)?)?,
+        _ => put_at(image, what.parse::<usize>()?, rest)?,
     }
     Ok(())
 }
@@ -40,7 +48,7 @@ fn change(alloc: Global, image: &mut Vec<u8>, step: &str) -> Result<(), Fail> {
 fn image_of(alloc: Global, steps: &str) -> Result<Vec<u8>, Fail> {
     let mut image = Vec::new(alloc);
     for step in steps.split('|') {
-        change(alloc, &mut image, step)?;
+        change(&mut image, step)?;
     }
     if image.len() > 1000 {
         return Err(Fail::new("the image is too long"));
@@ -48,11 +56,11 @@ fn image_of(alloc: Global, steps: &str) -> Result<Vec<u8>, Fail> {
     Ok(image)
 }
 
-fn fault_text(alloc: Global, fault: ControlFault) -> Result<String, Fail> {
-    Ok(match fault {
-        ControlFault::Refused { cause, place } => format!(in alloc; "cause {cause} at {place}")?,
-        ControlFault::Memory => format!(in alloc; "memory")?,
-    })
+fn put_fault(fault: ControlFault, out: &mut String) -> Result<(), Fail> {
+    match fault {
+        ControlFault::Refused { cause, place } => Ok(write!(out, "cause {cause} at {place}")?),
+        ControlFault::Memory => Ok(out.push_str("memory")?),
+    }
 }
 
 // Images and the place of the one ID; the last has a second one.
@@ -64,23 +72,24 @@ zeros 0 = cause 1 at 0
 image|cut 15 = cause 1 at 0
 image|48 53 45 47 47 45 52 20 52 54 54 00 00 00 00 00 00 = cause 5 at 48";
 
-pub fn find_text(alloc: Global, image: &[u8]) -> Result<String, Fail> {
+pub fn put_found(image: &[u8], out: &mut String) -> Result<(), Fail> {
     if image.len() >= 1 << 32 {
         return Err(Fail::new("the image is too long"));
     }
     match find(image) {
-        Ok(at) => Ok(format!(in alloc; "found {at}")?),
-        Err(fault) => fault_text(alloc, fault),
+        Ok(at) => Ok(write!(out, "found {at}")?),
+        Err(fault) => put_fault(fault, out),
     }
 }
 
-pub fn ids(alloc: Global, steps: &str) -> Result<String, Fail> {
-    find_text(alloc, &image_of(alloc, steps)?)
+pub fn put_ids(alloc: Global, steps: &str, out: &mut String) -> Result<(), Fail> {
+    put_found(&image_of(alloc, steps)?, out)
 }
 
 #[test]
 fn the_only_id_is_found_and_else_the_image_is_refused(rt: HostRuntime) -> Result<(), Fail> {
-    assert_eq!(rt; each_line(rt.alloc(), IDS, Kind::Ids)?.as_str(), "6 rows");
+    let rows = each_line(rt.alloc(), IDS, Kind::Ids)?;
+    assert_eq!(rt; rows.as_str(), "6 rows");
     Ok(())
 }
 
@@ -98,51 +107,48 @@ const BLOCKS: &str = "\
 0 image|44 fc = up 0 20000030 10 2 e fc
 5 zeros 70|5 53 45 47 47 45 52 20 52 54 54|25 01|50 01 = down 0 0 0 0 0 100";
 
-fn tell_descriptor(
-    alloc: Global,
-    told: &mut String,
-    side: &str,
-    d: &Descriptor,
-) -> Result<(), Fail> {
+// Puts a descriptor, behind a semicolon where there is something before it.
+fn put_descriptor(side: &str, d: &Descriptor, out: &mut String) -> Result<(), Fail> {
+    let gap = if out.is_empty() { "" } else { "; " };
     let (name, start, size) = (d.name, d.start, d.size);
     let (wr, rd, flags) = (d.wr, d.rd, d.flags);
-    let text = format!(in alloc; "{side} {name:x} {start:x} {size:x} {wr:x} {rd:x} {flags:x}")?;
-    tell(told, text.as_str())
+    Ok(write!(
+        out,
+        "{gap}{side} {name:x} {start:x} {size:x} {wr:x} {rd:x} {flags:x}"
+    )?)
 }
 
-fn block_text(alloc: Global, block: &Block) -> Result<String, Fail> {
-    let mut told = String::new(alloc);
+fn put_block(block: &Block, out: &mut String) -> Result<(), Fail> {
     for descriptor in block.up.as_slice() {
-        tell_descriptor(alloc, &mut told, "up", descriptor)?;
+        put_descriptor("up", descriptor, out)?;
     }
     for descriptor in block.down.as_slice() {
-        tell_descriptor(alloc, &mut told, "down", descriptor)?;
+        put_descriptor("down", descriptor, out)?;
     }
-    Ok(told)
+    Ok(())
 }
 
-pub fn read_text(alloc: Global, image: &[u8], at: u32) -> Result<String, Fail> {
+/// Puts the descriptors of the block at a place, or the refusal.
+pub fn put_read(alloc: Global, image: &[u8], at: u32, out: &mut String) -> Result<(), Fail> {
     if image.len() >= 1 << 32 {
         return Err(Fail::new("the image is too long"));
     }
     match read(alloc, image, BASE, at) {
-        Ok(block) => block_text(alloc, &block),
-        Err(fault) => fault_text(alloc, fault),
+        Ok(block) => put_block(&block, out),
+        Err(fault) => put_fault(fault, out),
     }
 }
 
-pub fn blocks(alloc: Global, row: &str) -> Result<String, Fail> {
+pub fn put_blocks(alloc: Global, row: &str, out: &mut String) -> Result<(), Fail> {
     let (at, steps) = parted(row);
-    let image = image_of(alloc, steps)?;
-    read_text(alloc, &image, at.parse::<u32>()?)
+    let at = at.parse::<u32>()?;
+    put_read(alloc, &image_of(alloc, steps)?, at, out)
 }
 
 #[test]
 fn a_block_is_read_or_refused_by_its_first_fault(rt: HostRuntime) -> Result<(), Fail> {
-    assert_eq!(rt;
-        each_line(rt.alloc(), BLOCKS, Kind::Blocks)?.as_str(),
-        "11 rows"
-    );
+    let rows = each_line(rt.alloc(), BLOCKS, Kind::Blocks)?;
+    assert_eq!(rt; rows.as_str(), "11 rows");
     Ok(())
 }
 
@@ -179,33 +185,33 @@ fn descriptor_of(text: &str) -> Result<Descriptor, Fail> {
     })
 }
 
-pub fn unread_text(
+pub fn put_unread(
     alloc: Global,
     image: &[u8],
     base: u32,
     descriptor: &Descriptor,
-) -> Result<String, Fail> {
+    out: &mut String,
+) -> Result<(), Fail> {
     if image.len() >= 1 << 32 {
         return Err(Fail::new("the image is too long"));
     }
     match unread(alloc, image, base, descriptor) {
-        Ok(bytes) => digits_or_nothing(alloc, bytes.as_slice()),
-        Err(fault) => fault_text(alloc, fault),
+        Ok(bytes) => put_digits_or_nothing(bytes.as_slice(), out),
+        Err(fault) => put_fault(fault, out),
     }
 }
 
-pub fn waiting(alloc: Global, row: &str) -> Result<String, Fail> {
+pub fn put_waiting(alloc: Global, row: &str, out: &mut String) -> Result<(), Fail> {
     let (base, rest) = parted(row);
+    let base = number(base)?;
     let descriptor = descriptor_of(rest)?;
-    unread_text(alloc, &bytes_of(alloc, IMAGE)?, number(base)?, &descriptor)
+    put_unread(alloc, &bytes_of(alloc, IMAGE)?, base, &descriptor, out)
 }
 
 #[test]
 fn the_waiting_bytes_go_round_the_end_up_to_the_write_offset(rt: HostRuntime) -> Result<(), Fail> {
-    assert_eq!(rt;
-        each_line(rt.alloc(), WAITING, Kind::Waiting)?.as_str(),
-        "9 rows"
-    );
+    let rows = each_line(rt.alloc(), WAITING, Kind::Waiting)?;
+    assert_eq!(rt; rows.as_str(), "9 rows");
     Ok(())
 }
 
@@ -251,36 +257,34 @@ fn block_of(alloc: Global, lines: &str) -> Result<Block, Fail> {
     Ok(block)
 }
 
-// The image that is written, or the refusal and whether the image is as before.
-fn write_text(alloc: Global, block: &Block, len: u8, at: u32) -> Result<String, Fail> {
+// Puts the image that is written, or the refusal and whether the image is as before.
+fn put_image(block: &Block, len: u8, at: u32, out: &mut String) -> Result<(), Fail> {
     let mut image = [0xaa; 255];
     let image = &mut image[..usize::from(len)];
     match write(block, image, BASE, at) {
-        Ok(()) => digits_of(alloc, image),
+        Ok(()) => put_digits(out, image),
         Err(fault) => {
-            let cause = fault_text(alloc, fault)?;
+            put_fault(fault, out)?;
             let same = image.iter().all(|byte| *byte == 0xaa);
-            let left = if same { "untouched" } else { "changed" };
-            Ok(format!(in alloc; "{cause}, {left}")?)
+            let left = if same { ", untouched" } else { ", changed" };
+            Ok(out.push_str(left)?)
         }
     }
 }
 
-pub fn written(alloc: Global, row: &str) -> Result<String, Fail> {
+pub fn put_written(alloc: Global, row: &str, out: &mut String) -> Result<(), Fail> {
     let Some((sizes, lines)) = row.split_once('\n') else {
         return Err(Fail::new("no block"));
     };
     let (at, len) = parted(sizes);
-    let block = block_of(alloc, lines)?;
-    write_text(alloc, &block, len.parse::<u8>()?, at.parse::<u32>()?)
+    let (at, len) = (at.parse::<u32>()?, len.parse::<u8>()?);
+    put_image(&block_of(alloc, lines)?, len, at, out)
 }
 
 #[test]
 fn a_block_is_written_and_every_other_byte_stays(rt: HostRuntime) -> Result<(), Fail> {
-    assert_eq!(rt;
-        each_block(rt.alloc(), WRITTEN, Kind::Written)?.as_str(),
-        "3 rows"
-    );
+    let rows = each_block(rt.alloc(), WRITTEN, Kind::Written)?;
+    assert_eq!(rt; rows.as_str(), "3 rows");
     Ok(())
 }
 

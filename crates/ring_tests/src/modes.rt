@@ -3,19 +3,20 @@ ghost use Rattle.std.specs.Prelude.{⊤};
 
 use crate::rings::{Plain, plain_of};
 use crate::rows::{Kind, each_line};
-use crate::words::{digits_or_nothing, parted, tell};
+use crate::words::{parted, put_digits_or_nothing};
 use rtt_modes::{Fate, Relief, block, skip, trim};
 use rtt_ring::{DownEnd, UpEnd};
 use std::alloc::Global;
+use std::fmt::Write;
 use std::test::Fail;
 use test_rows::bytes_of;
 
-fn fate_text(alloc: Global, fate: Fate) -> Result<String, Fail> {
-    Ok(match fate {
-        Fate::Whole => format!(in alloc; "whole")?,
-        Fate::Dropped { need, room } => format!(in alloc; "dropped {need} {room}")?,
-        Fate::Cut { need, room } => format!(in alloc; "cut {need} {room}")?,
-    })
+fn put_fate(fate: Fate, out: &mut String) -> Result<(), Fail> {
+    match fate {
+        Fate::Whole => Ok(out.push_str("whole")?),
+        Fate::Dropped { need, room } => Ok(write!(out, "dropped {need} {room}")?),
+        Fate::Cut { need, room } => Ok(write!(out, "cut {need} {room}")?),
+    }
 }
 
 // Sends a frame by a mode.
@@ -30,13 +31,12 @@ fn send(plain: &mut Plain, mode: &str, frame: &[u8]) -> Option<Fate> {
     }
 }
 
-// How often the upper end looked, and the bytes that wait.
-fn end_text(alloc: Global, plain: &mut Plain) -> Result<String, Fail> {
+// Puts how often the upper end looked, and the bytes that wait.
+fn put_end(plain: &mut Plain, out: &mut String) -> Result<(), Fail> {
     let mut buf = [0; 16];
-    let looks = UpEnd::looks(&plain.ring);
+    write!(out, "{} looks; ", UpEnd::looks(&plain.ring))?;
     let count = plain.ring.take(&mut buf);
-    let taken = digits_or_nothing(alloc, &buf[..count.min(16)])?;
-    Ok(format!(in alloc; "{looks} looks; {taken}")?)
+    put_digits_or_nothing(&buf[..count.min(16)], out)
 }
 
 // Frames, each with its mode, and what became of them.
@@ -45,31 +45,34 @@ skip 01 02 03 04 05 06 07 08 09 0a|skip 0b 0c 0d 0e 0f 10 = whole; dropped 6 5; 
 trim 01 02 03 04 05 06 07 08 09 0a|trim 0b 0c 0d 0e 0f 10|trim 0b 0c 0d 0e 0f 10 \
 = whole; cut 6 5; cut 6 0; 3 looks; 01 02 03 04 05 06 07 08 09 0a 0b 0c 0d 0e 0f";
 
-fn step(alloc: Global, plain: &mut Plain, step: &str) -> Result<String, Fail> {
-    let (mode, digits) = parted(step);
-    let frame = bytes_of(alloc, digits)?;
-    match send(plain, mode, &frame) {
-        Some(fate) => fate_text(alloc, fate),
+fn put_sent(plain: &mut Plain, mode: &str, frame: &[u8], out: &mut String) -> Result<(), Fail> {
+    match send(plain, mode, frame) {
+        Some(fate) => put_fate(fate, out),
         None => Err(Fail::new("no frame")),
     }
 }
 
-pub fn frames(alloc: Global, steps: &str) -> Result<String, Fail> {
-    let mut plain = plain_of(alloc, 16)?;
-    let mut told = String::new(alloc);
+fn put_step(alloc: Global, plain: &mut Plain, step: &str, out: &mut String) -> Result<(), Fail> {
+    let (mode, digits) = parted(step);
+    put_sent(plain, mode, &bytes_of(alloc, digits)?, out)
+}
+
+fn put_steps(alloc: Global, plain: &mut Plain, steps: &str, out: &mut String) -> Result<(), Fail> {
     for one in steps.split('|') {
-        tell(&mut told, step(alloc, &mut plain, one)?.as_str())?;
+        put_step(alloc, plain, one, out)?;
+        out.push_str("; ")?;
     }
-    tell(&mut told, end_text(alloc, &mut plain)?.as_str())?;
-    Ok(told)
+    put_end(plain, out)
+}
+
+pub fn put_frames(alloc: Global, steps: &str, out: &mut String) -> Result<(), Fail> {
+    put_steps(alloc, &mut plain_of(alloc, 16)?, steps, out)
 }
 
 #[test]
 fn skip_drops_and_trim_cuts_what_does_not_fit(rt: HostRuntime) -> Result<(), Fail> {
-    assert_eq!(rt;
-        each_line(rt.alloc(), FRAMES, Kind::Frames)?.as_str(),
-        "2 rows"
-    );
+    let rows = each_line(rt.alloc(), FRAMES, Kind::Frames)?;
+    assert_eq!(rt; rows.as_str(), "2 rows");
     Ok(())
 }
 
@@ -98,9 +101,8 @@ fn block_sends_a_frame_that_fits_without_an_ease(rt: HostRuntime) -> Result<(), 
         &mut relief,
     );
     assert_eq!(rt; relief.eases, 0);
-    assert_eq!(rt;
-        end_text(rt.alloc(), &mut plain)?.as_str(),
-        "1 looks; 01 02 03 04 05 06 07 08 09 0a"
-    );
+    let mut told = String::new(rt.alloc());
+    put_end(&mut plain, &mut told)?;
+    assert_eq!(rt; told.as_str(), "1 looks; 01 02 03 04 05 06 07 08 09 0a");
     Ok(())
 }

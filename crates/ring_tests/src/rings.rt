@@ -2,9 +2,9 @@
 ghost use Rattle.std.specs.Prelude.{◌≡◌, [], IfOk};
 ghost use Rattle.rtt_ring.specs.PlainView.{up_of};
 
-use crate::blocks::{find_text, read_text, unread_text};
+use crate::blocks::{put_found, put_read, put_unread};
 use crate::rows::{Kind, each_line};
-use crate::words::{digits_or_nothing, parted, tell};
+use crate::words::{parted, put_digits_or_nothing};
 use dl_io::Bytes;
 use rtt_control::Descriptor;
 use rtt_ring::{
@@ -12,39 +12,41 @@ use rtt_ring::{
     WordRing,
 };
 use std::alloc::Global;
+use std::fmt::Write;
 use std::sync::Wait;
 use std::test::Fail;
 use std::thread;
 use std::thread::Threads;
 use test_rows::bytes_of;
 
-fn no_ring(alloc: Global, fault: RingFault) -> Result<String, Fail> {
-    Ok(match fault {
-        RingFault::Size => format!(in alloc; "size")?,
-        RingFault::Memory => format!(in alloc; "memory")?,
-    })
+fn put_no_ring(fault: RingFault, out: &mut String) -> Result<(), Fail> {
+    match fault {
+        RingFault::Size => Ok(out.push_str("size")?),
+        RingFault::Memory => Ok(out.push_str("memory")?),
+    }
 }
 
-fn plain_size(alloc: Global, size: u32) -> Result<String, Fail> {
+fn put_plain_size(alloc: Global, size: u32, out: &mut String) -> Result<(), Fail> {
     match PlainRing::split(alloc, size) {
-        Ok(ring) => Ok(format!(in alloc; "{}", UpEnd::size(&ring))?),
-        Err(fault) => no_ring(alloc, fault),
+        Ok(ring) => Ok(write!(out, "{}", UpEnd::size(&ring))?),
+        Err(fault) => put_no_ring(fault, out),
     }
 }
 
-fn size_of<C: Channel>(alloc: Global, size: u32) -> Result<String, Fail> {
+fn put_size<C: Channel>(alloc: Global, size: u32, out: &mut String) -> Result<(), Fail> {
     match C::split(alloc, size) {
-        Ok((up, _)) => Ok(format!(in alloc; "{}", up.size())?),
-        Err(fault) => no_ring(alloc, fault),
+        Ok((up, _)) => Ok(write!(out, "{}", up.size())?),
+        Err(fault) => put_no_ring(fault, out),
     }
 }
 
-// The answer of all three rings, where it is the same, else all.
-fn alike(alloc: Global, plain: String, queue: String, word: String) -> Result<String, Fail> {
-    if plain.as_str() == queue.as_str() && plain.as_str() == word.as_str() {
-        return Ok(plain);
+// Puts the answer of another ring, where it is not the one of the plain ring.
+fn put_unlike(other: &str, out: &mut String) -> Result<(), Fail> {
+    if out.as_str() != other {
+        out.push_str(", another ring: ")?;
+        out.push_str(other)?;
     }
-    Ok(format!(in alloc; "plain {plain}, queue {queue}, word {word}")?)
+    Ok(())
 }
 
 // Sizes of new rings.
@@ -54,20 +56,23 @@ const SIZES: &str = "\
 65536 = 65536
 65537 = size";
 
-pub fn sizes(alloc: Global, size: &str) -> Result<String, Fail> {
+fn put_unlike_size<C: Channel>(alloc: Global, size: u32, out: &mut String) -> Result<(), Fail> {
+    let mut other = String::new(alloc);
+    put_size::<C>(alloc, size, &mut other)?;
+    put_unlike(other.as_str(), out)
+}
+
+pub fn put_sizes(alloc: Global, size: &str, out: &mut String) -> Result<(), Fail> {
     let size = size.parse::<u32>()?;
-    let plain = plain_size(alloc, size)?;
-    let queue = size_of::<QueueRing>(alloc, size)?;
-    let word = size_of::<WordRing>(alloc, size)?;
-    alike(alloc, plain, queue, word)
+    put_plain_size(alloc, size, out)?;
+    put_unlike_size::<QueueRing>(alloc, size, out)?;
+    put_unlike_size::<WordRing>(alloc, size, out)
 }
 
 #[test]
 fn sizes_from_16_to_65536_are_taken(rt: HostRuntime) -> Result<(), Fail> {
-    assert_eq!(rt;
-        each_line(rt.alloc(), SIZES, Kind::Sizes)?.as_str(),
-        "4 rows"
-    );
+    let rows = each_line(rt.alloc(), SIZES, Kind::Sizes)?;
+    assert_eq!(rt; rows.as_str(), "4 rows");
     Ok(())
 }
 
@@ -153,44 +158,55 @@ impl<U: UpEnd, D: DownEnd> Stepped for Ends<U, D> {
     }
 }
 
-fn step<S: Stepped>(alloc: Global, ring: &mut S, step: &str) -> Result<String, Fail> {
+fn put_sent<S: Stepped>(ring: &mut S, bytes: &[u8], out: &mut String) -> Result<(), Fail> {
+    let found = ring.send(bytes);
+    let (room, before, behind) = (found.room, found.before, found.behind);
+    Ok(write!(out, "room {room} found {before} {behind}")?)
+}
+
+fn put_step<S: Stepped>(
+    alloc: Global,
+    ring: &mut S,
+    step: &str,
+    out: &mut String,
+) -> Result<(), Fail> {
     let (what, rest) = parted(step);
     if what == "send" {
-        let found = ring.send(&bytes_of(alloc, rest)?);
-        let (room, before, behind) = (found.room, found.before, found.behind);
-        return Ok(format!(in alloc; "room {room} found {before} {behind}")?);
+        return put_sent(ring, &bytes_of(alloc, rest)?, out);
     }
     let mut buf = [0; 20];
     let len = what.parse::<usize>()?.min(20);
     let count = ring.take(&mut buf[..len]);
-    digits_or_nothing(alloc, &buf[..count.min(20)])
+    put_digits_or_nothing(&buf[..count.min(20)], out)
 }
 
-// Moves a ring, and tells the answer to each step and how often the upper end has looked.
-fn steps<S: Stepped>(alloc: Global, ring: &mut S, steps: &str) -> Result<String, Fail> {
-    let mut told = String::new(alloc);
+// Moves a ring, and puts the answer to each step and how often the upper end has looked.
+fn put_steps<S: Stepped>(
+    alloc: Global,
+    ring: &mut S,
+    steps: &str,
+    out: &mut String,
+) -> Result<(), Fail> {
     for one in steps.split('|') {
-        tell(&mut told, step(alloc, ring, one)?.as_str())?;
+        put_step(alloc, ring, one, out)?;
+        out.push_str("; ")?;
     }
-    let looks = format!(in alloc; "{} looks", ring.looks())?;
-    tell(&mut told, looks.as_str())?;
-    Ok(told)
+    Ok(write!(out, "{} looks", ring.looks())?)
 }
 
 // Puts behind the answers what was sent, taken and left.
-fn with_account(
-    alloc: Global,
-    told: String,
+fn put_account(
     settled: &Settled,
     kind: RingKind,
     rest: &[u8],
-) -> Result<String, Fail> {
+    out: &mut String,
+) -> Result<(), Fail> {
     if settled.ring() != kind {
         return Err(Fail::new("another ring"));
     }
     let (sent, got) = (settled.sent_len(), settled.got_len());
-    let rest = digits_or_nothing(alloc, rest)?;
-    Ok(format!(in alloc; "{told}; sent {sent} got {got} rest {rest}")?)
+    write!(out, "; sent {sent} got {got} rest ")?;
+    put_digits_or_nothing(rest, out)
 }
 
 pub fn plain_of(alloc: Global, size: u32) -> Result<Plain, Fail> {
@@ -200,17 +216,17 @@ pub fn plain_of(alloc: Global, size: u32) -> Result<Plain, Fail> {
     }
 }
 
-fn settle_plain(alloc: Global, told: String, plain: Plain) -> Result<String, Fail> {
+fn settle_plain(alloc: Global, plain: Plain, out: &mut String) -> Result<(), Fail> {
     let Plain { ring } = plain;
     let mut rest = Bytes::new(alloc);
     let settled = ring.settle(&mut rest)?;
-    with_account(alloc, told, &settled, RingKind::Plain, rest.as_slice())
+    put_account(&settled, RingKind::Plain, rest.as_slice(), out)
 }
 
-fn through_plain(alloc: Global, size: u32, row: &str) -> Result<String, Fail> {
+fn put_plain(alloc: Global, size: u32, row: &str, out: &mut String) -> Result<(), Fail> {
     let mut plain = plain_of(alloc, size)?;
-    let told = steps(alloc, &mut plain, row)?;
-    settle_plain(alloc, told, plain)
+    put_steps(alloc, &mut plain, row, out)?;
+    settle_plain(alloc, plain, out)
 }
 
 fn ends_of<C: Channel>(alloc: Global, size: u32) -> Result<Ends<C::Up, C::Down>, Fail> {
@@ -222,19 +238,30 @@ fn ends_of<C: Channel>(alloc: Global, size: u32) -> Result<Ends<C::Up, C::Down>,
 
 fn settle_ends<C: Channel>(
     alloc: Global,
-    told: String,
     ends: Ends<C::Up, C::Down>,
-) -> Result<String, Fail> {
+    out: &mut String,
+) -> Result<(), Fail> {
     let Ends { up, down } = ends;
     let mut rest = Bytes::new(alloc);
     let settled = C::settle(up, down, &mut rest)?;
-    with_account(alloc, told, &settled, C::KIND, rest.as_slice())
+    put_account(&settled, C::KIND, rest.as_slice(), out)
 }
 
-fn through<C: Channel>(alloc: Global, size: u32, row: &str) -> Result<String, Fail> {
+fn put_ends<C: Channel>(alloc: Global, size: u32, row: &str, out: &mut String) -> Result<(), Fail> {
     let mut ends = ends_of::<C>(alloc, size)?;
-    let told = steps(alloc, &mut ends, row)?;
-    settle_ends::<C>(alloc, told, ends)
+    put_steps(alloc, &mut ends, row, out)?;
+    settle_ends::<C>(alloc, ends, out)
+}
+
+fn put_unlike_ends<C: Channel>(
+    alloc: Global,
+    size: u32,
+    row: &str,
+    out: &mut String,
+) -> Result<(), Fail> {
+    let mut other = String::new(alloc);
+    put_ends::<C>(alloc, size, row, &mut other)?;
+    put_unlike(other.as_str(), out)
 }
 
 // The size of a ring and its steps: bytes are sent, or so many taken. Then how often the upper end looked, how many bytes
@@ -250,23 +277,20 @@ const STEPS: &str = "\
 = room 16 found 0 10; 15 16 17 18 19 1a 1b 1c 1d 1e; room 16 found 0 14; 1f 20 21 22 23 24 25 26 27 28 29 2a 2b 2c; \
 2 looks; sent 24 got 24 rest nothing";
 
-pub fn rings(alloc: Global, row: &str) -> Result<String, Fail> {
+pub fn put_rings(alloc: Global, row: &str, out: &mut String) -> Result<(), Fail> {
     let Some((size, row)) = row.split_once('|') else {
         return Err(Fail::new("no steps"));
     };
     let size = size.parse::<u32>()?;
-    let plain = through_plain(alloc, size, row)?;
-    let queue = through::<QueueRing>(alloc, size, row)?;
-    let word = through::<WordRing>(alloc, size, row)?;
-    alike(alloc, plain, queue, word)
+    put_plain(alloc, size, row, out)?;
+    put_unlike_ends::<QueueRing>(alloc, size, row, out)?;
+    put_unlike_ends::<WordRing>(alloc, size, row, out)
 }
 
 #[test]
 fn bytes_go_round_the_end_of_each_ring(rt: HostRuntime) -> Result<(), Fail> {
-    assert_eq!(rt;
-        each_line(rt.alloc(), STEPS, Kind::Rings)?.as_str(),
-        "3 rows"
-    );
+    let rows = each_line(rt.alloc(), STEPS, Kind::Rings)?;
+    assert_eq!(rt; rows.as_str(), "3 rows");
     Ok(())
 }
 
@@ -280,30 +304,34 @@ const TURNED: Descriptor = Descriptor {
     flags: 0,
 };
 
-fn image_text(alloc: Global, image: &[u8]) -> Result<String, Fail> {
-    let mut told = find_text(alloc, image)?;
-    tell(&mut told, read_text(alloc, image, 0)?.as_str())?;
-    tell(
-        &mut told,
-        unread_text(alloc, image, IMAGE_BASE, &TURNED)?.as_str(),
-    )?;
-    Ok(told)
+fn put_image(alloc: Global, image: &[u8], out: &mut String) -> Result<(), Fail> {
+    put_found(image, out)?;
+    put_read(alloc, image, 0, out)?;
+    out.push_str("; ")?;
+    put_unread(alloc, image, IMAGE_BASE, &TURNED, out)
 }
 
-fn turned_image_text(alloc: Global) -> Result<String, Fail> {
-    let mut plain = plain_of(alloc, 16)?;
-    steps(
+fn turn(alloc: Global, plain: &mut Plain) -> Result<(), Fail> {
+    put_steps(
         alloc,
-        &mut plain,
+        plain,
         "send 01 02 03 04 05 06 07 08 09 0a 0b 0c 0d 0e 0f|10|send 15 16 17 18 19 1a 1b 1c 1d 1e",
-    )?;
-    image_text(alloc, plain.ring.image())
+        &mut String::new(alloc),
+    )
+}
+
+fn put_turned_image(alloc: Global, out: &mut String) -> Result<(), Fail> {
+    let mut plain = plain_of(alloc, 16)?;
+    turn(alloc, &mut plain)?;
+    put_image(alloc, plain.ring.image(), out)
 }
 
 #[test]
 fn the_image_tells_what_waits(rt: HostRuntime) -> Result<(), Fail> {
+    let mut told = String::new(rt.alloc());
+    put_turned_image(rt.alloc(), &mut told)?;
     assert_eq!(rt;
-        turned_image_text(rt.alloc())?.as_str(),
+        told.as_str(),
         "found 0; up 0 20000030 10 9 a 0; 0b 0c 0d 0e 0f 15 16 17 18 19 1a 1b 1c 1d 1e"
     );
     Ok(())
@@ -376,13 +404,8 @@ fn go_through<C: Channel, R: Threads + Wait + Sync>(rt: &R, alloc: Global) -> Re
 }
 
 #[test]
-fn bytes_go_through_a_queue_ring_in_order(rt: HostRuntime) -> Result<(), Fail> {
+fn bytes_go_through_rings_between_threads_in_order(rt: HostRuntime) -> Result<(), Fail> {
     assert!(rt; go_through::<QueueRing, _>(&rt, rt.alloc())?);
-    Ok(())
-}
-
-#[test]
-fn bytes_go_through_a_word_ring_in_order(rt: HostRuntime) -> Result<(), Fail> {
     assert!(rt; go_through::<WordRing, _>(&rt, rt.alloc())?);
     Ok(())
 }

@@ -1,8 +1,8 @@
 // The rows of the tests, by what is asked of their inputs.
-use crate::blocks::{blocks, ids, waiting, written};
-use crate::modes::frames;
-use crate::rings::{rings, sizes};
-use crate::streams::{large, lists, shelves, sinks, sources};
+use crate::blocks::{put_blocks, put_ids, put_waiting, put_written};
+use crate::modes::put_frames;
+use crate::rings::{put_rings, put_sizes};
+use crate::streams::{put_large, put_lists, put_shelves, put_sinks, put_sources};
 use std::alloc::Global;
 use std::test::Fail;
 
@@ -23,29 +23,33 @@ pub enum Kind {
     Shelves,
 }
 
-fn answer(alloc: Global, kind: Kind, input: &str) -> Result<String, Fail> {
+fn put_answer(alloc: Global, kind: Kind, input: &str, out: &mut String) -> Result<(), Fail> {
     match kind {
-        Kind::Ids => ids(alloc, input),
-        Kind::Blocks => blocks(alloc, input),
-        Kind::Waiting => waiting(alloc, input),
-        Kind::Written => written(alloc, input),
-        Kind::Frames => frames(alloc, input),
-        Kind::Sizes => sizes(alloc, input),
-        Kind::Rings => rings(alloc, input),
-        Kind::Lists => lists(alloc, input),
-        Kind::Sources => sources(alloc, input),
-        Kind::Large => large(alloc, input),
-        Kind::Sinks => sinks(alloc, input),
-        Kind::Shelves => shelves(alloc, input),
+        Kind::Ids => put_ids(alloc, input, out),
+        Kind::Blocks => put_blocks(alloc, input, out),
+        Kind::Waiting => put_waiting(alloc, input, out),
+        Kind::Written => put_written(alloc, input, out),
+        Kind::Frames => put_frames(alloc, input, out),
+        Kind::Sizes => put_sizes(alloc, input, out),
+        Kind::Rings => put_rings(alloc, input, out),
+        Kind::Lists => put_lists(alloc, input, out),
+        Kind::Sources => put_sources(alloc, input, out),
+        Kind::Large => put_large(alloc, input, out),
+        Kind::Sinks => put_sinks(alloc, input, out),
+        Kind::Shelves => put_shelves(alloc, input, out),
     }
 }
 
-/// Asks for the answers of lines, as `test_rows::each_line` does.
+/// Asks for the answers of lines, as `test_rows::ask_lines` does.
 pub fn each_line(alloc: Global, lines: &str, kind: Kind) -> Result<String, Fail> {
-    test_rows::each_line(alloc, lines, |alloc, input| answer(alloc, kind, input))
+    test_rows::ask_lines(alloc, lines, |alloc, input, out| {
+        put_answer(alloc, kind, input, out)
+    })
 }
 
-/// Asks for the answers of blocks, as `test_rows::each_block` does.
+/// Asks for the answers of blocks, as `test_rows::ask_blocks` does.
 pub fn each_block(alloc: Global, blocks: &str, kind: Kind) -> Result<String, Fail> {
-    test_rows::each_block(alloc, blocks, |alloc, input| answer(alloc, kind, input))
+    test_rows::ask_blocks(alloc, blocks, |alloc, input, out| {
+        put_answer(alloc, kind, input, out)
+    })
 }

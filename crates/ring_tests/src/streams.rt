@@ -2,15 +2,16 @@
 ghost use Rattle.std.specs.Prelude.{None};
 
 use crate::rows::{Kind, each_line};
-use crate::words::{digits_or_nothing, parted, tell};
+use crate::words::{part, parted};
 use dl_io::{
     Bytes, DirShelf, Failed, MemShelf, MemSink, MemSource, ReadFault, RepeatSource, Shelf, Sink,
     Source, StdSink, StdSource, fetch_all, read_all, write_all,
 };
 use std::alloc::Global;
+use std::fmt::Write;
 use std::test::Fail;
-use std::{io, process};
-use test_rows::bytes_of;
+use std::{io, mem, process};
+use test_rows::{bytes_of, put_digits};
 
 // Steps, the list that is made first, and the list behind each: its length, bytes and room.
 const LISTS: &str = "\
@@ -18,18 +19,17 @@ of |push 01|add 02 03 = empty; 1: 01; 3: 01 02 03
 of 01 02 03|cut 2|again|clear = 3: 01 02 03; 2: 01 02; 2: 01 02; empty
 of |reserve 6|reserve 4|put 01|put 02 03|add 04 05 06 07 = empty; empty, room 6; empty, room 6; 1: 01, room 5; 3: 01 02 03, room 3; 7: 01 02 03 04 05 06 07";
 
-fn list_text(alloc: Global, list: &Bytes) -> Result<String, Fail> {
+fn put_list(list: &Bytes, out: &mut String) -> Result<(), Fail> {
     if list.is_empty() {
-        return Ok(match list.spare() {
-            0 => format!(in alloc; "empty")?,
-            room => format!(in alloc; "empty, room {room}")?,
-        });
+        out.push_str("empty")?;
+    } else {
+        write!(out, "{}: ", list.len())?;
+        put_digits(out, list.as_slice())?;
     }
-    let digits = digits_or_nothing(alloc, list.as_slice())?;
-    Ok(match list.spare() {
-        0 => format!(in alloc; "{}: {digits}", list.len())?,
-        room => format!(in alloc; "{}: {digits}, room {room}", list.len())?,
-    })
+    match list.spare() {
+        0 => Ok(()),
+        room => Ok(write!(out, ", room {room}")?),
+    }
 }
 
 // Appends within the room, a single byte by the call for one.
@@ -52,11 +52,19 @@ fn append(list: &mut Bytes, bytes: &[u8]) -> Result<(), Fail> {
     Ok(())
 }
 
+fn add(list: &mut Bytes, what: &str, bytes: &[u8]) -> Result<(), Fail> {
+    match what {
+        "put" => put_reserved(list, bytes),
+        _ => append(list, bytes),
+    }
+}
+
 fn change(alloc: Global, list: &mut Bytes, step: &str) -> Result<(), Fail> {
     let (what, rest) = parted(step);
     match what {
-        "push" | "add" => append(list, &bytes_of(alloc, rest)?)?,
-        "put" => put_reserved(list, &bytes_of(alloc, rest)?)?,
+        "of" => *list = Bytes::from_slice(alloc, &bytes_of(alloc, rest)?)?,
+        "again" => *list = Bytes::from_vec(mem::replace(list, Bytes::new(alloc)).into_vec()),
+        "push" | "add" | "put" => add(list, what, &bytes_of(alloc, rest)?)?,
         "reserve" => list.reserve(rest.parse::<usize>()?)?,
         "cut" => list.truncate(rest.parse::<usize>()?),
         "clear" => list.clear(),
@@ -65,35 +73,23 @@ fn change(alloc: Global, list: &mut Bytes, step: &str) -> Result<(), Fail> {
     Ok(())
 }
 
-fn next_list(alloc: Global, list: Bytes, step: &str) -> Result<Bytes, Fail> {
-    let (what, rest) = parted(step);
-    if what == "of" {
-        return Ok(Bytes::from_slice(alloc, &bytes_of(alloc, rest)?)?);
+fn put_changes(alloc: Global, list: &mut Bytes, steps: &str, out: &mut String) -> Result<(), Fail> {
+    for step in steps.split('|') {
+        part(out)?;
+        change(alloc, list, step)?;
+        put_list(list, out)?;
     }
-    if what == "again" {
-        return Ok(Bytes::from_vec(list.into_vec()));
-    }
-    let mut list = list;
-    change(alloc, &mut list, step)?;
-    Ok(list)
+    Ok(())
 }
 
-pub fn lists(alloc: Global, steps: &str) -> Result<String, Fail> {
-    let mut told = String::new(alloc);
-    let mut list = Bytes::new(alloc);
-    for step in steps.split('|') {
-        list = next_list(alloc, list, step)?;
-        tell(&mut told, list_text(alloc, &list)?.as_str())?;
-    }
-    Ok(told)
+pub fn put_lists(alloc: Global, steps: &str, out: &mut String) -> Result<(), Fail> {
+    put_changes(alloc, &mut Bytes::new(alloc), steps, out)
 }
 
 #[test]
 fn a_list_and_its_room_grow_and_shrink(rt: HostRuntime) -> Result<(), Fail> {
-    assert_eq!(rt;
-        each_line(rt.alloc(), LISTS, Kind::Lists)?.as_str(),
-        "3 rows"
-    );
+    let rows = each_line(rt.alloc(), LISTS, Kind::Lists)?;
+    assert_eq!(rt; rows.as_str(), "3 rows");
     Ok(())
 }
 
@@ -126,52 +122,59 @@ impl io::Read for Broken {
     }
 }
 
-// The bytes as text, or `nothing`.
-fn plain_text(alloc: Global, bytes: &[u8]) -> Result<String, Fail> {
+// Puts the bytes as text, or `nothing`.
+fn put_plain(bytes: &[u8], out: &mut String) -> Result<(), Fail> {
     if bytes.is_empty() {
-        return Ok(String::from_str(alloc, "nothing")?);
+        return Ok(out.push_str("nothing")?);
     }
-    Ok(String::from_str(alloc, str::from_utf8(bytes)?)?)
+    Ok(out.push_str(str::from_utf8(bytes)?)?)
 }
 
-fn fault_text(alloc: Global, fault: ReadFault) -> Result<String, Fail> {
-    Ok(match fault {
-        ReadFault::Failed => format!(in alloc; "failed")?,
-        ReadFault::Long { taken } => format!(in alloc; "long {taken}")?,
-        ReadFault::Memory => format!(in alloc; "memory")?,
-    })
+fn put_fault(fault: ReadFault, out: &mut String) -> Result<(), Fail> {
+    match fault {
+        ReadFault::Failed => Ok(out.push_str("failed")?),
+        ReadFault::Long { taken } => Ok(write!(out, "long {taken}")?),
+        ReadFault::Memory => Ok(out.push_str("memory")?),
+    }
 }
 
-// What a read or fetch of a whole input gave.
-fn input_text(alloc: Global, answer: Result<Bytes, ReadFault>) -> Result<String, Fail> {
+// Puts what a read or fetch of a whole input gave.
+fn put_input(answer: Result<Bytes, ReadFault>, out: &mut String) -> Result<(), Fail> {
     match answer {
-        Ok(all) => plain_text(alloc, all.as_slice()),
-        Err(fault) => fault_text(alloc, fault),
+        Ok(all) => put_plain(all.as_slice(), out),
+        Err(fault) => put_fault(fault, out),
     }
+}
+
+fn add_numbers(list: &mut Bytes, text: &str) -> Result<(), Fail> {
+    for number in text.split(',') {
+        list.push(number.parse::<u8>()?)?;
+    }
+    Ok(())
 }
 
 // The numbers of the calls that are to fail; `-` for none.
 fn fails_of(alloc: Global, text: &str) -> Result<Bytes, Fail> {
     let mut fails = Bytes::new(alloc);
     if text != "-" {
-        for number in text.split(',') {
-            fails.push(number.parse::<u8>()?)?;
-        }
+        add_numbers(&mut fails, text)?;
     }
     Ok(fails)
 }
 
-// Reads whole inputs, each with its limit, and tells what came and the count of faults.
-fn reads<S: Source>(alloc: Global, src: &mut S, limits: &str) -> Result<String, Fail> {
-    let mut told = String::new(alloc);
+// Reads whole inputs, each with its limit, and puts what came and the count of faults.
+fn put_reads<S: Source>(
+    alloc: Global,
+    src: &mut S,
+    limits: &str,
+    out: &mut String,
+) -> Result<(), Fail> {
     for limit in limits.split_whitespace() {
         let limit = limit.parse::<u32>()? as usize;
-        let answer = input_text(alloc, read_all(alloc, src, limit))?;
-        tell(&mut told, answer.as_str())?;
+        put_input(read_all(alloc, src, limit), out)?;
+        out.push_str("; ")?;
     }
-    let faults = format!(in alloc; "{} faults", src.faults())?;
-    tell(&mut told, faults.as_str())?;
-    Ok(told)
+    Ok(write!(out, "{} faults", src.faults())?)
 }
 
 // A source, its bytes, its calls that are to fail and the limits of reads of a whole input.
@@ -189,15 +192,20 @@ fn memory(alloc: Global, bytes: &str, fails: &str) -> Result<MemSource, Fail> {
     Ok(MemSource::new(bytes, fails_of(alloc, fails)?))
 }
 
-pub fn sources(alloc: Global, row: &str) -> Result<String, Fail> {
+pub fn put_sources(alloc: Global, row: &str, out: &mut String) -> Result<(), Fail> {
     let (form, rest) = parted(row);
     let (bytes, rest) = parted(rest);
     let (fails, limits) = parted(rest);
     match form {
-        "memory" => reads(alloc, &mut memory(alloc, bytes, fails)?, limits),
-        "trickle" => reads(alloc, &mut Trickle(memory(alloc, bytes, fails)?), limits),
-        "std" => reads(alloc, &mut StdSource::new(bytes.as_bytes()), limits),
-        "broken" => reads(alloc, &mut StdSource::new(Broken), limits),
+        "memory" => put_reads(alloc, &mut memory(alloc, bytes, fails)?, limits, out),
+        "trickle" => put_reads(
+            alloc,
+            &mut Trickle(memory(alloc, bytes, fails)?),
+            limits,
+            out,
+        ),
+        "std" => put_reads(alloc, &mut StdSource::new(bytes.as_bytes()), limits, out),
+        "broken" => put_reads(alloc, &mut StdSource::new(Broken), limits, out),
         _ => Err(Fail::new("no source")),
     }
 }
@@ -206,10 +214,8 @@ pub fn sources(alloc: Global, row: &str) -> Result<String, Fail> {
 fn an_input_is_read_to_its_end_unless_a_read_fails_or_it_is_too_long(
     rt: HostRuntime,
 ) -> Result<(), Fail> {
-    assert_eq!(rt;
-        each_line(rt.alloc(), SOURCES, Kind::Sources)?.as_str(),
-        "7 rows"
-    );
+    let rows = each_line(rt.alloc(), SOURCES, Kind::Sources)?;
+    assert_eq!(rt; rows.as_str(), "7 rows");
     Ok(())
 }
 
@@ -218,23 +224,25 @@ const LARGE: &str = "\
 100000 = 100000 bytes, the last 7
 100001 = long 100001";
 
-pub fn large(alloc: Global, count: &str) -> Result<String, Fail> {
+fn put_last(bytes: &[u8], out: &mut String) -> Result<(), Fail> {
+    match bytes.last() {
+        Some(last) => Ok(write!(out, "{} bytes, the last {last}", bytes.len())?),
+        None => Err(Fail::new("no bytes")),
+    }
+}
+
+pub fn put_large(alloc: Global, count: &str, out: &mut String) -> Result<(), Fail> {
     let mut src = RepeatSource::new(7, count.parse::<u64>()?);
     match read_all(alloc, &mut src, 100_000) {
-        Ok(all) => match all.as_slice().last() {
-            Some(last) => Ok(format!(in alloc; "{} bytes, the last {last}", all.len())?),
-            None => Err(Fail::new("no bytes")),
-        },
-        Err(fault) => fault_text(alloc, fault),
+        Ok(all) => put_last(all.as_slice(), out),
+        Err(fault) => put_fault(fault, out),
     }
 }
 
 #[test]
 fn a_large_input_is_read_in_growing_pieces(rt: HostRuntime) -> Result<(), Fail> {
-    assert_eq!(rt;
-        each_line(rt.alloc(), LARGE, Kind::Large)?.as_str(),
-        "2 rows"
-    );
+    let rows = each_line(rt.alloc(), LARGE, Kind::Large)?;
+    assert_eq!(rt; rows.as_str(), "2 rows");
     Ok(())
 }
 
@@ -257,29 +265,32 @@ impl Sink for Narrow {
     }
 }
 
-// Writes the bytes of a step as a whole, or once.
-fn one_write<K: Sink>(alloc: Global, out: &mut K, step: &str) -> Result<String, Fail> {
-    let (what, bytes) = parted(step);
-    if what == "all" {
-        return Ok(match write_all(out, bytes.as_bytes()) {
-            Ok(()) => format!(in alloc; "ok")?,
-            Err(Failed) => format!(in alloc; "failed")?,
-        });
+fn put_all<K: Sink>(sink: &mut K, bytes: &[u8], out: &mut String) -> Result<(), Fail> {
+    match write_all(sink, bytes) {
+        Ok(()) => Ok(out.push_str("ok")?),
+        Err(Failed) => Ok(out.push_str("failed")?),
     }
-    Ok(match out.write(bytes.as_bytes()) {
-        Ok(count) => format!(in alloc; "{count}")?,
-        Err(Failed) => format!(in alloc; "failed")?,
-    })
 }
 
-fn writes<K: Sink>(alloc: Global, out: &mut K, steps: &str) -> Result<String, Fail> {
-    let mut told = String::new(alloc);
-    for step in steps.split('|') {
-        tell(&mut told, one_write(alloc, out, step)?.as_str())?;
+fn put_once<K: Sink>(sink: &mut K, bytes: &[u8], out: &mut String) -> Result<(), Fail> {
+    match sink.write(bytes) {
+        Ok(count) => Ok(write!(out, "{count}")?),
+        Err(Failed) => Ok(out.push_str("failed")?),
     }
-    let faults = format!(in alloc; "{} faults", out.faults())?;
-    tell(&mut told, faults.as_str())?;
-    Ok(told)
+}
+
+// Writes the bytes of each step as a whole, or once, and puts what came of it and the count of faults.
+fn put_writes<K: Sink>(sink: &mut K, steps: &str, out: &mut String) -> Result<(), Fail> {
+    for step in steps.split('|') {
+        let (what, bytes) = parted(step);
+        if what == "all" {
+            put_all(sink, bytes.as_bytes(), out)?;
+        } else {
+            put_once(sink, bytes.as_bytes(), out)?;
+        }
+        out.push_str("; ")?;
+    }
+    Ok(write!(out, "{} faults", sink.faults())?)
 }
 
 // A sink, its room, its calls that are to fail and the writes.
@@ -299,40 +310,40 @@ fn sink(alloc: Global, room: &str, fails: &str) -> Result<MemSink, Fail> {
     Ok(MemSink::new(held, fails_of(alloc, fails)?))
 }
 
-fn with_held(alloc: Global, told: String, held: &[u8]) -> Result<String, Fail> {
-    let held = plain_text(alloc, held)?;
-    Ok(format!(in alloc; "{told}; held {held}")?)
+fn put_held(held: &[u8], out: &mut String) -> Result<(), Fail> {
+    out.push_str("; held ")?;
+    put_plain(held, out)
 }
 
-fn memory_writes(alloc: Global, out: MemSink, steps: &str) -> Result<String, Fail> {
-    let mut out = out;
-    let told = writes(alloc, &mut out, steps)?;
-    with_held(alloc, told, out.held())
+fn put_memory(sink: MemSink, steps: &str, out: &mut String) -> Result<(), Fail> {
+    let mut sink = sink;
+    put_writes(&mut sink, steps, out)?;
+    put_held(sink.held(), out)
 }
 
-fn narrow_writes(alloc: Global, out: MemSink, steps: &str) -> Result<String, Fail> {
-    let mut out = Narrow(out);
-    let told = writes(alloc, &mut out, steps)?;
-    with_held(alloc, told, out.0.held())
+fn put_narrow(sink: MemSink, steps: &str, out: &mut String) -> Result<(), Fail> {
+    let mut sink = Narrow(sink);
+    put_writes(&mut sink, steps, out)?;
+    put_held(sink.0.held(), out)
 }
 
 // Into a slice of five bytes by the adapter.
-fn std_writes(alloc: Global, steps: &str) -> Result<String, Fail> {
+fn put_std(steps: &str, out: &mut String) -> Result<(), Fail> {
     let mut kept = [0; 5];
-    let told = writes(alloc, &mut StdSink::new(kept.as_mut_slice()), steps)?;
-    with_held(alloc, told, &kept)
+    put_writes(&mut StdSink::new(kept.as_mut_slice()), steps, out)?;
+    put_held(&kept, out)
 }
 
-pub fn sinks(alloc: Global, row: &str) -> Result<String, Fail> {
-    let Some((out, steps)) = row.split_once('|') else {
+pub fn put_sinks(alloc: Global, row: &str, out: &mut String) -> Result<(), Fail> {
+    let Some((form, steps)) = row.split_once('|') else {
         return Err(Fail::new("no steps"));
     };
-    let (form, rest) = parted(out);
+    let (form, rest) = parted(form);
     let (room, fails) = parted(rest);
     match form {
-        "memory" => memory_writes(alloc, sink(alloc, room, fails)?, steps),
-        "narrow" => narrow_writes(alloc, sink(alloc, room, fails)?, steps),
-        "std" => std_writes(alloc, steps),
+        "memory" => put_memory(sink(alloc, room, fails)?, steps, out),
+        "narrow" => put_narrow(sink(alloc, room, fails)?, steps, out),
+        "std" => put_std(steps, out),
         _ => Err(Fail::new("no sink")),
     }
 }
@@ -341,10 +352,8 @@ pub fn sinks(alloc: Global, row: &str) -> Result<String, Fail> {
 fn all_bytes_are_written_unless_a_write_fails_or_there_is_no_room(
     rt: HostRuntime,
 ) -> Result<(), Fail> {
-    assert_eq!(rt;
-        each_line(rt.alloc(), SINKS, Kind::Sinks)?.as_str(),
-        "5 rows"
-    );
+    let rows = each_line(rt.alloc(), SINKS, Kind::Sinks)?;
+    assert_eq!(rt; rows.as_str(), "5 rows");
     Ok(())
 }
 
@@ -361,71 +370,86 @@ fn put_file(alloc: Global, shelf: &mut MemShelf, name: &str, file: &str) -> Resu
     Ok(())
 }
 
-fn fetch_at<F: Shelf>(alloc: Global, shelf: &mut F, name: &str, at: &str) -> Result<String, Fail> {
+fn put_at<F: Shelf>(shelf: &mut F, name: &str, at: &str, out: &mut String) -> Result<(), Fail> {
     let mut buf = [0; 3];
     match shelf.fetch(name, at.parse::<u64>()?, &mut buf) {
         Ok(count) => {
-            let digits = digits_or_nothing(alloc, &buf)?;
-            Ok(format!(in alloc; "{count}: {digits}")?)
+            write!(out, "{count}: ")?;
+            put_digits(out, &buf)
         }
-        Err(Failed) => fault_text(alloc, ReadFault::Failed),
+        Err(Failed) => Ok(out.push_str("failed")?),
     }
 }
 
-fn fetch_whole<F: Shelf>(
+fn put_whole<F: Shelf>(
     alloc: Global,
     shelf: &mut F,
     name: &str,
     limit: &str,
-) -> Result<String, Fail> {
+    out: &mut String,
+) -> Result<(), Fail> {
     let limit = limit.parse::<u32>()? as usize;
-    input_text(alloc, fetch_all(alloc, shelf, name, limit))
+    put_input(fetch_all(alloc, shelf, name, limit), out)
 }
 
-fn shelf_step(alloc: Global, shelf: &mut MemShelf, step: &str) -> Result<String, Fail> {
+fn put_step(alloc: Global, shelf: &mut MemShelf, step: &str, out: &mut String) -> Result<(), Fail> {
     let (what, rest) = parted(step);
     let (name, rest) = parted(rest);
     match what {
         "put" => {
             put_file(alloc, shelf, name, rest)?;
-            Ok(String::from_str(alloc, "put")?)
+            Ok(out.push_str("put")?)
         }
-        "all" => fetch_whole(alloc, shelf, name, rest),
-        "at" => fetch_at(alloc, shelf, name, rest),
-        "faults" => Ok(format!(in alloc; "{} faults", shelf.faults())?),
+        "all" => put_whole(alloc, shelf, name, rest, out),
+        "at" => put_at(shelf, name, rest, out),
+        "faults" => Ok(write!(out, "{} faults", shelf.faults())?),
         _ => Err(Fail::new("no step")),
     }
 }
 
-pub fn shelves(alloc: Global, steps: &str) -> Result<String, Fail> {
-    let mut told = String::new(alloc);
-    let mut shelf = MemShelf::new(alloc, Bytes::from_slice(alloc, &[2])?);
+fn put_steps(
+    alloc: Global,
+    shelf: &mut MemShelf,
+    steps: &str,
+    out: &mut String,
+) -> Result<(), Fail> {
     for step in steps.split('|') {
-        tell(&mut told, shelf_step(alloc, &mut shelf, step)?.as_str())?;
+        part(out)?;
+        put_step(alloc, shelf, step, out)?;
     }
-    Ok(told)
+    Ok(())
+}
+
+pub fn put_shelves(alloc: Global, steps: &str, out: &mut String) -> Result<(), Fail> {
+    let mut shelf = MemShelf::new(alloc, Bytes::from_slice(alloc, &[2])?);
+    put_steps(alloc, &mut shelf, steps, out)
 }
 
 #[test]
 fn a_file_is_fetched_unless_it_is_missing_or_too_long_or_a_fetch_fails(
     rt: HostRuntime,
 ) -> Result<(), Fail> {
-    assert_eq!(rt;
-        each_line(rt.alloc(), SHELVES, Kind::Shelves)?.as_str(),
-        "5 rows"
-    );
+    let rows = each_line(rt.alloc(), SHELVES, Kind::Shelves)?;
+    assert_eq!(rt; rows.as_str(), "5 rows");
     Ok(())
+}
+
+// Writes a file of a folder, fetches it, and fetches it again when it is gone.
+fn put_fetches(rt: &HostRuntime, name: &str, out: &mut String) -> Result<(), Fail> {
+    std::fs::write(rt, name, b"hello".as_slice())?;
+    let mut shelf = DirShelf::new(rt);
+    put_whole(rt.alloc(), &mut shelf, name, "9", out)?;
+    out.push_str("; ")?;
+    std::fs::remove_file(rt, name)?;
+    put_whole(rt.alloc(), &mut shelf, name, "9", out)?;
+    Ok(write!(out, "; {} faults", shelf.faults())?)
 }
 
 #[test]
 fn a_folder_is_a_shelf(rt: HostRuntime) -> Result<(), Fail> {
     let name = format!(in rt.alloc(); "/tmp/dl_io-{}", process::id(rt.process()))?;
-    std::fs::write(&rt, name.as_str(), b"hello".as_slice())?;
-    let mut shelf = DirShelf::new(&rt);
-    let there = fetch_whole(rt.alloc(), &mut shelf, name.as_str(), "9")?;
-    std::fs::remove_file(&rt, name.as_str())?;
-    let gone = fetch_whole(rt.alloc(), &mut shelf, name.as_str(), "9")?;
-    let told = format!(in rt.alloc(); "{there}; {gone}; {} faults", shelf.faults())?;
+    let mut told = String::new(rt.alloc());
+    put_fetches(&rt, name.as_str(), &mut told)?;
     assert_eq!(rt; told.as_str(), "hello; failed; 1 faults");
     Ok(())
 }

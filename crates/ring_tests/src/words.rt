@@ -1,7 +1,6 @@
 //! The words of rows.
-use std::alloc::Global;
 use std::test::Fail;
-use test_rows::digits_of;
+use test_rows::put_digits;
 
 /// What stands in front of the first space and behind it, and nothing where there is no space.
 pub fn parted(text: &str) -> (&str, &str) {
@@ -11,19 +10,18 @@ pub fn parted(text: &str) -> (&str, &str) {
     }
 }
 
-/// Puts an answer behind the others.
-pub fn tell(told: &mut String, answer: &str) -> Result<(), Fail> {
-    if !told.is_empty() {
-        told.push_str("; ")?;
+/// Puts a semicolon behind what others put, if anything.
+pub fn part(out: &mut String) -> Result<(), Fail> {
+    if !out.is_empty() {
+        out.push_str("; ")?;
     }
-    told.push_str(answer)?;
     Ok(())
 }
 
-/// The digits of these bytes, or `nothing`.
-pub fn digits_or_nothing(alloc: Global, bytes: &[u8]) -> Result<String, Fail> {
+/// Puts the digits of these bytes, or `nothing`.
+pub fn put_digits_or_nothing(bytes: &[u8], out: &mut String) -> Result<(), Fail> {
     if bytes.is_empty() {
-        return Ok(String::from_str(alloc, "nothing")?);
+        return Ok(out.push_str("nothing")?);
     }
-    digits_of(alloc, bytes)
+    put_digits(out, bytes)
 }
