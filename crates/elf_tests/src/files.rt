@@ -1,5 +1,6 @@
 //! Files as linkers leave them, and files with other bytes in them.
 use std::alloc::Global;
+use std::fmt::Write;
 use std::test::Fail;
 use test_rows::bytes_of;
 
@@ -47,14 +48,21 @@ pub struct Linked {
 }
 
 impl Linked {
-    /// With the null symbol alone.
-    fn new(alloc: Global, wide: bool) -> Result<Linked, Fail> {
-        let len = if wide { 24 } else { 16 };
-        Ok(Linked {
+    /// With no symbol yet.
+    pub fn new(alloc: Global, wide: bool) -> Linked {
+        Linked {
             wide,
-            table: Vec::from_slice(alloc, &NULL_SYMBOL[..len])?,
-            strings: Vec::from_slice(alloc, b"\0")?,
-        })
+            table: Vec::new(alloc),
+            strings: Vec::new(alloc),
+        }
+    }
+
+    /// The null symbol, and the symbols of these lines.
+    pub fn begin(&mut self, lines: &str) -> Result<(), Fail> {
+        let len = if self.wide { 24 } else { 16 };
+        self.table.extend_from_slice(&NULL_SYMBOL[..len])?;
+        self.push_bytes(b"\0")?;
+        self.push_lines(lines)
     }
 
     /// One more symbol, whose name begins at the strings' end.
@@ -80,13 +88,21 @@ impl Linked {
         Ok(())
     }
 
-    /// The symbol of a line: its section, value and name.
-    fn push_line(&mut self, line: &str) -> Result<(), Fail> {
-        let (section, rest) = parted(line);
-        let (value, name) = parted(rest);
-        self.push_symbol(section.parse::<u64>()?, value.parse::<u64>()?)?;
+    /// One more symbol of this name.
+    pub fn push_named(&mut self, section: u64, value: u64, name: &str) -> Result<(), Fail> {
+        self.push_symbol(section, value)?;
         self.push_bytes(name.as_bytes())?;
         self.push_bytes(b"\0")
+    }
+
+    /// The symbols of these lines, each with its section, value and name.
+    pub fn push_lines(&mut self, lines: &str) -> Result<(), Fail> {
+        for line in lines.lines() {
+            let (section, rest) = parted(line);
+            let (value, name) = parted(rest);
+            self.push_named(section.parse::<u64>()?, value.parse::<u64>()?, name)?;
+        }
+        Ok(())
     }
 
     /// The place of a section's header, or of the file's own.
@@ -138,33 +154,24 @@ impl Linked {
         Ok(())
     }
 
-    /// The file: its header, the sections' names, the strings, the symbol table and the headers of the sections.
-    pub fn file(&self, alloc: Global) -> Result<Vec<u8>, Fail> {
-        let mut file = Vec::from_slice(alloc, b"\x7fELF")?;
-        self.put_fields(&mut file, HEADER)?;
+    /// Puts the file into an empty one: its header, the sections' names, the strings, the symbol table and the headers of the
+    /// sections.
+    pub fn put_file(&self, file: &mut Vec<u8>) -> Result<(), Fail> {
+        file.extend_from_slice(b"\x7fELF")?;
+        self.put_fields(file, HEADER)?;
         file.extend_from_slice(NAMES)?;
         file.extend_from_slice(&self.strings)?;
         file.extend_from_slice(&self.table)?;
-        self.put_fields(&mut file, SECTIONS)?;
-        Ok(file)
+        self.put_fields(file, SECTIONS)
     }
 }
 
-/// The symbols of these lines, each with its section, value and name.
-pub fn linked_of(alloc: Global, wide: bool, lines: &str) -> Result<Linked, Fail> {
-    let mut symbols = Linked::new(alloc, wide)?;
-    for line in lines.lines() {
-        symbols.push_line(line)?;
+/// Puts the answer of a file of 64 bits behind that of a file of 32 bits, where it is another one.
+pub fn put_unlike(wide: &str, out: &mut String) -> Result<(), Fail> {
+    if out.as_str() == wide {
+        return Ok(());
     }
-    Ok(symbols)
-}
-
-/// The answer of files of both classes, where it is the same, else both.
-pub fn alike(alloc: Global, narrow: String, wide: String) -> Result<String, Fail> {
-    if narrow.as_str() == wide.as_str() {
-        return Ok(narrow);
-    }
-    Ok(format!(in alloc; "{narrow}; but of 64 bits {wide}")?)
+    Ok(write!(out, "; but of 64 bits {wide}")?)
 }
 
 /// Puts bytes over those at a place.

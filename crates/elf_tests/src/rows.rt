@@ -1,6 +1,6 @@
 // The rows of the tests, by what is asked of their inputs.
-use crate::symbols::{answer_to_header, answer_to_markers};
-use crate::tables::answer_to_symbols;
+use crate::symbols::{put_answer_to_header, put_answer_to_markers};
+use crate::tables::put_answer_to_symbols;
 use crate::{symbols, tables};
 use std::alloc::Global;
 use std::test::Fail;
@@ -17,24 +17,28 @@ pub enum Kind {
     AnswerToSymbols,
 }
 
-fn answer(alloc: Global, kind: Kind, input: &str) -> Result<String, Fail> {
+fn put_answer(alloc: Global, kind: Kind, input: &str, out: &mut String) -> Result<(), Fail> {
     match kind {
-        Kind::AnswerToMarkers => answer_to_markers(alloc, input),
-        Kind::AnswerToHeader => answer_to_header(alloc, input),
-        Kind::SymbolReadBack => symbols::read_back(alloc, input),
-        Kind::SymbolAnswerToDamage => symbols::answer_to_damage(alloc, input),
-        Kind::TableReadBack => tables::read_back(alloc, input),
-        Kind::TableAnswerToDamage => tables::answer_to_damage(alloc, input),
-        Kind::AnswerToSymbols => answer_to_symbols(alloc, input),
+        Kind::AnswerToMarkers => put_answer_to_markers(alloc, input, out),
+        Kind::AnswerToHeader => put_answer_to_header(alloc, input, out),
+        Kind::SymbolReadBack => symbols::put_read_back(alloc, input, out),
+        Kind::SymbolAnswerToDamage => symbols::put_answer_to_damage(alloc, input, out),
+        Kind::TableReadBack => tables::put_read_back(alloc, input, out),
+        Kind::TableAnswerToDamage => tables::put_answer_to_damage(alloc, input, out),
+        Kind::AnswerToSymbols => put_answer_to_symbols(alloc, input, out),
     }
 }
 
-/// Asks for the answers of lines, as `test_rows::each_line` does.
+/// Asks for the answers of lines, as `test_rows::ask_lines` does.
 pub fn each_line(alloc: Global, lines: &str, kind: Kind) -> Result<String, Fail> {
-    test_rows::each_line(alloc, lines, |alloc, input| answer(alloc, kind, input))
+    test_rows::ask_lines(alloc, lines, |alloc, input, out| {
+        put_answer(alloc, kind, input, out)
+    })
 }
 
-/// Asks for the answers of blocks, as `test_rows::each_block` does.
+/// Asks for the answers of blocks, as `test_rows::ask_blocks` does.
 pub fn each_block(alloc: Global, blocks: &str, kind: Kind) -> Result<String, Fail> {
-    test_rows::each_block(alloc, blocks, |alloc, input| answer(alloc, kind, input))
+    test_rows::ask_blocks(alloc, blocks, |alloc, input, out| {
+        put_answer(alloc, kind, input, out)
+    })
 }

@@ -4,49 +4,47 @@ ghost use Rattle.std.specs.Bool.{OnTrue};
 ghost use Rattle.elf_section.specs.Symbol.{plain_all};
 ghost use Rattle.elf_section.specs.Written.{IsWritable};
 
-use crate::files::{Linked, REFUSED, alike, damage, linked_of, parted, put_over};
+use crate::files::{Linked, REFUSED, damage, parted, put_over, put_unlike};
 use crate::rows::{Kind, each_block, each_line};
 use dl_io::Bytes;
 use elf_section::{ElfFault, Symbol, read_symbols, write_symbols};
 use std::alloc::Global;
+use std::fmt::Write;
 use std::test::Fail;
-use test_rows::{bytes_of, digits_of};
+use test_rows::{bytes_of, put_digits};
 
-/// How many symbols there are, and the value and the name of each.
-fn listing(alloc: Global, symbols: &[Symbol]) -> Result<String, Fail> {
-    let mut all = format!(in alloc; "{} symbols", symbols.len())?;
-    for symbol in symbols {
-        let name = str::from_utf8(symbol.name.as_slice())?;
-        let one = format!(in alloc; "; {} {name}", symbol.value)?;
-        all.push_str(one.as_str())?;
-    }
-    Ok(all)
+fn put_symbol(symbol: &Symbol, out: &mut String) -> Result<(), Fail> {
+    write!(out, "; {} ", symbol.value)?;
+    Ok(out.push_str(str::from_utf8(symbol.name.as_slice())?)?)
 }
 
-fn refusal(alloc: Global, fault: ElfFault) -> Result<String, Fail> {
-    Ok(match fault {
+/// How many symbols there are, and the value and the name of each.
+fn put_listing(symbols: &[Symbol], out: &mut String) -> Result<(), Fail> {
+    write!(out, "{} symbols", symbols.len())?;
+    for symbol in symbols {
+        put_symbol(symbol, out)?;
+    }
+    Ok(())
+}
+
+fn put_refusal(fault: ElfFault, out: &mut String) -> Result<(), Fail> {
+    match fault {
         ElfFault::Refused { cause, part, place } => {
-            format!(in alloc; "cause {cause} {part:?} {place}")?
+            Ok(write!(out, "cause {cause} {part:?} {place}")?)
         }
-        ElfFault::Memory => format!(in alloc; "memory")?,
-    })
+        ElfFault::Memory => Ok(out.push_str("memory")?),
+    }
 }
 
 /// The symbols of a file, or its refusal.
-fn symbols(alloc: Global, file: &[u8]) -> Result<String, Fail> {
+fn put_symbols(alloc: Global, file: &[u8], out: &mut String) -> Result<(), Fail> {
     if file.len() >= 1 << 32 {
         return Err(Fail::new("the file is too long"));
     }
     match read_symbols(alloc, file) {
-        Ok(symbols) => listing(alloc, &symbols),
-        Err(fault) => refusal(alloc, fault),
+        Ok(symbols) => put_listing(&symbols, out),
+        Err(fault) => put_refusal(fault, out),
     }
-}
-
-/// The symbols of a linked file with these two markers.
-fn marked(alloc: Global, wide: bool, version: &str, encoding: &str) -> Result<Linked, Fail> {
-    let lines = format!(in alloc; "3 0\n3 0 $d\n3 0 {version}\n65521 0 {encoding}\n{OTHERS}")?;
-    linked_of(alloc, wide, lines.as_str())
 }
 
 /// The symbols behind the markers: three of `.defmt`, of which one has another name, and one of another section.
@@ -56,18 +54,39 @@ const OTHERS: &str =
 3 0 {"zero":0}
 3 2 main"#;
 
-fn symbols_by_markers(alloc: Global, wide: bool, markers: &str) -> Result<String, Fail> {
+/// Pushes the symbols of a file with these two markers.
+fn push_marked(linked: &mut Linked, markers: &str) -> Result<(), Fail> {
     let Some((version, encoding)) = markers.split_once('\n') else {
         return Err(Fail::new("no markers"));
     };
-    let file = marked(alloc, wide, version, encoding)?.file(alloc)?;
-    symbols(alloc, &file)
+    linked.begin("3 0\n3 0 $d")?;
+    linked.push_named(3, 0, version)?;
+    linked.push_named(65521, 0, encoding)?;
+    linked.push_lines(OTHERS)
 }
 
-pub fn answer_to_markers(alloc: Global, markers: &str) -> Result<String, Fail> {
-    let narrow = symbols_by_markers(alloc, false, markers)?;
-    let wide = symbols_by_markers(alloc, true, markers)?;
-    alike(alloc, narrow, wide)
+fn put_marked(alloc: Global, wide: bool, markers: &str, file: &mut Vec<u8>) -> Result<(), Fail> {
+    let mut linked = Linked::new(alloc, wide);
+    push_marked(&mut linked, markers)?;
+    linked.put_file(file)
+}
+
+fn put_symbols_by_markers(
+    alloc: Global,
+    wide: bool,
+    markers: &str,
+    out: &mut String,
+) -> Result<(), Fail> {
+    let mut file = Vec::new(alloc);
+    put_marked(alloc, wide, markers, &mut file)?;
+    put_symbols(alloc, &file, out)
+}
+
+pub fn put_answer_to_markers(alloc: Global, markers: &str, out: &mut String) -> Result<(), Fail> {
+    put_symbols_by_markers(alloc, false, markers, out)?;
+    let mut wide = String::new(alloc);
+    put_symbols_by_markers(alloc, true, markers, &mut wide)?;
+    put_unlike(wide.as_str(), out)
 }
 
 const MARKERS: &str = "\
@@ -192,57 +211,64 @@ const HEADERS: &str = "\
 32 6 20 00 00 00 00 = cause 4 SymbolName 1
 32 4 20 00 00 00 00 = cause 4 SectionName 0";
 
-fn sound(alloc: Global, class: &str) -> Result<Linked, Fail> {
-    marked(
-        alloc,
-        class == "64",
-        "_defmt_version_ = 4",
-        "_defmt_encoding_ = rzcobs",
-    )
-}
+const SOUND: &str = "_defmt_version_ = 4\n_defmt_encoding_ = rzcobs";
 
-fn with_other_bytes(alloc: Global, linked: &Linked, change: &str) -> Result<Vec<u8>, Fail> {
+fn put_other_bytes(
+    alloc: Global,
+    linked: &Linked,
+    change: &str,
+    file: &mut Vec<u8>,
+) -> Result<(), Fail> {
     let (section, rest) = parted(change);
     let (field, digits) = parted(rest);
     let at = linked
         .header_at(section)?
         .wrapping_add(field.parse::<u64>()?);
-    let mut file = linked.file(alloc)?;
-    put_over(&mut file, at as usize, &bytes_of(alloc, digits)?)?;
-    Ok(file)
+    put_over(file, at as usize, &bytes_of(alloc, digits)?)
 }
 
-pub fn answer_to_header(alloc: Global, change: &str) -> Result<String, Fail> {
+fn put_changed(alloc: Global, change: &str, file: &mut Vec<u8>) -> Result<(), Fail> {
     let (class, change) = parted(change);
-    let linked = sound(alloc, class)?;
-    let file = with_other_bytes(alloc, &linked, change)?;
-    symbols(alloc, &file)
+    let mut linked = Linked::new(alloc, class == "64");
+    push_marked(&mut linked, SOUND)?;
+    linked.put_file(file)?;
+    put_other_bytes(alloc, &linked, change, file)
 }
 
-#[test]
-fn a_changed_header_gives_its_refusal(rt: HostRuntime) -> Result<(), Fail> {
-    let told = each_line(rt.alloc(), HEADERS, Kind::AnswerToHeader)?;
-    assert_eq!(rt; told.as_str(), "28 rows");
-    Ok(())
+pub fn put_answer_to_header(alloc: Global, change: &str, out: &mut String) -> Result<(), Fail> {
+    let mut file = Vec::new(alloc);
+    put_changed(alloc, change, &mut file)?;
+    put_symbols(alloc, &file, out)
 }
 
-/// A file of 65,536 symbols more, whose names begin like quoted markers and all end at the end of
-/// one text of 4 MB.
-fn crowded(alloc: Global) -> Result<Vec<u8>, Fail> {
+/// 65,536 symbols more, whose names begin like quoted markers and all end at the end of one text of 4 MB.
+fn push_crowd(alloc: Global, linked: &mut Linked) -> Result<(), Fail> {
     const FRONT: &str = "\"_defmt_version_ = ";
-    let mut linked = sound(alloc, "32")?;
+    push_marked(linked, SOUND)?;
     for _ in 0..65536 {
         linked.push_symbol(3, 0)?;
         linked.push_bytes(FRONT.as_bytes())?;
     }
     linked.push_bytes(FRONT.repeat(alloc, 150000)?.as_bytes())?;
-    linked.push_bytes(b"x\0")?;
-    linked.file(alloc)
+    linked.push_bytes(b"x\0")
+}
+
+fn put_crowded(alloc: Global, file: &mut Vec<u8>) -> Result<(), Fail> {
+    let mut linked = Linked::new(alloc, false);
+    push_crowd(alloc, &mut linked)?;
+    linked.put_file(file)
+}
+
+fn put_answer_to_crowd(alloc: Global, out: &mut String) -> Result<(), Fail> {
+    let mut file = Vec::new(alloc);
+    put_crowded(alloc, &mut file)?;
+    put_symbols(alloc, &file, out)
 }
 
 #[test]
 fn many_names_in_one_long_text_take_no_longer(rt: HostRuntime) -> Result<(), Fail> {
-    let told = symbols(rt.alloc(), &crowded(rt.alloc())?)?;
+    let mut told = String::new(rt.alloc());
+    put_answer_to_crowd(rt.alloc(), &mut told)?;
     assert!(rt; told.as_str().starts_with("2 symbols; 3 "));
     Ok(())
 }
@@ -316,7 +342,9 @@ const FILE: &str = "\
 fn one_symbol_makes_472_bytes(rt: HostRuntime) -> Result<(), Fail> {
     let file = written(rt.alloc(), HELLO)?;
     assert_eq!(rt; file.len(), 472);
-    assert_eq!(rt; digits_of(rt.alloc(), file.as_slice())?.as_str(), FILE);
+    let mut digits = String::new(rt.alloc());
+    put_digits(&mut digits, file.as_slice())?;
+    assert_eq!(rt; digits.as_str(), FILE);
     Ok(())
 }
 
@@ -337,16 +365,18 @@ const WRITTEN: &str =
 =
 cause 7 Nothing 0"#;
 
-pub fn read_back(alloc: Global, text: &str) -> Result<String, Fail> {
+pub fn put_read_back(alloc: Global, text: &str, out: &mut String) -> Result<(), Fail> {
     let file = written(alloc, text)?;
-    symbols(alloc, file.as_slice())
+    put_symbols(alloc, file.as_slice(), out)
 }
 
 #[test]
 fn of_written_symbols_those_with_a_brace_are_read_back(rt: HostRuntime) -> Result<(), Fail> {
     let told = each_block(rt.alloc(), WRITTEN, Kind::SymbolReadBack)?;
     assert_eq!(rt; told.as_str(), "3 rows");
-    assert_eq!(rt; read_back(rt.alloc(), "")?.as_str(), "0 symbols");
+    let mut none = String::new(rt.alloc());
+    put_read_back(rt.alloc(), "", &mut none)?;
+    assert_eq!(rt; none.as_str(), "0 symbols");
     Ok(())
 }
 
@@ -357,21 +387,20 @@ at 163 78 = 0 symbols
 at 164 20 = 1 symbols; 1 { data":"hello","disambiguator":"1","package":"script","tag":"defmt_info"}
 at 106 01 = 1 symbols; 65537 {"data":"hello","disambiguator":"1","package":"script","tag":"defmt_info"}"#;
 
-pub fn answer_to_damage(alloc: Global, text: &str) -> Result<String, Fail> {
+pub fn put_answer_to_damage(alloc: Global, text: &str, out: &mut String) -> Result<(), Fail> {
     let mut file = bytes_of(alloc, FILE)?;
     damage(alloc, &mut file, text)?;
-    symbols(alloc, &file)
+    put_symbols(alloc, &file, out)
 }
 
 #[test]
-fn a_damaged_file_gives_its_refusal(rt: HostRuntime) -> Result<(), Fail> {
+fn a_damaged_file_gives_its_refusal_or_its_symbol_as_it_stands(
+    rt: HostRuntime,
+) -> Result<(), Fail> {
+    let told = each_line(rt.alloc(), HEADERS, Kind::AnswerToHeader)?;
+    assert_eq!(rt; told.as_str(), "28 rows");
     let told = each_line(rt.alloc(), REFUSED, Kind::SymbolAnswerToDamage)?;
     assert_eq!(rt; told.as_str(), "16 rows");
-    Ok(())
-}
-
-#[test]
-fn a_changed_symbol_is_read_as_it_stands(rt: HostRuntime) -> Result<(), Fail> {
     let told = each_line(rt.alloc(), READ, Kind::SymbolAnswerToDamage)?;
     assert_eq!(rt; told.as_str(), "5 rows");
     Ok(())

@@ -1,82 +1,102 @@
 //! Tables that are written and read back, those of linked files, and refusals.
-use crate::files::{REFUSED, alike, damage, linked_of, parted};
+use crate::files::{Linked, REFUSED, damage, parted, put_unlike};
 use crate::rows::{Kind, each_block, each_line};
 use defmt_grammar::Text;
 use defmt_intern::{Entry, Table, Tag};
 use dl_io::Bytes;
 use elf_table::{LoadFault, is_writable, read_table, write_table};
 use std::alloc::Global;
+use std::fmt::Write;
 use std::test::Fail;
 
-/// How many entries there are, the index of the timestamp, and each entry's index, tag, package, disambiguator and text.
-fn listing(alloc: Global, table: &Table) -> Result<String, Fail> {
-    let mut all = format!(in alloc; "{} entries", table.len())?;
-    if let Some(index) = table.stamp() {
-        let stamp = format!(in alloc; ", stamp {index}")?;
-        all.push_str(stamp.as_str())?;
-    }
-    for (index, entry) in table.entries() {
-        let (tag, package) = (entry.tag.name(), entry.package.as_str());
-        let (other, text) = (entry.disambiguator.as_str(), entry.text.as_str());
-        let one = format!(in alloc; "; {index} {tag} {package} {other} {text}")?;
-        all.push_str(one.as_str())?;
-    }
-    Ok(all)
+fn put_word(word: &str, out: &mut String) -> Result<(), Fail> {
+    out.push_str(" ")?;
+    Ok(out.push_str(word)?)
 }
 
-fn refusal(alloc: Global, fault: LoadFault) -> Result<String, Fail> {
-    Ok(match fault {
+fn put_entry(index: u16, entry: &Entry, out: &mut String) -> Result<(), Fail> {
+    write!(out, "; {index}")?;
+    put_word(entry.tag.name(), out)?;
+    put_word(entry.package.as_str(), out)?;
+    put_word(entry.disambiguator.as_str(), out)?;
+    put_word(entry.text.as_str(), out)
+}
+
+/// How many entries there are, the index of the timestamp, and each entry's index, tag, package, disambiguator and text.
+fn put_listing(table: &Table, out: &mut String) -> Result<(), Fail> {
+    write!(out, "{} entries", table.len())?;
+    if let Some(index) = table.stamp() {
+        write!(out, ", stamp {index}")?;
+    }
+    for (index, entry) in table.entries() {
+        put_entry(index, entry, out)?;
+    }
+    Ok(())
+}
+
+fn put_refusal(fault: LoadFault, out: &mut String) -> Result<(), Fail> {
+    match fault {
         LoadFault::Elf { cause, part, place } => {
-            format!(in alloc; "cause {cause} {part:?} {place}")?
+            Ok(write!(out, "cause {cause} {part:?} {place}")?)
         }
-        LoadFault::Names { cause, symbol } => format!(in alloc; "cause {cause} symbol {symbol}")?,
-        LoadFault::Memory => format!(in alloc; "memory")?,
-    })
+        LoadFault::Names { cause, symbol } => Ok(write!(out, "cause {cause} symbol {symbol}")?),
+        LoadFault::Memory => Ok(out.push_str("memory")?),
+    }
 }
 
 /// The table of a file, or its refusal.
-fn table_in(alloc: Global, file: &[u8]) -> Result<String, Fail> {
+fn put_table(alloc: Global, file: &[u8], out: &mut String) -> Result<(), Fail> {
     if file.len() >= 1 << 32 {
         return Err(Fail::new("the file is too long"));
     }
     match read_table(alloc, file) {
-        Ok(table) => listing(alloc, &table),
-        Err(fault) => refusal(alloc, fault),
+        Ok(table) => put_listing(&table, out),
+        Err(fault) => put_refusal(fault, out),
     }
 }
 
-fn text_of(alloc: Global, text: &str) -> Result<Text, Fail> {
-    let mut copy = Text::new(alloc);
-    copy.push_str(text)?;
-    Ok(copy)
+fn put_texts(entry: &mut Entry, text: &str) -> Result<(), Fail> {
+    entry.package.push_str("script")?;
+    entry.text.push_str(text)?;
+    Ok(entry.disambiguator.push_str("1")?)
 }
 
 fn entry_of(alloc: Global, tag: &str, text: &str) -> Result<Entry, Fail> {
-    Ok(Entry {
+    let mut entry = Entry {
         tag: Tag::of_name(alloc, tag)?,
-        package: text_of(alloc, "script")?,
-        text: text_of(alloc, text)?,
-        disambiguator: text_of(alloc, "1")?,
-    })
+        package: Text::new(alloc),
+        text: Text::new(alloc),
+        disambiguator: Text::new(alloc),
+    };
+    put_texts(&mut entry, text)?;
+    Ok(entry)
 }
 
-/// The table of these lines, each with its index, tag and text.
-fn table_of(alloc: Global, lines: &str) -> Result<Table, Fail> {
-    let mut table = Table::new(alloc);
+/// Puts the entry of a line, which has its index, tag and text, into a table.
+fn insert_line(alloc: Global, line: &str, table: &mut Table) -> Result<(), Fail> {
+    let (index, rest) = parted(line);
+    let (tag, text) = parted(rest);
+    Ok(table.insert(index.parse::<u16>()?, entry_of(alloc, tag, text)?)?)
+}
+
+fn insert_lines(alloc: Global, lines: &str, table: &mut Table) -> Result<(), Fail> {
     for line in lines.lines() {
-        let (index, rest) = parted(line);
-        let (tag, text) = parted(rest);
-        table.insert(index.parse::<u16>()?, entry_of(alloc, tag, text)?)?;
+        insert_line(alloc, line, table)?;
     }
-    Ok(table)
+    Ok(())
+}
+
+fn file_of(alloc: Global, table: &Table) -> Result<Bytes, Fail> {
+    if !is_writable(table) {
+        return Err(Fail::new("the table is too large"));
+    }
+    Ok(write_table(alloc, table)?)
 }
 
 fn written(alloc: Global, lines: &str) -> Result<Bytes, Fail> {
-    let table = table_of(alloc, lines)?;
-    if !is_writable(&table) {
-        return Err(Fail::new("the table is too large"));
-    }
-    Ok(write_table(alloc, &table)?)
+    let mut table = Table::new(alloc);
+    insert_lines(alloc, lines, &mut table)?;
+    file_of(alloc, &table)
 }
 
 // Tables that are written, and what is read back.
@@ -92,9 +112,9 @@ const WRITTEN: &str = "\
 3 entries, stamp 65535; 0 defmt_bitflags script 1 a\"b\\é\u{1}; 700 defmt_prim script 1 None|Some({=?}); \
 65535 defmt_timestamp script 1 {=u64:us}";
 
-pub fn read_back(alloc: Global, lines: &str) -> Result<String, Fail> {
+pub fn put_read_back(alloc: Global, lines: &str, out: &mut String) -> Result<(), Fail> {
     let file = written(alloc, lines)?;
-    table_in(alloc, file.as_slice())
+    put_table(alloc, file.as_slice(), out)
 }
 
 #[test]
@@ -108,11 +128,9 @@ fn one_entry_makes_472_bytes(rt: HostRuntime) -> Result<(), Fail> {
 fn a_table_reads_back_with_its_indexes(rt: HostRuntime) -> Result<(), Fail> {
     let told = each_block(rt.alloc(), WRITTEN, Kind::TableReadBack)?;
     assert_eq!(rt; told.as_str(), "2 rows");
-    let none = written(rt.alloc(), "")?;
-    assert_eq!(rt;
-        table_in(rt.alloc(), none.as_slice())?.as_str(),
-        "0 entries"
-    );
+    let mut none = String::new(rt.alloc());
+    put_read_back(rt.alloc(), "", &mut none)?;
+    assert_eq!(rt; none.as_str(), "0 entries");
     Ok(())
 }
 
@@ -122,10 +140,10 @@ at 164 20 = cause 3 symbol 0
 at 106 01 = cause 6 symbol 0
 at 163 78 = 0 entries";
 
-pub fn answer_to_damage(alloc: Global, text: &str) -> Result<String, Fail> {
+pub fn put_answer_to_damage(alloc: Global, text: &str, out: &mut String) -> Result<(), Fail> {
     let mut file = written(alloc, "1 defmt_info hello")?.into_vec();
     damage(alloc, &mut file, text)?;
-    table_in(alloc, &file)
+    put_table(alloc, &file, out)
 }
 
 #[test]
@@ -183,16 +201,33 @@ cause 5 symbol 1
 =
 cause 8 Nothing 0"#;
 
-fn table_in_linked(alloc: Global, wide: bool, lines: &str) -> Result<String, Fail> {
-    let lines = format!(in alloc; "{FRONT}{lines}")?;
-    let file = linked_of(alloc, wide, lines.as_str())?.file(alloc)?;
-    table_in(alloc, &file)
+fn push_linked(linked: &mut Linked, lines: &str) -> Result<(), Fail> {
+    linked.begin(FRONT)?;
+    linked.push_lines(lines)
 }
 
-pub fn answer_to_symbols(alloc: Global, lines: &str) -> Result<String, Fail> {
-    let narrow = table_in_linked(alloc, false, lines)?;
-    let wide = table_in_linked(alloc, true, lines)?;
-    alike(alloc, narrow, wide)
+fn put_linked(alloc: Global, wide: bool, lines: &str, file: &mut Vec<u8>) -> Result<(), Fail> {
+    let mut linked = Linked::new(alloc, wide);
+    push_linked(&mut linked, lines)?;
+    linked.put_file(file)
+}
+
+fn put_table_in_linked(
+    alloc: Global,
+    wide: bool,
+    lines: &str,
+    out: &mut String,
+) -> Result<(), Fail> {
+    let mut file = Vec::new(alloc);
+    put_linked(alloc, wide, lines, &mut file)?;
+    put_table(alloc, &file, out)
+}
+
+pub fn put_answer_to_symbols(alloc: Global, lines: &str, out: &mut String) -> Result<(), Fail> {
+    put_table_in_linked(alloc, false, lines, out)?;
+    let mut wide = String::new(alloc);
+    put_table_in_linked(alloc, true, lines, &mut wide)?;
+    put_unlike(wide.as_str(), out)
 }
 
 #[test]
@@ -203,18 +238,27 @@ fn linked_files_of_both_classes_name_their_table(rt: HostRuntime) -> Result<(), 
 }
 
 // The second symbol's text has 4,097 bytes.
-fn with_a_long_text(alloc: Global) -> Result<String, Fail> {
+fn put_long_text(alloc: Global, lines: &mut String) -> Result<(), Fail> {
     let text = "a".repeat(alloc, 4097)?;
     let first =
         r#"3 3 {"package":"app","tag":"defmt_info","data":"hello","disambiguator":"7","crate_name":"app","x":[1,{"y":null}]}"#;
-    let long = format!(in alloc;
+    write!(
+        lines,
         "65521 0 _defmt_encoding_ = rzcobs\n{first}\n3 9 {{\"package\":\"p\",\"tag\":\"defmt_str\",\"disambiguator\":\"d\",\"data\":\"{text}\"}}"
     )?;
-    table_in_linked(alloc, false, long.as_str())
+    Ok(())
+}
+
+fn put_answer_to_long_text(alloc: Global, out: &mut String) -> Result<(), Fail> {
+    let mut lines = String::new(alloc);
+    put_long_text(alloc, &mut lines)?;
+    put_table_in_linked(alloc, false, lines.as_str(), out)
 }
 
 #[test]
 fn a_text_of_4097_bytes_is_refused(rt: HostRuntime) -> Result<(), Fail> {
-    assert_eq!(rt; with_a_long_text(rt.alloc())?.as_str(), "cause 4 symbol 1");
+    let mut told = String::new(rt.alloc());
+    put_answer_to_long_text(rt.alloc(), &mut told)?;
+    assert_eq!(rt; told.as_str(), "cause 4 symbol 1");
     Ok(())
 }
