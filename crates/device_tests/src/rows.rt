@@ -55,6 +55,17 @@ fn answer<R: Threads + Wait + Sync>(
     }
 }
 
+fn put_answer<R: Threads + Wait + Sync>(
+    rt: &R,
+    alloc: Global,
+    kind: Kind,
+    input: &str,
+    out: &mut String,
+) -> Result<(), Fail> {
+    let answer = answer(rt, alloc, kind, input)?;
+    Ok(out.push_str(answer.as_str())?)
+}
+
 /// Asks for the answers of lines, as `test_rows::each_line` does.
 pub fn each_line<R: Threads + Wait + Sync>(
     rt: &R,
@@ -62,7 +73,9 @@ pub fn each_line<R: Threads + Wait + Sync>(
     lines: &str,
     kind: Kind,
 ) -> Result<String, Fail> {
-    test_rows::each_line(alloc, lines, |alloc, input| answer(rt, alloc, kind, input))
+    test_rows::each_line(alloc, lines, |alloc, input, out| {
+        put_answer(rt, alloc, kind, input, out)
+    })
 }
 
 /// Asks for the answers of blocks, as `test_rows::each_block` does.
@@ -72,5 +85,7 @@ pub fn each_block<R: Threads + Wait + Sync>(
     blocks: &str,
     kind: Kind,
 ) -> Result<String, Fail> {
-    test_rows::each_block(alloc, blocks, |alloc, input| answer(rt, alloc, kind, input))
+    test_rows::each_block(alloc, blocks, |alloc, input, out| {
+        put_answer(rt, alloc, kind, input, out)
+    })
 }

@@ -1,13 +1,14 @@
 ghost use Rattle.std.specs.Prelude.{[], ◌∷◌, true, false, None};
 
 // Recordings that a listener hears, which has a letter for each part.
+use crate::rows::{Kind, each_line};
 use crate::sessions::{sink_of, source_of};
 use defmt_framing::{Framer, Teller};
 use defmt_listen::{ListenFault, Listener, listen};
 use dl_io::{Bytes, Failed, MemSource, Memory, RepeatSource, Source};
 use std::alloc::Global;
 use std::test::Fail;
-use test_rows::{bytes_of, each_line};
+use test_rows::bytes_of;
 
 // The digits of a recording, of a read and of a write that fail, and the answer and the lines: a letter and a point for its newline.
 const HEARD: &str = "\
@@ -179,7 +180,7 @@ fn digits_source(alloc: Global, digits: &str, fails: &str) -> Result<MemSource, 
     source_of(alloc, &bytes_of(alloc, digits)?, &fails)
 }
 
-fn heard_row(alloc: Global, row: &str) -> Result<String, Fail> {
+pub fn heard_row(alloc: Global, row: &str) -> Result<String, Fail> {
     let Some((digits, fails)) = row.split_once('/') else {
         return Err("no reads".into());
     };
@@ -201,7 +202,7 @@ fn repeated(row: &str) -> Result<Asked, Fail> {
     })
 }
 
-fn repeated_row(alloc: Global, row: &str) -> Result<String, Fail> {
+pub fn repeated_row(alloc: Global, row: &str) -> Result<String, Fail> {
     let mut source = repeated(row)?;
     let heard = heard_of(alloc, &mut source, b"")?;
     let most = source.most;
@@ -210,14 +211,17 @@ fn repeated_row(alloc: Global, row: &str) -> Result<String, Fail> {
 
 #[test]
 fn each_part_has_a_line_and_a_fault_leaves_what_was_begun(rt: HostRuntime) -> Result<(), Fail> {
-    assert_eq!(rt; each_line(rt.alloc(), HEARD, heard_row)?.as_str(), "3 rows");
+    assert_eq!(rt;
+        each_line(&rt, rt.alloc(), HEARD, Kind::Heard)?.as_str(),
+        "3 rows"
+    );
     Ok(())
 }
 
 #[test]
 fn a_recording_is_read_in_parts_up_to_its_limit(rt: HostRuntime) -> Result<(), Fail> {
     assert_eq!(rt;
-        each_line(rt.alloc(), REPEATED, repeated_row)?.as_str(),
+        each_line(&rt, rt.alloc(), REPEATED, Kind::Repeated)?.as_str(),
         "2 rows"
     );
     Ok(())

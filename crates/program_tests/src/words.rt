@@ -1,9 +1,9 @@
 // What words ask for. A row is the words, which single spaces part, and the job.
+use crate::rows::{Kind, each_line};
 use crate::sessions::words_of;
 use defmt_words::{Job, job_of};
 use std::alloc::Global;
 use std::test::Fail;
-use test_rows::each_line;
 
 const JOBS: &str = "\
 defmtl run = run
@@ -41,7 +41,7 @@ fn text_of(alloc: Global, job: Option<Job<'_>>) -> Result<String, Fail> {
     Ok(String::from_str(alloc, word)?)
 }
 
-fn asked(alloc: Global, row: &str) -> Result<String, Fail> {
+pub fn asked(alloc: Global, row: &str) -> Result<String, Fail> {
     let words = words_of(alloc, row)?;
     match job_of(alloc, &words) {
         Ok(job) => text_of(alloc, job),
@@ -51,12 +51,18 @@ fn asked(alloc: Global, row: &str) -> Result<String, Fail> {
 
 #[test]
 fn words_ask_for_their_job(rt: HostRuntime) -> Result<(), Fail> {
-    assert_eq!(rt; each_line(rt.alloc(), JOBS, asked)?.as_str(), "8 rows");
+    assert_eq!(rt;
+        each_line(&rt, rt.alloc(), JOBS, Kind::Asked)?.as_str(),
+        "8 rows"
+    );
     Ok(())
 }
 
 #[test]
 fn other_words_ask_for_nothing(rt: HostRuntime) -> Result<(), Fail> {
-    assert_eq!(rt; each_line(rt.alloc(), NO_JOBS, asked)?.as_str(), "10 rows");
+    assert_eq!(rt;
+        each_line(&rt, rt.alloc(), NO_JOBS, Kind::Asked)?.as_str(),
+        "10 rows"
+    );
     Ok(())
 }

@@ -5,4 +5,4 @@ mod digits;
 mod rows;
 
 pub use digits::{bytes_of, digits_of, put_digits};
-pub use rows::{ask_blocks, ask_lines, each_block, each_line};
+pub use rows::{each_block, each_line};

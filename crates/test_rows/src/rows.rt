@@ -1,64 +1,6 @@
 use std::alloc::Global;
 use std::test::Fail;
 
-// What is wrong with a row, whose input and answer stand on both sides of the mark; nothing where the answer is the one that is due.
-fn fault_of<F: Fn(Global, &str) -> Result<String, Fail>>(
-    alloc: Global,
-    row: &str,
-    mark: &str,
-    answer: &F,
-) -> Result<String, Fail>
-    requires { F.IsAlwaysCallable answer.now }
-{
-    let Some((input, due)) = row.split_once(mark) else {
-        return Ok(format!(in alloc; "no row: {row}")?);
-    };
-    let got = answer(alloc, input)?;
-    if got.as_str() == due {
-        Ok(String::new(alloc))
-    } else {
-        Ok(format!(in alloc; "{input}{mark}{got}")?)
-    }
-}
-
-/// Asks for the answer to the input of each line, which is `input = answer`, and tells how many lines there are, as `3 rows`, or the first line whose answer is another one.
-pub fn each_line<F: Fn(Global, &str) -> Result<String, Fail>>(
-    alloc: Global,
-    lines: &str,
-    answer: F,
-) -> Result<String, Fail>
-    requires { F.IsAlwaysCallable answer }
-{
-    let mut count = 0u16;
-    for row in lines.lines() {
-        let fault = fault_of(alloc, row, " = ", &answer)?;
-        if !fault.is_empty() {
-            return Ok(fault);
-        }
-        count = count.saturating_add(1);
-    }
-    Ok(format!(in alloc; "{count} rows")?)
-}
-
-/// The same of blocks with an empty line between them, in each of which a line `=` parts the input from the answer.
-pub fn each_block<F: Fn(Global, &str) -> Result<String, Fail>>(
-    alloc: Global,
-    blocks: &str,
-    answer: F,
-) -> Result<String, Fail>
-    requires { F.IsAlwaysCallable answer }
-{
-    let mut count = 0u16;
-    for row in blocks.split("\n\n") {
-        let fault = fault_of(alloc, row, "\n=\n", &answer)?;
-        if !fault.is_empty() {
-            return Ok(fault);
-        }
-        count = count.saturating_add(1);
-    }
-    Ok(format!(in alloc; "{count} rows")?)
-}
-
 // Puts what is wrong with a row, whose input and answer stand on both sides of the mark; nothing where the answer is the one that is due.
 fn put_fault<F: Fn(Global, &str, &mut String) -> Result<(), Fail>>(
     alloc: Global,
@@ -85,7 +27,7 @@ fn put_fault<F: Fn(Global, &str, &mut String) -> Result<(), Fail>>(
 
 /// Asks for the answer to the input of each line, which is `input = answer` and whose answer is put behind a text, and tells how many lines there are, as `3 rows`, or the
 /// first line whose answer is another one.
-pub fn ask_lines<F: Fn(Global, &str, &mut String) -> Result<(), Fail>>(
+pub fn each_line<F: Fn(Global, &str, &mut String) -> Result<(), Fail>>(
     alloc: Global,
     lines: &str,
     answer: F,
@@ -105,7 +47,7 @@ pub fn ask_lines<F: Fn(Global, &str, &mut String) -> Result<(), Fail>>(
 }
 
 /// The same of blocks with an empty line between them, in each of which a line `=` parts the input from the answer.
-pub fn ask_blocks<F: Fn(Global, &str, &mut String) -> Result<(), Fail>>(
+pub fn each_block<F: Fn(Global, &str, &mut String) -> Result<(), Fail>>(
     alloc: Global,
     blocks: &str,
     answer: F,
