@@ -1,11 +1,12 @@
 // What texts of arguments read as, and how arguments are written.
 use crate::rows::{Kind, each_block, each_line};
-use crate::texts::{inside_of, script_of};
+use crate::texts::{inside_of, put_args, script_of};
 use defmt_grammar::Text;
 use defmt_intern::{Entry, Table, Tag};
-use defmt_spelling::{ArgFault, Names, print_args, read_args};
+use defmt_spelling::{ArgFault, Names, read_args};
 use defmt_values::Statement;
 use std::alloc::Global;
+use std::fmt::Write;
 use std::test::Fail;
 
 // A format string and a text of arguments; how they are written, or the cause for which they aren't read.
@@ -132,108 +133,110 @@ fn add_string(alloc: Global, strings: &mut Strings, name: &str, entry: &str) -> 
     Ok(())
 }
 
-// How the arguments of the string at index 1 are written that are read from a text.
-fn written(alloc: Global, names: &Names, table: &Table, row: &str) -> Result<String, Fail> {
+// Puts how the arguments of the string at index 1 are written that are read from a text.
+fn put_written(
+    alloc: Global,
+    names: &Names,
+    table: &Table,
+    row: &str,
+    out: &mut String,
+) -> Result<(), Fail> {
     match read_args(alloc, names, table, 1, inside_of(row)?) {
-        Ok(args) => {
-            let stm = Statement { index: 1, args };
-            let text = print_args(alloc, names, table, &stm)?;
-            Ok(format!(in alloc; "<{}>", text.as_str())?)
-        }
-        Err(ArgFault::Refused { cause }) => Ok(format!(in alloc; "cause {cause}")?),
-        Err(ArgFault::Memory) => Ok(String::from_str(alloc, "memory")?),
+        Ok(args) => put_args(alloc, names, table, &Statement { index: 1, args }, out),
+        Err(ArgFault::Refused { cause }) => Ok(write!(out, "cause {cause}")?),
+        Err(ArgFault::Memory) => Ok(out.push_str("memory")?),
     }
 }
 
-fn index_of(alloc: Global, names: &Names, name: &str) -> Result<String, Fail> {
-    match names.get(name) {
-        Some(index) => Ok(format!(in alloc; "{index}")?),
-        None => Ok(String::from_str(alloc, "none")?),
+// The same of texts, each on a line of its own.
+fn put_written_each(
+    alloc: Global,
+    names: &Names,
+    table: &Table,
+    rows: &str,
+    out: &mut String,
+) -> Result<(), Fail> {
+    for row in rows.split("\nargs ") {
+        put_gap(out)?;
+        put_written(alloc, names, table, row, out)?;
     }
-}
-
-// Takes a line, and gives its answer, an empty one where it asks for nothing.
-fn answer_of(alloc: Global, strings: &mut Strings, line: &str) -> Result<String, Fail> {
-    let (word, rest) = line.split_once(' ').unwrap_or((line, ""));
-    let (name, more) = rest.split_once(' ').unwrap_or((rest, ""));
-    match word {
-        "string" => add_string(alloc, strings, name, more)?,
-        "name" => strings.names.put(name, more.parse()?)?,
-        "get" => return index_of(alloc, &strings.names, name),
-        "args" => return written(alloc, &strings.names, &strings.table, rest),
-        _ => return Err("no line".into()),
-    }
-    Ok(String::new(alloc))
-}
-
-fn push_answer(answers: &mut String, answer: &str) -> Result<(), Fail> {
-    if !answers.is_empty() && !answer.is_empty() {
-        answers.push('\n')?;
-    }
-    answers.push_str(answer)?;
     Ok(())
 }
 
-pub fn answers_of(alloc: Global, block: &str) -> Result<String, Fail> {
+fn put_gap(out: &mut String) -> Result<(), Fail> {
+    if !out.is_empty() {
+        out.push('\n')?;
+    }
+    Ok(())
+}
+
+fn put_index(names: &Names, name: &str, out: &mut String) -> Result<(), Fail> {
+    put_gap(out)?;
+    match names.get(name) {
+        Some(index) => Ok(write!(out, "{index}")?),
+        None => Ok(out.push_str("none")?),
+    }
+}
+
+// Takes a line, and puts its answer, nothing where it asks for nothing.
+fn put_answer_of(
+    alloc: Global,
+    strings: &mut Strings,
+    line: &str,
+    out: &mut String,
+) -> Result<(), Fail> {
+    let (word, rest) = line.split_once(' ').unwrap_or((line, ""));
+    let (name, more) = rest.split_once(' ').unwrap_or((rest, ""));
+    match word {
+        "string" => add_string(alloc, strings, name, more),
+        "name" => Ok(strings.names.put(name, more.parse()?)?),
+        "get" => put_index(&strings.names, name, out),
+        "args" => put_written_each(alloc, &strings.names, &strings.table, rest, out),
+        _ => Err("no line".into()),
+    }
+}
+
+pub fn put_answers_of(alloc: Global, block: &str, out: &mut String) -> Result<(), Fail> {
     let mut strings = Strings {
         table: Table::new(alloc),
         names: Names::new(alloc),
     };
-    let mut answers = String::new(alloc);
     for line in block.lines() {
-        let answer = answer_of(alloc, &mut strings, line)?;
-        push_answer(&mut answers, answer.as_str())?;
+        put_answer_of(alloc, &mut strings, line, out)?;
     }
-    Ok(answers)
+    Ok(())
 }
 
-fn written_each(alloc: Global, names: &Names, table: &Table, rows: &str) -> Result<String, Fail> {
-    let mut answers = String::new(alloc);
-    for row in rows.split("\nargs ") {
-        let answer = written(alloc, names, table, row)?;
-        push_answer(&mut answers, answer.as_str())?;
-    }
-    Ok(answers)
-}
-
-pub fn written_by_script(alloc: Global, block: &str) -> Result<String, Fail> {
-    let Some((strings, rows)) = block.split_once("\nargs ") else {
-        return Err("no arguments".into());
-    };
+fn put_by_strings(alloc: Global, strings: &str, rows: &str, out: &mut String) -> Result<(), Fail> {
     let script = script_of(alloc, strings)?;
-    written_each(alloc, script.names(), script.table(), rows)
+    put_written_each(alloc, script.names(), script.table(), rows, out)
 }
 
-pub fn written_of_kind(alloc: Global, row: &str) -> Result<String, Fail> {
+pub fn put_written_by_script(alloc: Global, block: &str, out: &mut String) -> Result<(), Fail> {
+    match block.split_once("\nargs ") {
+        Some((strings, rows)) => put_by_strings(alloc, strings, rows, out),
+        None => Err("no arguments".into()),
+    }
+}
+
+pub fn put_written_of_kind(alloc: Global, row: &str, out: &mut String) -> Result<(), Fail> {
     let (form, args) = row.split_once(' ').unwrap_or((row, ""));
-    let text = format!(in alloc; "s log defmt_info {form}\ns z defmt_prim z")?;
-    let script = script_of(alloc, text.as_str())?;
-    written(alloc, script.names(), script.table(), args)
+    let strings = format!(in alloc; "s log defmt_info {form}\ns z defmt_prim z")?;
+    put_by_strings(alloc, strings.as_str(), args, out)
 }
 
 #[test]
 fn each_kind_has_its_spelling_and_its_causes(rt: HostRuntime) -> Result<(), Fail> {
-    assert_eq!(rt;
-        each_line(rt.alloc(), KINDS, Kind::WrittenOfKind)?.as_str(),
-        "24 rows"
-    );
+    let rows = each_line(rt.alloc(), KINDS, Kind::WrittenOfKind)?;
+    assert_eq!(rt; rows.as_str(), "24 rows");
     Ok(())
 }
 
 #[test]
-fn strings_are_found_by_their_names(rt: HostRuntime) -> Result<(), Fail> {
-    assert_eq!(rt;
-        each_block(rt.alloc(), BY_SCRIPTS, Kind::WrittenByScript)?.as_str(),
-        "3 rows"
-    );
-    Ok(())
-}
-
-#[test]
-fn the_least_name_of_an_index_is_written(rt: HostRuntime) -> Result<(), Fail> {
-    assert_eq!(rt;
-        each_block(rt.alloc(), BY_LINES, Kind::AnswersOf)?.as_str(),
-        "2 rows"
-    );
+fn strings_are_found_by_their_names_and_the_least_is_written(rt: HostRuntime) -> Result<(), Fail> {
+    let rows = each_block(rt.alloc(), BY_SCRIPTS, Kind::WrittenByScript)?;
+    assert_eq!(rt; rows.as_str(), "3 rows");
+    let rows = each_block(rt.alloc(), BY_LINES, Kind::AnswersOf)?;
+    assert_eq!(rt; rows.as_str(), "2 rows");
     Ok(())
 }

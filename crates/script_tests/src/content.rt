@@ -1,10 +1,9 @@
 // The lines of scripts: where they are cut, what each says, and what the first lines set.
 use crate::rows::{Kind, each_line};
-use crate::texts::{digits_or_nothing, inside_of};
+use crate::texts::{inside_of, put_digits_or_nothing, put_settings};
 use defmt_intern::Tag;
 use defmt_lines::{
-    Cause, EntryLine, Form, Line, RingMode, Settings, StatementLine, is_name, judge, next_line,
-    read_line,
+    Cause, EntryLine, Form, Line, Settings, StatementLine, is_name, judge, next_line, read_line,
 };
 use std::alloc::Global;
 use std::fmt::Write;
@@ -66,82 +65,54 @@ const NAMES: &str = "\
 a_1 = true
 1a = false";
 
-pub fn cut_of(alloc: Global, digits: &str) -> Result<String, Fail> {
-    let text = bytes_of(alloc, digits)?;
+fn put_parts(text: &[u8], out: &mut String) -> Result<(), Fail> {
     if text.is_empty() {
         return Err("no text".into());
     }
-    let (line, rest) = next_line(&text);
-    let line = digits_or_nothing(alloc, line)?;
-    let rest = digits_or_nothing(alloc, rest)?;
-    Ok(format!(in alloc; "{line} | {rest}")?)
+    let (line, rest) = next_line(text);
+    put_digits_or_nothing(out, line)?;
+    out.push_str(" | ")?;
+    put_digits_or_nothing(out, rest)
 }
 
-fn push_bracketed(text: &mut String, word: &str) -> Result<(), Fail> {
-    text.push_str(" <")?;
-    text.push_str(word)?;
-    text.push('>')?;
-    Ok(())
+pub fn put_cut(alloc: Global, digits: &str, out: &mut String) -> Result<(), Fail> {
+    let text = bytes_of(alloc, digits)?;
+    put_parts(&text, out)
 }
 
-fn entry_said(alloc: Global, line: &EntryLine<'_>) -> Result<String, Fail> {
-    let mut text = String::from_str(alloc, "entry")?;
-    push_bracketed(&mut text, line.name)?;
-    text.push(' ')?;
-    text.push_str(line.tag.name())?;
-    push_bracketed(&mut text, line.text)?;
-    Ok(text)
+fn put_entry(line: &EntryLine<'_>, out: &mut String) -> Result<(), Fail> {
+    let (name, tag, text) = (line.name, line.tag.name(), line.text);
+    Ok(write!(out, "entry <{name}> {tag} <{text}>")?)
 }
 
-fn statement_said(alloc: Global, line: &StatementLine<'_>) -> Result<String, Fail> {
-    let mut text = String::from_str(alloc, "statement ")?;
+fn put_statement(line: &StatementLine<'_>, out: &mut String) -> Result<(), Fail> {
+    let (name, args) = (line.name, line.args);
     match line.writer {
-        Some(writer) => write!(text, "{writer}")?,
-        None => text.push_str("above")?,
+        Some(writer) => Ok(write!(out, "statement {writer} <{name}> <{args}>")?),
+        None => Ok(write!(out, "statement above <{name}> <{args}>")?),
     }
-    push_bracketed(&mut text, line.name)?;
-    push_bracketed(&mut text, line.args)?;
-    Ok(text)
 }
 
-fn said(alloc: Global, line: &Line<'_>) -> Result<String, Fail> {
+fn put_said(line: &Line<'_>, out: &mut String) -> Result<(), Fail> {
     match line {
-        Line::Blank => Ok(String::from_str(alloc, "blank")?),
-        Line::Ring(word) => Ok(format!(in alloc; "ring <{word}>")?),
-        Line::Mode(word) => Ok(format!(in alloc; "mode <{word}>")?),
-        Line::Reader(word) => Ok(format!(in alloc; "reader <{word}>")?),
-        Line::Stamp(base, step) => Ok(format!(in alloc; "stamp <{base}> <{step}>")?),
-        Line::Entry(entry) => entry_said(alloc, entry),
-        Line::Statement(statement) => statement_said(alloc, statement),
-        Line::Other => Ok(String::from_str(alloc, "other")?),
+        Line::Blank => Ok(out.push_str("blank")?),
+        Line::Ring(word) => Ok(write!(out, "ring <{word}>")?),
+        Line::Mode(word) => Ok(write!(out, "mode <{word}>")?),
+        Line::Reader(word) => Ok(write!(out, "reader <{word}>")?),
+        Line::Stamp(base, step) => Ok(write!(out, "stamp <{base}> <{step}>")?),
+        Line::Entry(entry) => put_entry(entry, out),
+        Line::Statement(statement) => put_statement(statement, out),
+        Line::Other => Ok(out.push_str("other")?),
     }
 }
 
-pub fn said_by_text(alloc: Global, row: &str) -> Result<String, Fail> {
-    said(alloc, &read_line(inside_of(row)?.as_bytes()))
+pub fn put_said_by_text(row: &str, out: &mut String) -> Result<(), Fail> {
+    put_said(&read_line(inside_of(row)?.as_bytes()), out)
 }
 
-pub fn said_by_bytes(alloc: Global, digits: &str) -> Result<String, Fail> {
+pub fn put_said_by_bytes(alloc: Global, digits: &str, out: &mut String) -> Result<(), Fail> {
     let bytes = bytes_of(alloc, digits)?;
-    said(alloc, &read_line(&bytes))
-}
-
-fn mode_said(mode: RingMode) -> &'static str {
-    match mode {
-        RingMode::Block => "block",
-        RingMode::Skip => "skip",
-        RingMode::Trim => "trim",
-    }
-}
-
-fn settings_said(alloc: Global, settings: &Settings) -> Result<String, Fail> {
-    let mut text = format!(in alloc; "ring {} ", settings.ring)?;
-    text.push_str(mode_said(settings.mode))?;
-    text.push_str(if settings.late { " late" } else { " live" })?;
-    if let Some((base, step)) = settings.stamp {
-        write!(text, " stamp {base} {step}")?;
-    }
-    Ok(text)
+    put_said(&read_line(&bytes), out)
 }
 
 // What a line sets that stands alone.
@@ -156,78 +127,64 @@ fn set_by(line: &Line<'_>) -> Option<Result<Settings, Cause>> {
     }
 }
 
-pub fn setting_of(alloc: Global, row: &str) -> Result<String, Fail> {
+pub fn put_setting(row: &str, out: &mut String) -> Result<(), Fail> {
     match set_by(&read_line(inside_of(row)?.as_bytes())) {
-        Some(Ok(settings)) => settings_said(alloc, &settings),
-        Some(Err(cause)) => Ok(format!(in alloc; "cause {}", cause.number())?),
-        None => Ok(String::from_str(alloc, "no setting")?),
+        Some(Ok(set)) => put_settings(set.ring, set.mode, set.late, set.stamp, out),
+        Some(Err(cause)) => Ok(write!(out, "cause {}", cause.number())?),
+        None => Ok(out.push_str("no setting")?),
     }
 }
 
-pub fn verdict_of(alloc: Global, row: &str) -> Result<String, Fail> {
-    let (tag, text) = row.split_once(' ').unwrap_or((row, ""));
+fn verdict_of(alloc: Global, tag: &str, text: &str) -> Result<Option<u8>, Fail> {
     let tag = Tag::of_name(alloc, tag)?;
-    match judge(alloc, &tag, text)? {
-        Some(number) => Ok(format!(in alloc; "refused {number}")?),
-        None => Ok(String::from_str(alloc, "taken")?),
+    Ok(judge(alloc, &tag, text)?)
+}
+
+pub fn put_verdict(alloc: Global, row: &str, out: &mut String) -> Result<(), Fail> {
+    let (tag, text) = row.split_once(' ').unwrap_or((row, ""));
+    match verdict_of(alloc, tag, text)? {
+        Some(number) => Ok(write!(out, "refused {number}")?),
+        None => Ok(out.push_str("taken")?),
     }
 }
 
-pub fn name_of(alloc: Global, row: &str) -> Result<String, Fail> {
-    Ok(format!(in alloc; "{}", is_name(row.as_bytes()))?)
+pub fn put_name(row: &str, out: &mut String) -> Result<(), Fail> {
+    Ok(out.push_str(if is_name(row.as_bytes()) {
+        "true"
+    } else {
+        "false"
+    })?)
 }
 
 #[test]
 fn a_carriage_return_is_passed_over_before_a_newline_alone(rt: HostRuntime) -> Result<(), Fail> {
-    assert_eq!(rt;
-        each_line(rt.alloc(), CUTS, Kind::CutOf)?.as_str(),
-        "2 rows"
-    );
+    let rows = each_line(rt.alloc(), CUTS, Kind::CutOf)?;
+    assert_eq!(rt; rows.as_str(), "2 rows");
     Ok(())
 }
 
 #[test]
-fn lines_are_cut_at_every_space(rt: HostRuntime) -> Result<(), Fail> {
-    assert_eq!(rt;
-        each_line(rt.alloc(), LINES, Kind::SaidByText)?.as_str(),
-        "18 rows"
-    );
-    Ok(())
-}
-
-#[test]
-fn bytes_that_are_no_text_say_nothing(rt: HostRuntime) -> Result<(), Fail> {
-    assert_eq!(rt;
-        each_line(rt.alloc(), BYTES, Kind::SaidByBytes)?.as_str(),
-        "1 rows"
-    );
+fn lines_are_cut_at_every_space_where_they_are_texts(rt: HostRuntime) -> Result<(), Fail> {
+    let rows = each_line(rt.alloc(), LINES, Kind::SaidByText)?;
+    assert_eq!(rt; rows.as_str(), "18 rows");
+    let rows = each_line(rt.alloc(), BYTES, Kind::SaidByBytes)?;
+    assert_eq!(rt; rows.as_str(), "1 rows");
     Ok(())
 }
 
 #[test]
 fn settings_are_decimal_numbers_and_words(rt: HostRuntime) -> Result<(), Fail> {
-    assert_eq!(rt;
-        each_line(rt.alloc(), SETTINGS, Kind::SettingOf)?.as_str(),
-        "10 rows"
-    );
+    let rows = each_line(rt.alloc(), SETTINGS, Kind::SettingOf)?;
+    assert_eq!(rt; rows.as_str(), "10 rows");
     Ok(())
 }
 
 #[test]
-fn a_text_is_read_by_its_tag(rt: HostRuntime) -> Result<(), Fail> {
-    assert_eq!(rt;
-        each_line(rt.alloc(), TEXTS, Kind::VerdictOf)?.as_str(),
-        "5 rows"
-    );
-    Ok(())
-}
-
-#[test]
-fn a_name_begins_with_a_letter(rt: HostRuntime) -> Result<(), Fail> {
-    assert_eq!(rt;
-        each_line(rt.alloc(), NAMES, Kind::NameOf)?.as_str(),
-        "2 rows"
-    );
+fn a_text_is_read_by_its_tag_and_a_name_begins_with_a_letter(rt: HostRuntime) -> Result<(), Fail> {
+    let rows = each_line(rt.alloc(), TEXTS, Kind::VerdictOf)?;
+    assert_eq!(rt; rows.as_str(), "5 rows");
+    let rows = each_line(rt.alloc(), NAMES, Kind::NameOf)?;
+    assert_eq!(rt; rows.as_str(), "2 rows");
     Ok(())
 }
 

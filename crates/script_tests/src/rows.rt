@@ -1,8 +1,12 @@
 // The rows of the tests, by what is asked of their inputs.
-use crate::arguments::{answers_of, written_by_script, written_of_kind};
-use crate::content::{cut_of, name_of, said_by_bytes, said_by_text, setting_of, verdict_of};
-use crate::scripts::{refusal_at_limit, refusal_of};
-use crate::shapes::{behind_calls, behind_spaces, bytes_meant, item_of, meaning_of, value_of};
+use crate::arguments::{put_answers_of, put_written_by_script, put_written_of_kind};
+use crate::content::{
+    put_cut, put_name, put_said_by_bytes, put_said_by_text, put_setting, put_verdict,
+};
+use crate::scripts::{put_refusal, put_refusal_at_limit};
+use crate::shapes::{
+    put_behind_calls, put_behind_spaces, put_bytes, put_item, put_meaning, put_value,
+};
 use std::alloc::Global;
 use std::test::Fail;
 
@@ -28,34 +32,38 @@ pub enum Kind {
     BehindCalls,
 }
 
-fn answer(alloc: Global, kind: Kind, input: &str) -> Result<String, Fail> {
+fn put_answer(alloc: Global, kind: Kind, input: &str, out: &mut String) -> Result<(), Fail> {
     match kind {
-        Kind::WrittenOfKind => written_of_kind(alloc, input),
-        Kind::WrittenByScript => written_by_script(alloc, input),
-        Kind::AnswersOf => answers_of(alloc, input),
-        Kind::CutOf => cut_of(alloc, input),
-        Kind::SaidByText => said_by_text(alloc, input),
-        Kind::SaidByBytes => said_by_bytes(alloc, input),
-        Kind::SettingOf => setting_of(alloc, input),
-        Kind::VerdictOf => verdict_of(alloc, input),
-        Kind::NameOf => name_of(alloc, input),
-        Kind::RefusalOf => refusal_of(alloc, input),
-        Kind::RefusalAtLimit => refusal_at_limit(alloc, input),
-        Kind::ValueOf => value_of(alloc, input),
-        Kind::ItemOf => item_of(alloc, input),
-        Kind::MeaningOf => meaning_of(alloc, input),
-        Kind::BytesMeant => bytes_meant(alloc, input),
-        Kind::BehindSpaces => behind_spaces(alloc, input),
-        Kind::BehindCalls => behind_calls(alloc, input),
+        Kind::WrittenOfKind => put_written_of_kind(alloc, input, out),
+        Kind::WrittenByScript => put_written_by_script(alloc, input, out),
+        Kind::AnswersOf => put_answers_of(alloc, input, out),
+        Kind::CutOf => put_cut(alloc, input, out),
+        Kind::SaidByText => put_said_by_text(input, out),
+        Kind::SaidByBytes => put_said_by_bytes(alloc, input, out),
+        Kind::SettingOf => put_setting(input, out),
+        Kind::VerdictOf => put_verdict(alloc, input, out),
+        Kind::NameOf => put_name(input, out),
+        Kind::RefusalOf => put_refusal(alloc, input, out),
+        Kind::RefusalAtLimit => put_refusal_at_limit(alloc, input, out),
+        Kind::ValueOf => put_value(alloc, input, out),
+        Kind::ItemOf => put_item(alloc, input, out),
+        Kind::MeaningOf => put_meaning(alloc, input, out),
+        Kind::BytesMeant => put_bytes(alloc, input, out),
+        Kind::BehindSpaces => put_behind_spaces(input, out),
+        Kind::BehindCalls => put_behind_calls(alloc, input, out),
     }
 }
 
-/// Asks for the answers of lines, as `test_rows::each_line` does.
+/// Asks for the answers of lines, as `test_rows::ask_lines` does.
 pub fn each_line(alloc: Global, lines: &str, kind: Kind) -> Result<String, Fail> {
-    test_rows::each_line(alloc, lines, |alloc, input| answer(alloc, kind, input))
+    test_rows::ask_lines(alloc, lines, |alloc, input, out| {
+        put_answer(alloc, kind, input, out)
+    })
 }
 
-/// Asks for the answers of blocks, as `test_rows::each_block` does.
+/// Asks for the answers of blocks, as `test_rows::ask_blocks` does.
 pub fn each_block(alloc: Global, blocks: &str, kind: Kind) -> Result<String, Fail> {
-    test_rows::each_block(alloc, blocks, |alloc, input| answer(alloc, kind, input))
+    test_rows::ask_blocks(alloc, blocks, |alloc, input, out| {
+        put_answer(alloc, kind, input, out)
+    })
 }

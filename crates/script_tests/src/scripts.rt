@@ -1,10 +1,8 @@
 // What scripts say, and the first line for which a text is none.
 use crate::rows::{Kind, each_line};
-use crate::texts::script_of;
+use crate::texts::{put_args, put_settings, script_of};
 use defmt_intern::Entry;
-use defmt_script::{RingMode, Script, ScriptFault, read};
-use defmt_spelling::print_args;
-use defmt_values::Statement;
+use defmt_script::{Script, ScriptFault, read};
 use std::alloc::Global;
 use std::fmt::Write;
 use std::test::Fail;
@@ -63,170 +61,156 @@ s hi defmt_info / <w 0 hi / *4097> = line 4098 cause 11 inner 0
 s n defmt_prim {} / s z defmt_prim z / s g defmt_info {} / w 0 g <n(*15>z()<)*15> = read
 s n defmt_prim {} / s z defmt_prim z / s g defmt_info {} / w 0 g <n(*16>z()<)*16> = line 4 cause 4 inner 6"#;
 
-fn mode_said(mode: RingMode) -> &'static str {
-    match mode {
-        RingMode::Block => "block",
-        RingMode::Skip => "skip",
-        RingMode::Trim => "trim",
-    }
+fn put_entry(entry: &Entry, out: &mut String) -> Result<(), Fail> {
+    let (package, tag) = (entry.package.as_str(), entry.tag.name());
+    let (number, text) = (entry.disambiguator.as_str(), entry.text.as_str());
+    Ok(write!(out, "{package} {tag} {number} <{text}>\n")?)
 }
 
-fn push_settings(told: &mut String, script: &Script) -> Result<(), Fail> {
-    write!(told, "ring {} ", script.ring())?;
-    told.push_str(mode_said(script.mode()))?;
-    told.push_str(if script.late() { " late" } else { " live" })?;
-    if let Some((base, step)) = script.stamp() {
-        write!(told, " stamp {base} {step}")?;
+// The string at an index, whose name is found again.
+fn put_string(script: &Script, index: u16, out: &mut String) -> Result<(), Fail> {
+    let name = script.names().name_of(index).unwrap_or("none");
+    let back = script.names().get(name).unwrap_or(index);
+    write!(out, "{name} = {back}: ")?;
+    match script.table().get(index) {
+        Some(entry) => put_entry(entry, out),
+        None => Ok(out.push_str("no entry\n")?),
     }
-    told.push('\n')?;
-    Ok(())
-}
-
-fn push_entry(told: &mut String, entry: &Entry) -> Result<(), Fail> {
-    write!(told, "{} {} ", entry.package.as_str(), entry.tag.name())?;
-    write!(told, "{} ", entry.disambiguator.as_str())?;
-    write!(told, "<{}>\n", entry.text.as_str())?;
-    Ok(())
 }
 
 // The strings at the indexes 1, 2, 3 and so on.
-fn push_strings(told: &mut String, script: &Script) -> Result<(), Fail> {
+fn put_strings(script: &Script, out: &mut String) -> Result<(), Fail> {
     for index in 1..100u16 {
         if u32::from(index) > script.table().len() {
             break;
         }
-        let name = script.names().name_of(index).unwrap_or("none");
-        let back = script.names().get(name).unwrap_or(index);
-        write!(told, "{name} = {back}: ")?;
-        match script.table().get(index) {
-            Some(entry) => push_entry(told, entry)?,
-            None => told.push_str("no entry\n")?,
-        }
+        put_string(script, index, out)?;
     }
-    Ok(())
-}
-
-fn push_statement(
-    alloc: Global,
-    told: &mut String,
-    script: &Script,
-    stm: &Statement,
-) -> Result<(), Fail> {
-    let args = print_args(alloc, script.names(), script.table(), stm)?;
-    write!(told, "{} <{}>", stm.index, args.as_str())?;
     Ok(())
 }
 
 // The statements of a writer up to the first that isn't there.
-fn push_writer(alloc: Global, told: &mut String, script: &Script, writer: u8) -> Result<(), Fail> {
-    write!(told, "writer {writer} has {}: ", script.count(writer))?;
+fn put_writer(alloc: Global, script: &Script, writer: u8, out: &mut String) -> Result<(), Fail> {
+    write!(out, "writer {writer} has {}: ", script.count(writer))?;
+    let mut gap = "";
     for place in 0..100 {
         let Some(stm) = script.statement(writer, place) else {
             break;
         };
-        if place > 0 {
-            told.push_str(", ")?;
-        }
-        push_statement(alloc, told, script, stm)?;
+        write!(out, "{gap}{} ", stm.index)?;
+        put_args(alloc, script.names(), script.table(), stm, out)?;
+        gap = ", ";
     }
-    told.push('\n')?;
+    Ok(out.push('\n')?)
+}
+
+fn put_script(alloc: Global, script: &Script, out: &mut String) -> Result<(), Fail> {
+    put_settings(
+        script.ring(),
+        script.mode(),
+        script.late(),
+        script.stamp(),
+        out,
+    )?;
+    out.push('\n')?;
+    put_strings(script, out)?;
+    for writer in 0..9u8 {
+        if script.count(writer) > 0 || script.statement(writer, 0).is_some() {
+            put_writer(alloc, script, writer, out)?;
+        }
+    }
     Ok(())
+}
+
+fn put_said(alloc: Global, text: &str, out: &mut String) -> Result<(), Fail> {
+    let script = script_of(alloc, text)?;
+    put_script(alloc, &script, out)
 }
 
 fn said(alloc: Global, text: &str) -> Result<String, Fail> {
-    let script = script_of(alloc, text)?;
-    let mut told = String::new(alloc);
-    push_settings(&mut told, &script)?;
-    push_strings(&mut told, &script)?;
-    for writer in 0..9u8 {
-        if script.count(writer) > 0 || script.statement(writer, 0).is_some() {
-            push_writer(alloc, &mut told, &script, writer)?;
-        }
-    }
-    Ok(told)
+    let mut out = String::new(alloc);
+    put_said(alloc, text, &mut out)?;
+    Ok(out)
 }
 
 // The text with a newline for each ` / `.
-fn lines_of(alloc: Global, row: &str) -> Result<String, Fail> {
-    let mut text = String::new(alloc);
+fn put_lines(row: &str, text: &mut String) -> Result<(), Fail> {
+    let mut first = true;
     for line in row.split(" / ") {
-        if !text.is_empty() {
+        if !first {
             text.push('\n')?;
         }
         text.push_str(line)?;
-    }
-    Ok(text)
-}
-
-fn push_repeated(text: &mut String, part: &str) -> Result<(), Fail> {
-    let (part, count) = part.split_once('*').unwrap_or((part, "1"));
-    for _ in 0..count.parse::<u32>()? {
-        text.push_str(part)?;
+        first = false;
     }
     Ok(())
 }
 
-// The text with each part in brackets as often as it says.
-fn whole_of(alloc: Global, row: &str) -> Result<String, Fail> {
-    let lines = lines_of(alloc, row)?;
-    let mut text = String::new(alloc);
-    for piece in lines.as_str().split('>') {
-        let (plain, part) = piece.split_once('<').unwrap_or((piece, ""));
-        text.push_str(plain)?;
-        push_repeated(&mut text, part)?;
+fn put_repeated(part: &str, text: &mut String) -> Result<(), Fail> {
+    let (part, count) = part.split_once('*').unwrap_or((part, "1"));
+    for _ in 0..count.parse::<u32>()? {
+        put_lines(part, text)?;
     }
-    Ok(text)
+    Ok(())
 }
 
-fn verdict_of(alloc: Global, text: &str) -> Result<String, Fail> {
+// The same, with each part in brackets as often as it says.
+fn put_whole(row: &str, text: &mut String) -> Result<(), Fail> {
+    for piece in row.split('>') {
+        let (plain, part) = piece.split_once('<').unwrap_or((piece, ""));
+        put_lines(plain, text)?;
+        put_repeated(part, text)?;
+    }
+    Ok(())
+}
+
+fn put_fault(fault: &ScriptFault, out: &mut String) -> Result<(), Fail> {
+    match fault {
+        ScriptFault::Refused { line, cause, inner } => {
+            Ok(write!(out, "line {line} cause {cause} inner {inner}")?)
+        }
+        ScriptFault::Memory => Ok(out.push_str("memory")?),
+    }
+}
+
+fn put_verdict(alloc: Global, text: &str, out: &mut String) -> Result<(), Fail> {
     if text.len() > 100_000 {
         return Err("long".into());
     }
     match read(alloc, text.as_bytes()) {
-        Ok(_) => Ok(String::from_str(alloc, "read")?),
-        Err(ScriptFault::Refused { line, cause, inner }) => {
-            Ok(format!(in alloc; "line {line} cause {cause} inner {inner}")?)
-        }
-        Err(ScriptFault::Memory) => Ok(String::from_str(alloc, "memory")?),
+        Ok(_) => Ok(out.push_str("read")?),
+        Err(fault) => put_fault(&fault, out),
     }
 }
 
-pub fn refusal_of(alloc: Global, row: &str) -> Result<String, Fail> {
-    let text = lines_of(alloc, row)?;
-    verdict_of(alloc, text.as_str())
+pub fn put_refusal(alloc: Global, row: &str, out: &mut String) -> Result<(), Fail> {
+    let mut text = String::new(alloc);
+    put_lines(row, &mut text)?;
+    put_verdict(alloc, text.as_str(), out)
 }
 
-pub fn refusal_at_limit(alloc: Global, row: &str) -> Result<String, Fail> {
-    let text = whole_of(alloc, row)?;
-    verdict_of(alloc, text.as_str())
+pub fn put_refusal_at_limit(alloc: Global, row: &str, out: &mut String) -> Result<(), Fail> {
+    let mut text = String::new(alloc);
+    put_whole(row, &mut text)?;
+    put_verdict(alloc, text.as_str(), out)
 }
 
 #[test]
-fn a_script_has_what_its_lines_say(rt: HostRuntime) -> Result<(), Fail> {
-    assert_eq!(rt; said(rt.alloc(), FULL)?.as_str(), FULL_SAYS);
+fn a_script_has_what_its_lines_say_and_defaults(rt: HostRuntime) -> Result<(), Fail> {
+    let told = said(rt.alloc(), FULL)?;
+    assert_eq!(rt; told.as_str(), FULL_SAYS);
+    let told = said(rt.alloc(), PLAIN)?;
+    assert_eq!(rt; told.as_str(), PLAIN_SAYS);
     Ok(())
 }
 
 #[test]
-fn settings_have_defaults(rt: HostRuntime) -> Result<(), Fail> {
-    assert_eq!(rt; said(rt.alloc(), PLAIN)?.as_str(), PLAIN_SAYS);
-    Ok(())
-}
-
-#[test]
-fn the_first_refused_line_is_told_with_its_first_cause(rt: HostRuntime) -> Result<(), Fail> {
-    assert_eq!(rt;
-        each_line(rt.alloc(), REFUSALS, Kind::RefusalOf)?.as_str(),
-        "17 rows"
-    );
-    Ok(())
-}
-
-#[test]
-fn messages_texts_and_values_have_limits(rt: HostRuntime) -> Result<(), Fail> {
-    assert_eq!(rt;
-        each_line(rt.alloc(), LIMITS, Kind::RefusalAtLimit)?.as_str(),
-        "11 rows"
-    );
+fn the_first_refused_line_is_told_with_its_first_cause_and_texts_have_limits(
+    rt: HostRuntime,
+) -> Result<(), Fail> {
+    let rows = each_line(rt.alloc(), REFUSALS, Kind::RefusalOf)?;
+    assert_eq!(rt; rows.as_str(), "17 rows");
+    let rows = each_line(rt.alloc(), LIMITS, Kind::RefusalAtLimit)?;
+    assert_eq!(rt; rows.as_str(), "11 rows");
     Ok(())
 }

@@ -1,6 +1,6 @@
 // What texts spell as values and as items, without any table.
 use crate::rows::{Kind, each_line};
-use crate::texts::{digits_or_nothing, inside_of};
+use crate::texts::{inside_of, put_digits_or_nothing};
 use defmt_shapes::{
     Item, Number, Spelling, bytes_of, first_item, first_value, skip_spaces, unescape,
 };
@@ -58,174 +58,143 @@ const DEEP: &str = "\
 20000 0 = none
 20000 20000 = behind 0";
 
-fn push_number(text: &mut String, number: Number) -> Result<(), Fail> {
+fn put_number(number: Number, out: &mut String) -> Result<(), Fail> {
     match number {
-        Number::Within(number) => write!(text, "{number}")?,
-        Number::Above => text.push_str("above")?,
+        Number::Within(number) => Ok(write!(out, "{number}")?),
+        Number::Above => Ok(out.push_str("above")?),
     }
-    Ok(())
 }
 
-fn push_variant(text: &mut String, variant: Option<Number>) -> Result<(), Fail> {
+fn put_variant(variant: Option<Number>, out: &mut String) -> Result<(), Fail> {
     match variant {
-        Some(number) => push_number(text, number),
-        None => Ok(text.push_str("no variant")?),
+        Some(number) => put_number(number, out),
+        None => Ok(out.push_str("no variant")?),
     }
 }
 
-fn push_numbered(text: &mut String, word: &str, number: Number) -> Result<(), Fail> {
-    text.push_str(word)?;
-    push_number(text, number)
+fn put_numbered(word: &str, number: Number, out: &mut String) -> Result<(), Fail> {
+    out.push_str(word)?;
+    put_number(number, out)
 }
 
-fn push_call(
-    text: &mut String,
+fn put_call(
     name: &str,
     variant: Option<Number>,
     inside: &str,
+    out: &mut String,
 ) -> Result<(), Fail> {
-    write!(text, "call {name} ")?;
-    push_variant(text, variant)?;
-    write!(text, " ({inside})")?;
-    Ok(())
+    write!(out, "call {name} ")?;
+    put_variant(variant, out)?;
+    Ok(write!(out, " ({inside})")?)
 }
 
-fn push_spelling(text: &mut String, spelling: Spelling<'_>) -> Result<(), Fail> {
+fn put_spelling(spelling: Spelling<'_>, out: &mut String) -> Result<(), Fail> {
     match spelling {
-        Spelling::Decimal(number) => push_numbered(text, "decimal ", number),
-        Spelling::Hexadecimal(number) => push_numbered(text, "hexadecimal ", number),
-        Spelling::Negative(number) => push_numbered(text, "negative ", number),
-        Spelling::Flag(flag) => Ok(write!(text, "flag {flag}")?),
-        Spelling::Character(character) => Ok(write!(text, "character {character}")?),
-        Spelling::Quoted(inside) => Ok(write!(text, "quoted {inside}")?),
-        Spelling::Interned(name) => Ok(write!(text, "interned {name}")?),
-        Spelling::Bytes(digits) => Ok(write!(text, "bytes {digits}")?),
+        Spelling::Decimal(number) => put_numbered("decimal ", number, out),
+        Spelling::Hexadecimal(number) => put_numbered("hexadecimal ", number, out),
+        Spelling::Negative(number) => put_numbered("negative ", number, out),
+        Spelling::Flag(flag) => Ok(write!(out, "flag {flag}")?),
+        Spelling::Character(character) => Ok(write!(out, "character {character}")?),
+        Spelling::Quoted(inside) => Ok(write!(out, "quoted {inside}")?),
+        Spelling::Interned(name) => Ok(write!(out, "interned {name}")?),
+        Spelling::Bytes(digits) => Ok(write!(out, "bytes {digits}")?),
         Spelling::Call {
             name,
             variant,
             inside,
-        } => push_call(text, name, variant, inside),
-        Spelling::Empty => Ok(text.push_str("empty")?),
-        Spelling::Sequence { name, inside } => Ok(write!(text, "sequence {name} [{inside}]")?),
+        } => put_call(name, variant, inside, out),
+        Spelling::Empty => Ok(out.push_str("empty")?),
+        Spelling::Sequence { name, inside } => Ok(write!(out, "sequence {name} [{inside}]")?),
     }
 }
 
-pub fn value_of(alloc: Global, row: &str) -> Result<String, Fail> {
-    let text = inside_of(row)?;
-    let mut told = String::new(alloc);
-    match first_value(alloc, text)? {
+pub fn put_value(alloc: Global, row: &str, out: &mut String) -> Result<(), Fail> {
+    match first_value(alloc, inside_of(row)?)? {
         Some((spelling, rest)) => {
-            push_spelling(&mut told, spelling)?;
-            write!(told, ", behind {}", rest.len())?;
+            put_spelling(spelling, out)?;
+            Ok(write!(out, ", behind {}", rest.len())?)
         }
-        None => told.push_str("none")?,
+        None => Ok(out.push_str("none")?),
     }
-    Ok(told)
 }
 
-fn push_item(text: &mut String, item: Item<'_>) -> Result<(), Fail> {
-    push_variant(text, item.variant)?;
-    write!(text, " ({})", item.inside)?;
-    Ok(())
-}
-
-pub fn item_of(alloc: Global, text: &str) -> Result<String, Fail> {
-    let mut told = String::new(alloc);
+pub fn put_item(alloc: Global, text: &str, out: &mut String) -> Result<(), Fail> {
     match first_item(alloc, text)? {
-        Some((item, rest)) => {
-            push_item(&mut told, item)?;
-            write!(told, ", behind {}", rest.len())?;
+        Some((Item { variant, inside }, rest)) => {
+            put_variant(variant, out)?;
+            Ok(write!(out, " ({inside}), behind {}", rest.len())?)
         }
-        None => told.push_str("none")?,
+        None => Ok(out.push_str("none")?),
     }
-    Ok(told)
 }
 
-pub fn meaning_of(alloc: Global, inside: &str) -> Result<String, Fail> {
+pub fn put_meaning(alloc: Global, inside: &str, out: &mut String) -> Result<(), Fail> {
     let text = unescape(alloc, inside)?;
-    digits_or_nothing(alloc, text.as_str().as_bytes())
+    put_digits_or_nothing(out, text.as_str().as_bytes())
 }
 
-pub fn bytes_meant(alloc: Global, digits: &str) -> Result<String, Fail> {
+pub fn put_bytes(alloc: Global, digits: &str, out: &mut String) -> Result<(), Fail> {
     let bytes = bytes_of(alloc, digits)?;
-    digits_or_nothing(alloc, bytes.as_slice())
+    put_digits_or_nothing(out, bytes.as_slice())
 }
 
-pub fn behind_spaces(alloc: Global, row: &str) -> Result<String, Fail> {
-    Ok(format!(in alloc; "<{}>", skip_spaces(inside_of(row)?))?)
+pub fn put_behind_spaces(row: &str, out: &mut String) -> Result<(), Fail> {
+    let rest = skip_spaces(inside_of(row)?);
+    Ok(write!(out, "<{rest}>")?)
 }
 
 // So many calls that are opened, and so many that are closed.
-fn calls_of(alloc: Global, opened: u32, closed: u32) -> Result<String, Fail> {
-    let mut text = String::new(alloc);
+fn put_calls(opened: u32, closed: u32, text: &mut String) -> Result<(), Fail> {
     for _ in 0..opened {
         text.push_str("k(")?;
     }
     for _ in 0..closed {
         text.push(')')?;
     }
-    Ok(text)
+    Ok(())
 }
 
-pub fn behind_calls(alloc: Global, row: &str) -> Result<String, Fail> {
-    let (opened, closed) = row.split_once(' ').unwrap_or((row, "0"));
-    let text = calls_of(alloc, opened.parse()?, closed.parse()?)?;
-    match first_value(alloc, text.as_str())? {
-        Some((_, rest)) => Ok(format!(in alloc; "behind {}", rest.len())?),
-        None => Ok(String::from_str(alloc, "none")?),
+fn put_behind(alloc: Global, text: &str, out: &mut String) -> Result<(), Fail> {
+    match first_value(alloc, text)? {
+        Some((_, rest)) => Ok(write!(out, "behind {}", rest.len())?),
+        None => Ok(out.push_str("none")?),
     }
 }
 
+pub fn put_behind_calls(alloc: Global, row: &str, out: &mut String) -> Result<(), Fail> {
+    let (opened, closed) = row.split_once(' ').unwrap_or((row, "0"));
+    let opened = opened.parse::<u32>()?;
+    let closed = closed.parse::<u32>()?;
+    let mut text = String::new(alloc);
+    put_calls(opened, closed, &mut text)?;
+    put_behind(alloc, text.as_str(), out)
+}
+
 #[test]
-fn texts_spell_values_or_none(rt: HostRuntime) -> Result<(), Fail> {
-    assert_eq!(rt;
-        each_line(rt.alloc(), VALUES, Kind::ValueOf)?.as_str(),
-        "31 rows"
-    );
+fn texts_spell_values_or_none_and_deep_brackets_are_closed_one_by_one(
+    rt: HostRuntime,
+) -> Result<(), Fail> {
+    let rows = each_line(rt.alloc(), VALUES, Kind::ValueOf)?;
+    assert_eq!(rt; rows.as_str(), "31 rows");
+    let rows = each_line(rt.alloc(), DEEP, Kind::BehindCalls)?;
+    assert_eq!(rt; rows.as_str(), "2 rows");
     Ok(())
 }
 
 #[test]
-fn an_item_has_a_variant_and_values(rt: HostRuntime) -> Result<(), Fail> {
-    assert_eq!(rt;
-        each_line(rt.alloc(), ITEMS, Kind::ItemOf)?.as_str(),
-        "1 rows"
-    );
+fn an_item_has_a_variant_and_spaces_in_front_are_passed_over(rt: HostRuntime) -> Result<(), Fail> {
+    let rows = each_line(rt.alloc(), ITEMS, Kind::ItemOf)?;
+    assert_eq!(rt; rows.as_str(), "1 rows");
+    let rows = each_line(rt.alloc(), SPACES, Kind::BehindSpaces)?;
+    assert_eq!(rt; rows.as_str(), "1 rows");
     Ok(())
 }
 
 #[test]
-fn escapes_have_a_meaning(rt: HostRuntime) -> Result<(), Fail> {
-    assert_eq!(rt;
-        each_line(rt.alloc(), ESCAPES, Kind::MeaningOf)?.as_str(),
-        "1 rows"
-    );
-    Ok(())
-}
-
-#[test]
-fn digits_have_a_meaning(rt: HostRuntime) -> Result<(), Fail> {
-    assert_eq!(rt;
-        each_line(rt.alloc(), DIGITS, Kind::BytesMeant)?.as_str(),
-        "1 rows"
-    );
-    Ok(())
-}
-
-#[test]
-fn spaces_in_front_are_passed_over(rt: HostRuntime) -> Result<(), Fail> {
-    assert_eq!(rt;
-        each_line(rt.alloc(), SPACES, Kind::BehindSpaces)?.as_str(),
-        "1 rows"
-    );
-    Ok(())
-}
-
-#[test]
-fn deep_brackets_are_closed_one_by_one(rt: HostRuntime) -> Result<(), Fail> {
-    assert_eq!(rt;
-        each_line(rt.alloc(), DEEP, Kind::BehindCalls)?.as_str(),
-        "2 rows"
-    );
+fn escapes_and_digits_have_a_meaning(rt: HostRuntime) -> Result<(), Fail> {
+    let rows = each_line(rt.alloc(), ESCAPES, Kind::MeaningOf)?;
+    assert_eq!(rt; rows.as_str(), "1 rows");
+    let rows = each_line(rt.alloc(), DIGITS, Kind::BytesMeant)?;
+    assert_eq!(rt; rows.as_str(), "1 rows");
     Ok(())
 }

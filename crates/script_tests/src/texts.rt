@@ -1,8 +1,13 @@
 // The texts of rows, and their scripts. Texts that begin or end with a space, or are empty, stand between `<` and `>`.
+use defmt_intern::Table;
+use defmt_lines::RingMode;
 use defmt_script::{Script, read};
+use defmt_spelling::{Names, print_args};
+use defmt_values::Statement;
 use std::alloc::Global;
+use std::fmt::Write;
 use std::test::Fail;
-use test_rows::digits_of;
+use test_rows::put_digits;
 
 /// What stands between the brackets.
 pub fn inside_of(text: &str) -> Result<&str, Fail> {
@@ -15,12 +20,12 @@ pub fn inside_of(text: &str) -> Result<&str, Fail> {
     }
 }
 
-/// The digits of bytes, `nothing` where there are none.
-pub fn digits_or_nothing(alloc: Global, bytes: &[u8]) -> Result<String, Fail> {
+/// Puts the digits of bytes, `nothing` where there are none.
+pub fn put_digits_or_nothing(out: &mut String, bytes: &[u8]) -> Result<(), Fail> {
     if bytes.is_empty() {
-        return Ok(String::from_str(alloc, "nothing")?);
+        return Ok(out.push_str("nothing")?);
     }
-    digits_of(alloc, bytes)
+    put_digits(out, bytes)
 }
 
 /// The script of a text.
@@ -29,4 +34,41 @@ pub fn script_of(alloc: Global, text: &str) -> Result<Script, Fail> {
         return Err("long".into());
     }
     Ok(read(alloc, text.as_bytes())?)
+}
+
+/// Puts the arguments of a statement as they are written, between the brackets.
+pub fn put_args(
+    alloc: Global,
+    names: &Names,
+    table: &Table,
+    stm: &Statement,
+    out: &mut String,
+) -> Result<(), Fail> {
+    let text = print_args(alloc, names, table, stm)?;
+    Ok(write!(out, "<{}>", text.as_str())?)
+}
+
+fn mode_said(mode: RingMode) -> &'static str {
+    match mode {
+        RingMode::Block => "block",
+        RingMode::Skip => "skip",
+        RingMode::Trim => "trim",
+    }
+}
+
+/// Puts what the first lines of a script set.
+pub fn put_settings(
+    ring: u32,
+    mode: RingMode,
+    late: bool,
+    stamp: Option<(u64, u64)>,
+    out: &mut String,
+) -> Result<(), Fail> {
+    let mode = mode_said(mode);
+    let reader = if late { "late" } else { "live" };
+    write!(out, "ring {ring} {mode} {reader}")?;
+    match stamp {
+        Some((base, step)) => Ok(write!(out, " stamp {base} {step}")?),
+        None => Ok(()),
+    }
 }
