@@ -54,16 +54,16 @@ fn put_answer(alloc: Global, kind: Kind, input: &str, out: &mut String) -> Resul
     }
 }
 
-/// Asks for the answers of lines, as `test_rows::ask_lines` does.
+/// Asks for the answers of lines, as `test_rows::each_line` does.
 pub fn each_line(alloc: Global, lines: &str, kind: Kind) -> Result<String, Fail> {
-    test_rows::ask_lines(alloc, lines, |alloc, input, out| {
+    test_rows::each_line(alloc, lines, |alloc, input, out| {
         put_answer(alloc, kind, input, out)
     })
 }
 
-/// Asks for the answers of blocks, as `test_rows::ask_blocks` does.
+/// Asks for the answers of blocks, as `test_rows::each_block` does.
 pub fn each_block(alloc: Global, blocks: &str, kind: Kind) -> Result<String, Fail> {
-    test_rows::ask_blocks(alloc, blocks, |alloc, input, out| {
+    test_rows::each_block(alloc, blocks, |alloc, input, out| {
         put_answer(alloc, kind, input, out)
     })
 }
