@@ -58,7 +58,7 @@ prove() {
 case $1 in
     doc) echo "$KIT/START-HERE.md" ;;
     all)
-        for it in low left right top defmt_run defmt_cli; do
+        for it in low left right top defmt_run; do
             said=$(prove "$it"); status=$?
             printf '== %s\n%s\n' "$it" "$said"
             [ "$status" -eq 0 ] || exit 1
@@ -128,7 +128,7 @@ has 'the program is the proved one' "$said" 'proved one'
 has 'how far a build is' "$said" 'crate 2 of 6 is done: left'
 has 'how long it will take' "$said" 'About '
 has 'how long the first build takes' "$said" 'about 20 minutes on four processors, 40 on two'
-is 'the crates side by side get all processors' "$(sed -n 1p "$kit/calls" | grep -c "^defmt_cli all check --jobs [1-9]")" 1
+is 'the crates side by side get all processors' "$(sed -n 1p "$kit/calls" | grep -c "^defmt_run all check --jobs [1-9]")" 1
 is 'so does each of the chain' "$(grep -c '^top lib --jobs [1-9]\|^defmt_run lib --jobs [1-9]\|^defmt_cli run --jobs [1-9]' "$kit/calls")" 3
 until_true is_tidy
 is 'no file is left behind' "$(strays)" ''
