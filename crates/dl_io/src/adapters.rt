@@ -10,6 +10,9 @@ use std::io::{Read, Seek, SeekFrom, Write};
 use std::marker::Model;
 use std::rt::Files;
 
+// The most bytes that one read asks of the system.
+const PIECE: usize = 65_536;
+
 /// A source over a reader of std, as a file or the standard input.
 ///
 /// It tells nothing of the bytes to come: that the reader gives the right ones is trusted. It counts
@@ -18,6 +21,7 @@ use std::rt::Files;
 pub struct StdSource<R> {
     reader: R,
     faults: u64,
+    piece: [u8; PIECE],
 }
 
 impl<R> Model for StdSource<R> {
@@ -33,7 +37,11 @@ impl<R: Read> StdSource<R> {
     pub fn new(reader: R) -> Self
         ensures { result ≡ 0 }
     {
-        StdSource { reader, faults: 0 }
+        StdSource {
+            reader,
+            faults: 0,
+            piece: [0; PIECE],
+        }
     }
 }
 
@@ -45,10 +53,16 @@ impl<R: Read> Source for StdSource<R> {
     fn read(&mut self, buf: &mut [u8]) -> Result<usize, Failed>
         ensures bound { ReadsAtMost result buf.new }
         ensures cause { HasCause self.old self.new result }
+        ensures kept { OnErr result (buf.new ≡ buf.old) }
         ensures count { self.new ≡ (if is_err result then raised self.old else self.old) }
     {
-        match self.reader.read(buf) {
-            Ok(count) => Ok(count),
+        let size = buf.len().min(PIECE);
+        let piece = &mut self.piece[..];
+        match self.reader.read(&mut piece[..size]) {
+            Ok(count) => {
+                buf[..count].copy_from_slice(&self.piece[..count]);
+                Ok(count)
+            }
             Err(_) => {
                 self.faults = self.faults.saturating_add(1);
                 Err(Failed)
@@ -98,7 +112,8 @@ impl<W: Write> Sink for StdSink<W> {
         ensures cause { HasCause self.old self.new result }
         ensures stuck { result ≡ Ok 0 → 0 < length buf.now → Rose self.old self.new }
         ensures err { OnErr result (self.new ≡ raised self.old) }
-        ensures ok { IfOk result (λ count. 0 < count → self.new ≡ self.old) }
+        ensures none { result ≡ Ok 0 → 0 < length buf.now → self.new ≡ raised self.old }
+        ensures ok { IfOk result (λ count. (0 < count) ⊎ (length buf.now ≡ 0) → self.new ≡ self.old) }
     {
         match self.writer.write(buf) {
             Ok(0) if !buf.is_empty() => {
@@ -126,6 +141,7 @@ impl<W: Write> Sink for StdSink<W> {
 pub struct DirShelf<R> {
     rt: R,
     faults: u64,
+    piece: [u8; PIECE],
 }
 
 impl<R> Model for DirShelf<R> {
@@ -141,7 +157,11 @@ impl<R: Files> DirShelf<R> {
     pub fn new(rt: R) -> Self
         ensures { result ≡ 0 }
     {
-        DirShelf { rt, faults: 0 }
+        DirShelf {
+            rt,
+            faults: 0,
+            piece: [0; PIECE],
+        }
     }
 }
 
@@ -154,10 +174,16 @@ impl<R: Files> Shelf for DirShelf<R> {
         ensures bound { ReadsAtMost result buf.new }
         ensures later { self.old ≤ self.new }
         ensures failed { OnErr result (Rose self.old self.new ⊎ ⊥) }
+        ensures kept { OnErr result (buf.new ≡ buf.old) }
         ensures count { self.new ≡ (if is_err result then raised self.old else self.old) }
     {
-        match fetch(&self.rt, name, at, buf) {
-            Ok(count) => Ok(count),
+        let size = buf.len().min(PIECE);
+        let piece = &mut self.piece[..];
+        match fetch(&self.rt, name, at, &mut piece[..size]) {
+            Ok(count) => {
+                buf[..count].copy_from_slice(&self.piece[..count]);
+                Ok(count)
+            }
             Err(_) => {
                 self.faults = self.faults.saturating_add(1);
                 Err(Failed)

@@ -1,4 +1,4 @@
-ghost use Rattle.std.specs.Prelude.{◌≡◌, ◌⊎◌, ◌↔◌, ◌-◌, ◌≤◌, length, min, take, drop, Some, None, IsErr, IfOk, OnErr, OnOk};
+ghost use Rattle.std.specs.Prelude.{◌≡◌, ◌⊎◌, ◌↔◌, ◌-◌, ◌≤◌, ℕ, List, length, min, take, drop, Some, None, IsErr, IfOk, OnErr, OnOk};
 ghost use Rattle.std.specs.Option.{option_copied};
 ghost use Rattle.std.specs.Io.{ReadsAtMost};
 ghost use Rattle.std.specs.FinMap as map;
@@ -75,9 +75,13 @@ impl Shelf for MemShelf {
         ensures same { self.new.files ≡ self.old.files }
         ensures later { self.old.plan.faults ≤ self.new.plan.faults }
         ensures failed { OnErr result (Rose self.old.plan.faults self.new.plan.faults ⊎ (map.get self.old.files name.now ≡ None)) }
+        ensures kept { OnErr result (buf.new ≡ buf.old) }
 
-        // It fails exactly where it is listed or there is no such file, but a missing file is no fault.
+        // It fails exactly where it is listed or there is no such file, but a missing file is no fault. Else
+        // it gives as much as there is and as fits.
         ensures listed { IsErr result ↔ (IsListed self.old.plan ⊎ (map.get self.old.files name.now ≡ None)) }
+        ensures count { (file : List ℕ) → map.get self.old.files name.now ≡ Some file →
+            IfOk result (λ count. count ≡ min (length file - at) (length buf.old)) }
         ensures plan { self.new.plan ≡ counted self.old.plan (is_listed self.old.plan) }
     {
         let fails = self.fails.is_next();

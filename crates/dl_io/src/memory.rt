@@ -106,6 +106,7 @@ impl Source for MemSource {
         ensures bound { ReadsAtMost result buf.new }
         ensures bytes { ReadConsumes (Some self.old.left) (Some self.new.left) result buf.new }
         ensures cause { HasCause self.old.plan.faults self.new.plan.faults result }
+        ensures kept { OnErr result (buf.new ≡ buf.old) }
 
         // It fails exactly where it is listed, and else gives as much as there is and as fits.
         ensures listed { IsErr result ↔ IsListed self.old.plan }
