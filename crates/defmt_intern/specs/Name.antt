@@ -91,13 +91,13 @@ ReadsName bytes (Err faults.Json) = IsNoObject bytes
 ReadsName bytes (Err (faults.Key key)) = LacksKey bytes key
 ReadsName bytes (Err faults.Memory) = Unit {0}
 
--- the object, why there is none, or want of memory
--- The value that the bytes are as JSON is this object.
+-- the bytes are one JSON object, which is this value
 abbrev pub HoldsObject : List ℕ → Data → Type 0
 HoldsObject bytes value = (members : Members) × IsObject bytes members × (value ≡ object members)
 
+-- the object, why there is none, or want of memory
 abbrev pub ReadsObject : List ℕ → Result Value NameFault → Type 0
-ReadsObject bytes (Ok value) = (members : Members) × IsObject bytes members × (view value ≡ object members)
+ReadsObject bytes (Ok value) = HoldsObject bytes (view value)
 ReadsObject bytes (Err faults.Json) = IsNoObject bytes
 ReadsObject bytes (Err (faults.Key key)) = ⊥
 ReadsObject bytes (Err faults.Memory) = Unit {0}
