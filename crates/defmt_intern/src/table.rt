@@ -86,6 +86,21 @@ fn keep(entries: &mut BTreeMap<u16, Kept>, index: u16, kept: Kept) -> Result<(),
     Ok(())
 }
 
+/// Keeps a copy of an entry at an index.
+fn keep_copy(
+    alloc: Global,
+    entries: &mut BTreeMap<u16, Kept>,
+    index: u16,
+    entry: &Entry,
+) -> Result<(), Memory>
+    requires { length entry.now.text ≤ 4096 }
+    ensures { OnOk result
+        (map_of entries.new.entries ≡ map.insert (map_of entries.old.entries) index entry.now) }
+{
+    let copy = kept_of(alloc, entry.copy(alloc)?)?;
+    keep(entries, index, copy)
+}
+
 /// The string table: a finite map from indexes to entries.
 ///
 /// No text in it has more than 4,096 bytes, and at most one entry is a timestamp's.
@@ -277,8 +292,7 @@ impl Table {
     {
         let mut entries = BTreeMap::new(self.alloc);
         for (index, kept) in self.entries.iter() {
-            let copy = kept_of(self.alloc, kept.entry.copy(self.alloc)?)?;
-            keep(&mut entries, *index, copy)?;
+            keep_copy(self.alloc, &mut entries, *index, &kept.entry)?;
         }
         Ok(Table {
             alloc: self.alloc,

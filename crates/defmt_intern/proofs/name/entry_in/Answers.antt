@@ -23,4 +23,4 @@ returns-clause-answer c =
     let o = c.requires in
     names_entry c.args.name.now (view c.args.value.now) o.0 c.in-Some.package.now c.in-Some-text_at.tag.now c.in-Some-text_at-2.data.now c.in-Some-text_at-3.disambiguator.now _ o.1 o.2
     c.in-Some.ensures c.in-Some-text_at.ensures c.in-Some-text_at-2.ensures c.in-Some-text_at-3.ensures
-    c.in_ok-of_name.ensures c.in_ok-copy_of.ensures c.in_ok-copy_of-2.ensures c.in_ok-copy_of-3.ensures
+    c.in_ok-entry_of.ensures.tag c.in_ok-entry_of.ensures.owner c.in_ok-entry_of.ensures.text c.in_ok-entry_of.ensures.disambiguator

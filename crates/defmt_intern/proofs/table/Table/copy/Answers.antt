@@ -1,4 +1,4 @@
-use Rattle.std.proofs.Common.{◌≡◌, ◌++◌, ◌∷◌, ap, ◌∙◌, map as map_list, subst, sym, rules, Bor, ℕ}
+use Rattle.std.proofs.Common.{◌≡◌, ◌++◌, ◌∷◌, refl, ap, ◌∙◌, map as map_list, subst, sym, rules, Bor, ℕ}
 use Rattle.std.specs.FinMap as map
 use Rattle.std.specs.Map.Iter.{deref_pair}
 use Rattle.std.proofs.lemmas.Map.Iter.{iter_end, rest_more, rest_so_far}
@@ -17,8 +17,8 @@ loop-index-preserved c =
     record {
       can = tt;
       finite = tt;
-      copied = copied_next c.self.inside.entries.entries c.loop-index.entries.entries c.keep.new.entries.entries c.loop-index.yielded item c.next.new.self c.in_ok-copy-2.copy split c.iter-index-items.ensures.ordered
-          c.loop-index.invariant.copied (c.in_ok-copy-2.ensures ∙ c.in_ok-copy.ensures) c.in_ok-keep.ensures.ok;
+      copied = copied_next c.self.inside.entries.entries c.loop-index.entries.entries c.keep_copy.new.entries.entries c.loop-index.yielded item c.next.new.self c.in-Some.kept.now split c.iter-index-items.ensures.ordered
+          c.loop-index.invariant.copied refl c.in_ok-keep_copy.ensures;
     }
 
 pub invariant_of-result : goal.invariant_of-result
