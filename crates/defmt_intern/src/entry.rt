@@ -126,12 +126,14 @@ impl Entry {
     pub fn copy(&self, alloc: Global) -> Result<Entry, Memory>
         ensures { IfOk result (λ entry. entry ≡ self.now) }
     {
-        Ok(Entry {
-            tag: self.tag.copy(alloc)?,
-            package: copy_of(alloc, self.package.as_str())?,
-            text: copy_of(alloc, self.text.as_str())?,
-            disambiguator: copy_of(alloc, self.disambiguator.as_str())?,
-        })
+        let tag = self.tag.copy(alloc)?;
+        entry_of(
+            alloc,
+            tag,
+            self.package.as_str(),
+            self.text.as_str(),
+            self.disambiguator.as_str(),
+        )
     }
 }
 
@@ -144,4 +146,25 @@ pub fn copy_of(alloc: Global, text: &str) -> Result<Text, Memory>
         Ok(()) => Ok(copy),
         Err(_) => Err(Memory),
     }
+}
+
+/// The entry of a tag and these strings.
+pub fn entry_of(
+    alloc: Global,
+    tag: Tag,
+    owner: &str,
+    text: &str,
+    disambiguator: &str,
+) -> Result<Entry, Memory>
+    ensures tag { IfOk result (λ entry. entry.tag ≡ tag) }
+    ensures owner { IfOk result (λ entry. entry.«package» ≡ owner.now) }
+    ensures text { IfOk result (λ entry. entry.text ≡ text.now) }
+    ensures disambiguator { IfOk result (λ entry. entry.disambiguator ≡ disambiguator.now) }
+{
+    Ok(Entry {
+        tag,
+        package: copy_of(alloc, owner)?,
+        text: copy_of(alloc, text)?,
+        disambiguator: copy_of(alloc, disambiguator)?,
+    })
 }

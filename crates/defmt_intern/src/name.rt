@@ -1,14 +1,14 @@
 //! Symbol names, which are JSON objects.
 
 ghost use Rattle.std.specs.Prelude.{◌≡◌, IfOk, codes, Some, None, MatchOption, option_and_then, option_map};
-ghost use Rattle.defmt_intern.specs.Name.{tag_of, HoldsObject, IsSpelled, Names, IsNoObject, LacksKey, ReadsName, ReadsObject, GivesOnly, GivesJson, GivesKey, object_with, written};
+ghost use Rattle.defmt_intern.specs.Name.{HoldsObject, IsSpelled, Names, IsNoObject, LacksKey, ReadsName, ReadsObject, GivesOnly, GivesJson, GivesKey, object_with, written};
 ghost use Rattle.defmt_intern.specs.declared.entry.Entry.{Entry as AnyEntry};
 ghost use Rattle.defmt_intern.specs.declared.name.NameKey.{NameKey as AnyKey};
 ghost use Rattle.serde_json.specs.Find.{get, as_str};
 ghost use Rattle.serde_json.specs.View.{view};
 ghost use Rattle.serde_json.specs.Written.{compact_text};
 
-use crate::entry::{Entry, Tag, copy_of};
+use crate::entry::{Entry, Tag, entry_of};
 use defmt_grammar::Text;
 use dl_io::Memory;
 use serde_json::{Value, json};
@@ -106,27 +106,6 @@ fn object_of(alloc: Global, name: &[u8]) -> Result<Value, NameFault>
     Ok(value)
 }
 
-// The entry of these strings.
-fn entry_of(
-    alloc: Global,
-    owner: &str,
-    tag: &str,
-    text: &str,
-    disambiguator: &str,
-) -> Result<Entry, Memory>
-    ensures tag { IfOk result (λ entry. entry.tag ≡ tag_of tag.now) }
-    ensures owner { IfOk result (λ entry. entry.«package» ≡ owner.now) }
-    ensures text { IfOk result (λ entry. entry.text ≡ text.now) }
-    ensures disambiguator { IfOk result (λ entry. entry.disambiguator ≡ disambiguator.now) }
-{
-    Ok(Entry {
-        tag: Tag::of_name(alloc, tag)?,
-        package: copy_of(alloc, owner)?,
-        text: copy_of(alloc, text)?,
-        disambiguator: copy_of(alloc, disambiguator)?,
-    })
-}
-
 // The entry that a name says whose object is at hand.
 fn entry_in(alloc: Global, name: &[u8], value: &Value) -> Result<Entry, NameFault>
     requires { HoldsObject name.now (view value.now) }
@@ -152,7 +131,8 @@ fn entry_in(alloc: Global, name: &[u8], value: &Value) -> Result<Entry, NameFaul
             key: NameKey::Disambiguator,
         });
     };
-    Ok(entry_of(alloc, package, tag, data, disambiguator)?)
+    let tag = Tag::of_name(alloc, tag)?;
+    Ok(entry_of(alloc, tag, package, data, disambiguator)?)
 }
 
 /// The entry that a symbol name says: one JSON object with the four keys of [`NameKey`].

@@ -1,4 +1,4 @@
-use Rattle.std.proofs.Common.{◌≡◌, Some, None}
+use Rattle.std.proofs.Common.{◌∙◌}
 use Rattle.serde_json.specs.View.{view}
 use Rattle.defmt_intern.proofs.NameLaws.{lacks_tag, lacks_data, lacks_disambiguator, names_entry}
 use Rattle.defmt_intern.proofs.name.entry_in.Goals as goal
@@ -23,4 +23,4 @@ returns-clause-answer c =
     let o = c.requires in
     names_entry c.args.name.now (view c.args.value.now) o.0 c.in-Some.package.now c.in-Some-text_at.tag.now c.in-Some-text_at-2.data.now c.in-Some-text_at-3.disambiguator.now _ o.1 o.2
     c.in-Some.ensures c.in-Some-text_at.ensures c.in-Some-text_at-2.ensures c.in-Some-text_at-3.ensures
-    c.in_ok-entry_of.ensures.tag c.in_ok-entry_of.ensures.owner c.in_ok-entry_of.ensures.text c.in_ok-entry_of.ensures.disambiguator
+    (c.in_ok-entry_of.ensures.tag ∙ c.in_ok-tag.ensures) c.in_ok-entry_of.ensures.owner c.in_ok-entry_of.ensures.text c.in_ok-entry_of.ensures.disambiguator
