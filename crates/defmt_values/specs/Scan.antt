@@ -201,3 +201,33 @@ scan_own t index vs = own_form (look t index) >>= λ ps. scan_vals t 16 (places_
 -- the first cause for which a statement doesn't fit
 abbrev pub own_cause : Map → ℕ → Vals → Result (Unit {0}) ℕ
 own_cause t index vs = scan_own t index vs >>= λ sum. Ok tt
+
+-- ---- for private clauses
+
+-- the first test of a value without values inside; it says nothing of others
+abbrev pub leaf_cause : Map → Slot → Val → Result (Unit {0}) ℕ
+leaf_cause t slot (uint n) = uint_cause slot n
+leaf_cause t slot (int n) = int_cause slot n
+leaf_cause t slot (flag b) = flag_cause slot
+leaf_cause t slot (char c) = char_cause slot
+leaf_cause t slot (str s) = str_cause slot
+leaf_cause t slot (istr index) = istr_cause t slot index
+leaf_cause t slot (bytes s) = bytes_cause slot (length s)
+leaf_cause t slot (bits n) = bits_cause slot n
+leaf_cause t slot (format index variant vs) = Ok tt
+leaf_cause t slot (seq index es) = Ok tt
+
+-- the pieces of a Format value and the sum with its own weight, or the first cause in front of its values
+abbrev pub opened : Map → ℕ → Slot → ℕ → ℕ → ℕ → Option ℕ → Result (List Piece × ℕ) ℕ
+opened t left slot weight sum index variant =
+    node_cause slot >>= λ _.
+    test (nat_lt 0 left) 6 >>= λ _.
+    form_at t index >>= λ form.
+    add weight sum >>= λ s.
+    pick form variant >>= λ ps.
+    Ok (ps, s)
+
+-- the form of a list's elements where it has some, or the first cause in front of them
+abbrev pub started : Map → ℕ → Slot → Option ℕ → Bool → Result (Option Parsed) ℕ
+started t left slot index true = list_cause slot >>= λ _. no_index index >>= λ _. count_cause slot 0 >>= λ _. Ok None
+started t left slot index false = list_cause slot >>= λ _. test (nat_lt 0 left) 6 >>= λ _. list_form t index >>= λ form. Ok (Some form)

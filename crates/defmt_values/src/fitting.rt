@@ -1,16 +1,17 @@
 //! The test that statements fit a table.
-ghost use Rattle.std.specs.Prelude.{◌≡◌, ◌+◌, ◌*◌, ◌==◌, ◌%◌, nat_lt, ◌∷◌, [], ◌<◌, ◌≤◌, ◌^◌, None, Some, IfOk, IsOk, OnOk, MatchOption};
+ghost use Rattle.std.specs.Prelude.{◌≡◌, ◌+◌, ◌*◌, ◌==◌, ◌%◌, nat_lt, ◌∷◌, [], ◌<◌, ◌≤◌, ◌^◌, None, Some, IfOk, IfSome, IsOk, OnOk, MatchOption};
 ghost use Rattle.defmt_intern.specs.Body.{body_of};
 ghost use Rattle.defmt_values.specs.Entries.{look, is_format, is_interned};
-ghost use Rattle.defmt_values.specs.Scan.{test, uint_cause, int_cause, flag_cause, char_cause, str_cause, istr_cause, bytes_cause, bits_cause, node_cause, list_cause, count_cause, form_at, pick, add, list_form, no_index, scan_val, scan_vals, scan_elems, own_form, own_cause};
+ghost use Rattle.defmt_values.specs.Scan.{test, uint_cause, int_cause, flag_cause, char_cause, str_cause, istr_cause, bytes_cause, bits_cause, node_cause, list_cause, count_cause, form_at, pick, add, list_form, no_index, scan_val, scan_vals, scan_elems, own_form, own_cause, leaf_cause, opened, started};
 ghost use Rattle.defmt_grammar.specs.Slots.{slots_of};
 ghost use Rattle.defmt_values.specs.Entries.{places_of, places_from};
 ghost use Rattle.defmt_values.specs.Fits.{Fits};
-ghost use Rattle.defmt_values.specs.Now.{now_of};
+ghost use Rattle.defmt_values.specs.Now.{now_of, pair_now, option_now};
 ghost use Rattle.defmt_grammar.specs.Sizes.{size_bits, is_signed};
+ghost use Rattle.defmt_values.specs.Plain.{elems_empty};
 ghost use Rattle.defmt_values.specs.View.{plain, vals_of, elems_of};
 
-use crate::value::{Args, Items, Statement, Value};
+use crate::value::{Args, Items, Node, Seq, Statement, Value};
 use defmt_grammar::{IntSize, Kind, Pieces, Slot};
 use defmt_intern::{Entry, Parsed, Table, Tag};
 
@@ -278,6 +279,60 @@ fn no_index(index: Option<u16>) -> Result<(), u8>
     }
 }
 
+// Tests a value without values inside by its slot.
+fn check_leaf(table: &Table, slot: Slot, value: &Value) -> Result<(), u8>
+    ensures { result ≡ leaf_cause table.now slot (plain value.now) }
+{
+    match value {
+        Value::Uint(n) => check_uint(slot, *n),
+        Value::Int(n) => check_int(slot, *n),
+        Value::Bool(_) => check_flag(slot),
+        Value::Char(_) => check_char(slot),
+        Value::Str(_) => check_str(slot),
+        Value::Istr(index) => check_istr(table, slot, *index),
+        Value::Bytes(bytes) => check_bytes(slot, bytes.len()),
+        Value::Bits(n) => check_bits(slot, *n),
+        Value::Format(_) | Value::Seq(_) => Ok(()),
+    }
+}
+
+// The pieces of a Format value, and the sum with its own weight.
+fn open<'t>(
+    table: &'t Table,
+    slot: Slot,
+    node: &Node,
+    left: u8,
+    weight: usize,
+    sum: usize,
+) -> Result<(&'t Pieces, usize), u8>
+    requires { sum ≤ 8192 }
+    ensures value { pair_now result ≡ opened table.now left slot weight sum node.now.index node.now.variant }
+    ensures small { IfOk result (λ r. (r.1 ≤ 8192) × (0 < left)) }
+{
+    check_node(slot)?;
+    test(left > 0, 6)?;
+    let form = form_of(table, node.index)?;
+    let sum = add(weight, sum)?;
+    let pieces = pick(form, node.variant)?;
+    Ok((pieces, sum))
+}
+
+// The form of a list's elements, where it has some.
+fn start<'t>(table: &'t Table, slot: Slot, seq: &Seq, left: u8) -> Result<Option<&'t Parsed>, u8>
+    ensures value { option_now result ≡ started table.now left slot seq.now.index (elems_empty seq.now.items) }
+    ensures deep { IfOk result (λ o. IfSome o (λ _. 0 < left)) }
+{
+    check_list(slot)?;
+    if seq.items.is_empty() {
+        no_index(seq.index)?;
+        check_count(slot, 0)?;
+        return Ok(None);
+    }
+    test(left > 0, 6)?;
+    let form = list_form(table, seq.index)?;
+    Ok(Some(form))
+}
+
 // Tests one value of a slot. At most `left` levels of Format values may still be opened.
 #[cycle(check)]
 #[tactic(auto, unfolding(crate::specs::Scan::scan_val))]
@@ -294,37 +349,23 @@ fn check_value(
     ensures small { IfOk result (λ s. s ≤ 8192) }
 {
     match value {
-        Value::Uint(n) => check_uint(slot, *n)?,
-        Value::Int(n) => check_int(slot, *n)?,
-        Value::Bool(_) => check_flag(slot)?,
-        Value::Char(_) => check_char(slot)?,
-        Value::Str(_) => check_str(slot)?,
-        Value::Istr(index) => check_istr(table, slot, *index)?,
-        Value::Bytes(bytes) => check_bytes(slot, bytes.len())?,
-        Value::Bits(n) => check_bits(slot, *n)?,
         Value::Format(node) => {
-            check_node(slot)?;
-            test(left > 0, 6)?;
-            let form = form_of(table, node.index)?;
-            let sum = add(weight, sum)?;
-            let pieces = pick(form, node.variant)?;
-            return check_args(table, pieces, &node.args, left - 1, weight, sum);
+            let (pieces, sum) = open(table, slot, node, left, weight, sum)?;
+            check_args(table, pieces, &node.args, left - 1, weight, sum)
         }
         Value::Seq(seq) => {
-            check_list(slot)?;
-            if seq.items.is_empty() {
-                no_index(seq.index)?;
-                check_count(slot, 0)?;
-            } else {
-                test(left > 0, 6)?;
-                let form = list_form(table, seq.index)?;
-                let sum = check_items(table, form, &seq.items, left - 1, weight, sum)?;
-                check_count(slot, seq.items.len())?;
+            let Some(form) = start(table, slot, seq, left)? else {
                 return Ok(sum);
-            }
+            };
+            let sum = check_items(table, form, &seq.items, left - 1, weight, sum)?;
+            check_count(slot, seq.items.len())?;
+            Ok(sum)
+        }
+        leaf => {
+            check_leaf(table, slot, leaf)?;
+            Ok(sum)
         }
     }
-    Ok(sum)
 }
 
 // Tests the values of a text's arguments, in a text that has this weight.
