@@ -5,6 +5,8 @@ use Rattle.defmt_grammar.specs.Cut.{skip_spaces}
 use Rattle.defmt_grammar.specs.declared.piece.Piece.{Piece}
 use Rattle.defmt_grammar.specs.declared.slot.Slot.{Slot}
 use Rattle.defmt_intern.specs.Table.{Map}
+use Rattle.defmt_shapes.specs.declared.spelling.Spelling.{Spelling}
+use Rattle.defmt_shapes.specs.declared.spelling.Spelling.TheVariants.{Call, Sequence}
 use Rattle.defmt_shapes.specs.Shape.{Shape, Shapes, SpellsShapes, HeadShape, StartsThere}
 use Rattle.defmt_spelling.specs.Meaning.{index_of, meant_val, meant_vals}
 use Rattle.defmt_spelling.specs.Names.{NameMap}
@@ -31,6 +33,12 @@ cause_number causes.Deep = 6
 cause_number causes.Many = 7
 
 -- ---- one value, which is known to be spelled
+
+-- no values stand inside
+abbrev pub IsLeaf : Spelling → Type 0
+IsLeaf (Call name variant inside) = ⊥
+IsLeaf (Sequence name inside) = ⊥
+IsLeaf spelling = Unit {0}
 
 -- a leaf that means this value, which fits; or the cause for which it doesn't
 abbrev pub GivesLeaf : Result Value ArgFault → Val → Result (Unit {0}) ℕ → Type 0

@@ -8,7 +8,7 @@ ghost use Rattle.defmt_spelling.specs.Leaves.{sum_or};
 ghost use Rattle.defmt_spelling.specs.Meaning.{meant_val, meant_vals, meant_elems};
 ghost use Rattle.defmt_intern.specs.Table.{Map as AnyTable};
 ghost use Rattle.defmt_spelling.specs.Names.{NameMap};
-ghost use Rattle.defmt_spelling.specs.Reading.{GivesLeaf, GivesValue, GivesValues, GivesElems, GivesItem, GivesForm, GivesVariant, GivesSum, Tests, form_scan, item_scan, meant_inside, ReadsValues, ReadsFront, Reads, GivesOnly, SmallValue, SmallFront};
+ghost use Rattle.defmt_spelling.specs.Reading.{GivesLeaf, GivesValue, GivesValues, GivesElems, GivesItem, GivesForm, GivesVariant, GivesSum, Tests, IsLeaf, form_scan, item_scan, meant_inside, ReadsValues, ReadsFront, Reads, GivesOnly, SmallValue, SmallFront};
 ghost use Rattle.defmt_spelling.specs.Spelling.{ReadsArguments};
 ghost use Rattle.defmt_values.specs.Entries.{places_of};
 ghost use Rattle.defmt_values.specs.Fits.{Fits};
@@ -108,6 +108,35 @@ fn paired(leaf: Result<Value, ArgFault>, sum: usize) -> Result<(Value, usize), A
     Ok((value, sum))
 }
 
+// A value without values inside, and the sum in front of it.
+fn read_leaf(
+    alloc: Global,
+    names: &Names,
+    table: &Table,
+    slot: Slot,
+    sum: usize,
+    spelling: Spelling<'_>,
+) -> Result<(Value, usize), ArgFault>
+    requires sum { sum ≤ 8192 }
+    requires sound { IsSound slot }
+    requires leaf { IsLeaf spelling }
+    ensures value { (left weight : ℕ) (s : AnyShape) → Tells spelling.entry s → GivesValue result (meant_val names.now table.now slot s) (scan_val table.now left slot weight sum (meant_val names.now table.now slot s)) }
+    ensures small { SmallValue result }
+{
+    match spelling {
+        Spelling::Decimal(n) => paired(decimal_value(slot, n), sum),
+        Spelling::Hexadecimal(n) => paired(hexadecimal_value(slot, n), sum),
+        Spelling::Negative(n) => paired(negative_value(slot, n), sum),
+        Spelling::Flag(value) => paired(flag_value(slot, value), sum),
+        Spelling::Character(character) => paired(char_value(slot, character), sum),
+        Spelling::Quoted(inside) => paired(str_value(alloc, slot, inside), sum),
+        Spelling::Interned(name) => paired(istr_value(names, table, slot, name), sum),
+        Spelling::Bytes(digits) => paired(bytes_value(alloc, slot, digits), sum),
+        Spelling::Empty => paired(empty_value(alloc, slot), sum),
+        Spelling::Call { .. } | Spelling::Sequence { .. } => unreachable!(),
+    }
+}
+
 // One value of a slot. At most `left` levels of Format values may still be opened.
 #[cycle(read)]
 fn read_value(
@@ -126,15 +155,6 @@ fn read_value(
     ensures small { SmallValue result }
 {
     match spelling {
-        Spelling::Decimal(n) => paired(decimal_value(slot, n), sum),
-        Spelling::Hexadecimal(n) => paired(hexadecimal_value(slot, n), sum),
-        Spelling::Negative(n) => paired(negative_value(slot, n), sum),
-        Spelling::Flag(value) => paired(flag_value(slot, value), sum),
-        Spelling::Character(character) => paired(char_value(slot, character), sum),
-        Spelling::Quoted(inside) => paired(str_value(alloc, slot, inside), sum),
-        Spelling::Interned(name) => paired(istr_value(names, table, slot, name), sum),
-        Spelling::Bytes(digits) => paired(bytes_value(alloc, slot, digits), sum),
-        Spelling::Empty => paired(empty_value(alloc, slot), sum),
         Spelling::Call {
             name,
             variant,
@@ -145,6 +165,7 @@ fn read_value(
         Spelling::Sequence { name, inside } => {
             read_list(alloc, names, table, slot, left, weight, sum, name, inside)
         }
+        leaf => read_leaf(alloc, names, table, slot, sum, leaf),
     }
 }
 

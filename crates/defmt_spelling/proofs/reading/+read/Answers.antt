@@ -63,51 +63,6 @@ read_list-returns-clause-value t c = λ items n s.
     exits.list_end c.args.names.now c.args.table.now c.args.left c.args.weight c.args.sum c.args.slot c.args.name.now c.args.inside.now items n s c.in_ok-index.index c.in_ok-index.form.now c.in_ok-items.items c.in_ok-items.sum c.len.result c.in_ok-check_list.ensures c.in_ok-index.ensures.form
     (c.in_ok-items.ensures.value (index_of c.args.names.now c.args.name.now) items (arms.form_there c.args.table.now c.args.left _ c.in_ok-index.form.now c.in_ok-index.ensures.form.1) s) c.len.ensures c.in_ok-check_count.ensures
 
-pub read_value-returns-in-Decimal-clause-value : goal.read_value-returns-in-Decimal-clause-value
-read_value-returns-in-Decimal-clause-value t c = λ s told.
-    let k = subst (λ x. Tells x s) c.in-Decimal.is told in
-    arms.decimal_arm c.args.table.now c.args.left c.args.weight c.args.sum c.args.names.now c.args.slot c.paired.result s k.0 k.1 (c.paired.ensures.value (decimal_at c.args.slot k.0) (decimal_cause c.args.slot k.0) (c.decimal_value.ensures k.0 k.2))
-
-pub read_value-returns-in-Hexadecimal-clause-value : goal.read_value-returns-in-Hexadecimal-clause-value
-read_value-returns-in-Hexadecimal-clause-value t c = λ s told.
-    let k = subst (λ x. Tells x s) c.in-Hexadecimal.is told in
-    arms.hexadecimal_arm c.args.table.now c.args.left c.args.weight c.args.sum c.args.names.now c.args.slot c.paired-in-Hexadecimal.result s k.0 k.1 (c.paired-in-Hexadecimal.ensures.value (hexadecimal_at c.args.slot k.0) (hexadecimal_cause c.args.slot k.0) (c.hexadecimal_value.ensures k.0 k.2))
-
-pub read_value-returns-in-Negative-clause-value : goal.read_value-returns-in-Negative-clause-value
-read_value-returns-in-Negative-clause-value t c = λ s told.
-    let k = subst (λ x. Tells x s) c.in-Negative.is told in
-    arms.negative_arm c.args.table.now c.args.left c.args.weight c.args.sum c.args.names.now c.args.slot c.paired-in-Negative.result s k.0 k.1 (c.paired-in-Negative.ensures.value (int (negated k.0)) (int_cause c.args.slot (negated k.0)) (c.negative_value.ensures k.0 k.2))
-
-pub read_value-returns-in-Flag-clause-value : goal.read_value-returns-in-Flag-clause-value
-read_value-returns-in-Flag-clause-value t c = λ s told.
-    let k = subst (λ x. Tells x s) c.in-Flag.is told in
-    arms.flag_arm c.args.table.now c.args.left c.args.weight c.args.sum c.args.names.now c.args.slot c.paired-in-Flag.result s c.in-Flag.value k (c.paired-in-Flag.ensures.value (flag c.in-Flag.value) (flag_cause c.args.slot) c.flag_value.ensures)
-
-pub read_value-returns-in-Character-clause-value : goal.read_value-returns-in-Character-clause-value
-read_value-returns-in-Character-clause-value t c = λ s told.
-    let k = subst (λ x. Tells x s) c.in-Character.is told in
-    arms.char_arm c.args.table.now c.args.left c.args.weight c.args.sum c.args.names.now c.args.slot c.paired-in-Character.result s c.in-Character.character k (c.paired-in-Character.ensures.value (char c.in-Character.character) (char_cause c.args.slot) c.char_value.ensures)
-
-pub read_value-returns-in-Quoted-clause-value : goal.read_value-returns-in-Quoted-clause-value
-read_value-returns-in-Quoted-clause-value t c = λ s told.
-    let k = subst (λ x. Tells x s) c.in-Quoted.is told in
-    arms.str_arm c.args.table.now c.args.left c.args.weight c.args.sum c.args.names.now c.args.slot c.paired-in-Quoted.result s k.0 k.1 (c.paired-in-Quoted.ensures.value (str k.0) (str_cause c.args.slot) (c.str_value.ensures k.0 k.2))
-
-pub read_value-returns-in-Interned-clause-value : goal.read_value-returns-in-Interned-clause-value
-read_value-returns-in-Interned-clause-value t c = λ s told.
-    let k = subst (λ x. Tells x s) c.in-Interned.is told in
-    arms.istr_arm c.args.table.now c.args.left c.args.weight c.args.sum c.args.names.now c.args.slot c.paired-in-Interned.result s c.in-Interned.name.now k (c.paired-in-Interned.ensures.value (istr (index_of c.args.names.now c.in-Interned.name.now)) (istr_cause c.args.table.now c.args.slot (index_of c.args.names.now c.in-Interned.name.now)) c.istr_value.ensures)
-
-pub read_value-returns-in-Bytes-clause-value : goal.read_value-returns-in-Bytes-clause-value
-read_value-returns-in-Bytes-clause-value t c = λ s told.
-    let k = subst (λ x. Tells x s) c.in-Bytes.is told in
-    arms.bytes_arm c.args.table.now c.args.left c.args.weight c.args.sum c.args.names.now c.args.slot c.paired-in-Bytes.result s k.0 k.1 (c.paired-in-Bytes.ensures.value (bytes k.0) (bytes_cause c.args.slot (length k.0)) (c.bytes_value.ensures k.0 k.2))
-
-pub read_value-returns-in-Empty-clause-value : goal.read_value-returns-in-Empty-clause-value
-read_value-returns-in-Empty-clause-value t c = λ s told.
-    let k = subst (λ x. Tells x s) c.in-Empty.is told in
-    arms.empty_arm c.args.table.now c.args.left c.args.weight c.args.sum c.args.names.now c.args.slot c.paired-in-Empty.result s k (c.paired-in-Empty.ensures.value (seq None no_elems) (empty_cause c.args.slot) c.empty_value.ensures)
-
 pub read_front-returns-in_default-clause-value : goal.read_front-returns-in_default-clause-value
 read_front-returns-in_default-clause-value t c =
     rw c.into-in_default.ensures (loops.front_unspelled c.args.names.now c.args.table.now c.args.left c.args.slot c.args.weight c.args.sum c.args.text.now c.skip_spaces-text.result.now c.skip_spaces-text.ensures.rest c.if-is_empty.ensures
