@@ -55,3 +55,11 @@ abbrev pub RefusesOnly : Result (Vec Symbol Global) ElfFault → Refusal → Typ
 RefusesOnly (Ok v) refusal = ⊥
 RefusesOnly (Err (faults.Refused cause part place)) refusal = refusal ≡ record { cause = cause; part = part; place = place }
 RefusesOnly (Err faults.Memory) refusal = Unit {0}
+
+-- ---- for private clauses
+
+-- what the checks so far have found, the first refusal, or want of memory
+abbrev pub Gets : {T : Type 0} → List ℕ → (T → Type 0) → Result T ElfFault → Type 0
+Gets file Has (Ok found) = Has found
+Gets file Has (Err (faults.Refused cause part place)) = Refused file (record { cause = cause; part = part; place = place })
+Gets file Has (Err faults.Memory) = Unit {0}

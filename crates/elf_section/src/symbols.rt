@@ -2,7 +2,8 @@
 
 ghost use Rattle.std.specs.Prelude.{◌≡◌, ◌≤◌, ◌<◌, ◌^◌, ℕ, List, length, IfOk};
 ghost use Rattle.elf_section.specs.Checks.{Passed, Refusal, Refused};
-ghost use Rattle.elf_section.specs.Listed.{Lists, ReadsSymbols, GivesOnly, RefusesOnly, is_listed, symbol_of, symbols_below};
+ghost use Rattle.elf_section.specs.File.{IsDefmt};
+ghost use Rattle.elf_section.specs.Listed.{Lists, Gets, ReadsSymbols, GivesOnly, RefusesOnly, is_listed, symbol_of, symbols_below};
 ghost use Rattle.elf_section.specs.Symbol.{PlainSymbol, plain, plain_all};
 ghost use Rattle.elf_section.specs.Table.{IsOpen};
 
@@ -68,21 +69,39 @@ fn collect(
     Ok(symbols)
 }
 
-fn symbols_of(alloc: Global, file: &[u8]) -> Result<Vec<Symbol>, ElfFault>
+// The first section named `.defmt`, behind the checks in front of it.
+fn defmt_of(alloc: Global, file: &[u8]) -> Result<u64, ElfFault>
     requires { length file.now < 2 ^ 32 }
-    ensures answer { ReadsSymbols file.now result }
-    ensures few { IfOk result (λ v. length v.items ≤ length file.now) }
+    ensures { Gets file.now (λ i. IsDefmt file.now i × Passed file.now 10) result }
 {
     check_front(file)?;
     check_names(file)?;
     let names = names_of(alloc, file)?;
     check_section_names(file, &names)?;
-    let defmt = find_defmt(file, &names)?;
+    Ok(find_defmt(file, &names)?)
+}
+
+// The symbol table, behind all checks.
+fn table_of(alloc: Global, file: &[u8]) -> Result<SymbolTable<'_>, ElfFault>
+    requires short { length file.now < 2 ^ 32 }
+    requires passed { Passed file.now 10 }
+    ensures { Gets file.now (λ table. IsOpen file.now table × Passed file.now 17) result }
+{
     let number = find_symbols(file)?;
     check_table(file, number)?;
     let table = open_table(alloc, file, number)?;
     check_symbol_names(file, &table)?;
     check_markers(file, &table)?;
+    Ok(table)
+}
+
+fn symbols_of(alloc: Global, file: &[u8]) -> Result<Vec<Symbol>, ElfFault>
+    requires { length file.now < 2 ^ 32 }
+    ensures answer { ReadsSymbols file.now result }
+    ensures few { IfOk result (λ v. length v.items ≤ length file.now) }
+{
+    let defmt = defmt_of(alloc, file)?;
+    let table = table_of(alloc, file)?;
     Ok(collect(alloc, file, defmt, &table)?)
 }
 

@@ -1,7 +1,7 @@
 //! Writing the file.
 
 ghost use Rattle.std.specs.Prelude.{◌≡◌, ◌≤◌, ◌<◌, ◌+◌, ◌*◌, ◌^◌, [], ◌∷◌, ◌++◌, length, replicate, IfOk, OnOk};
-ghost use Rattle.elf_section.specs.Written.{half, word, symbol_bytes, section_bytes, header_bytes, symbol_table, string_table, headers_for, names, written, IsWritable, AreBraced, braced, KeepsMarkers};
+ghost use Rattle.elf_section.specs.Written.{half, word, symbol_bytes, section_bytes, header_bytes, symbol_table, string_table, section_names, headers_for, names, written, IsWritable, AreBraced, braced, KeepsMarkers};
 ghost use Rattle.elf_section.specs.Listed.{Lists};
 ghost use Rattle.elf_section.specs.Symbol.{plain_all};
 
@@ -29,23 +29,17 @@ fn push_word(out: &mut Bytes, number: u32) -> Result<(), Memory>
 }
 
 /// The ELF header, with the place of the section headers.
+#[tactic(auto, unfolding(crate::specs::Written::half, crate::specs::Written::word))]
 fn push_header(out: &mut Bytes, shoff: u32) -> Result<(), Memory>
     ensures { OnOk result (out.new.items ≡ out.old.items ++ header_bytes shoff) }
 {
-    out.extend_from_slice(b"\x7fELF\x01\x01\x01\0\0\0\0\0\0\0\0\0")?;
-    push_half(out, 2)?;
-    push_half(out, 40)?;
-    push_word(out, 1)?;
-    push_word(out, 0)?;
-    push_word(out, 0)?;
+    // `e_ident`; the type 2, the machine 40 and the version 1; no entry and no program headers
+    out.extend_from_slice(
+        b"\x7fELF\x01\x01\x01\0\0\0\0\0\0\0\0\0\x02\0\x28\0\x01\0\0\0\0\0\0\0\0\0\0\0",
+    )?;
     push_word(out, shoff)?;
-    push_word(out, 0)?;
-    push_half(out, 52)?;
-    push_half(out, 0)?;
-    push_half(out, 0)?;
-    push_half(out, 40)?;
-    push_half(out, 5)?;
-    push_half(out, 4)?;
+    // no flags; the header's size 52; no program headers; section headers of 40 bytes, five, the last with the names
+    out.extend_from_slice(b"\0\0\0\0\x34\0\0\0\0\0\x28\0\x05\0\x04\0")?;
     Ok(())
 }
 
@@ -150,6 +144,29 @@ fn push_sections(out: &mut Bytes, count: u32, strings: u32) -> Result<(), Memory
     Ok(())
 }
 
+/// The parts of the file, one after another. The strings have so many bytes, so many zeros stand in front of the section
+/// headers, and these lie at this place.
+fn push_parts(
+    out: &mut Bytes,
+    list: &[Symbol],
+    strings: u32,
+    padding: u32,
+    sections_at: u32,
+) -> Result<(), Memory>
+    requires writable { IsWritable (plain_all list.now) }
+    requires strings { strings < 2 ^ 31 }
+    requires padding { padding ≤ 3 }
+    ensures { OnOk result (out.new.items ≡ (((((out.old.items ++ header_bytes sections_at) ++ symbol_table (plain_all list.now)) ++ string_table (plain_all list.now)) ++ section_names) ++ replicate padding 0) ++ headers_for (length list.now) strings) }
+{
+    push_header(out, sections_at)?;
+    push_symbols(out, list)?;
+    push_strings(out, list)?;
+    out.extend_from_slice(b"\0.defmt\0.symtab\0.strtab\0.shstrtab\0")?;
+    push_zeros(out, padding)?;
+    push_sections(out, list.len() as u32, strings)?;
+    Ok(())
+}
+
 /// The ELF32 file with these symbols in its section `.defmt`, in their order, and the two marker
 /// symbols in front of them. There are at most 65,536 symbols, each value is at most 65,535, no name
 /// has a zero byte, and all names together have at most 1 GiB.
@@ -169,11 +186,6 @@ pub fn write_symbols(alloc: Global, list: &[Symbol]) -> Result<Bytes, Memory>
     let sections_at = names_at + 34 + padding;
     let mut file = Bytes::new(alloc);
     file.reserve(sections_at as usize + 200)?;
-    push_header(&mut file, sections_at)?;
-    push_symbols(&mut file, list)?;
-    push_strings(&mut file, list)?;
-    file.extend_from_slice(b"\0.defmt\0.symtab\0.strtab\0.shstrtab\0")?;
-    push_zeros(&mut file, padding)?;
-    push_sections(&mut file, count, strings)?;
+    push_parts(&mut file, list, strings, padding, sections_at)?;
     Ok(file)
 }

@@ -1,5 +1,7 @@
 use Rattle.std.proofs.Common.{append_assoc}
+use Rattle.elf_section.specs.Written.{half, word}
 use Rattle.elf_section.proofs.writing.push_header.Goals as goal
 
 pub returns : goal.returns
-returns c = rw (c.in_ok-push_half-8.ensures, c.in_ok-push_half-7.ensures, c.in_ok-push_half-6.ensures, c.in_ok-push_half-5.ensures, c.in_ok-push_half-4.ensures, c.in_ok-push_half-3.ensures, c.in_ok-push_word-5.ensures, c.in_ok-push_word-4.ensures, c.in_ok-push_word-3.ensures, c.in_ok-push_word-2.ensures, c.in_ok-push_word.ensures, c.in_ok-push_half-2.ensures, c.in_ok-push_half.ensures, c.in_ok-extend_from_slice.ensures.ok) (simp append_assoc)
+unfolding half word
+returns c = rw (c.in_ok-extend_from_slice-2.ensures.ok, c.in_ok-push_word.ensures, c.in_ok-extend_from_slice.ensures.ok) (simp append_assoc)

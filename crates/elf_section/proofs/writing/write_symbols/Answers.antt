@@ -9,14 +9,14 @@ use Rattle.elf_section.proofs.writing.write_symbols.Goals as goal
 pub returns-clause-bytes : goal.returns-clause-bytes
 returns-clause-bytes c =
     let s = c.names_len-strings.ensures in
-    written_is (plain_all c.args.list.now) (52 + 48 + 16 * length c.args.list.now + (47 + c.names_len-strings.result)) (length c.args.list.now) (47 + c.names_len-strings.result) c.push_sections.new.out.items (sym (items c.args.list.now)) (ap (λ (n : ℕ). 47 + n) s) (omega arith)
-    (rw (c.in_ok-push_sections.ensures, c.in_ok-push_zeros.ensures, c.in_ok-extend_from_slice.ensures.ok, c.in_ok-push_strings.ensures, c.in_ok-push_symbols.ensures, c.in_ok-push_header.ensures, c.in_ok-reserve.ensures.items, c.new-file.ensures.items) refl)
+    written_is (plain_all c.args.list.now) (52 + 48 + 16 * length c.args.list.now + (47 + c.names_len-strings.result)) (length c.args.list.now) (47 + c.names_len-strings.result) c.push_parts.new.out.items (sym (items c.args.list.now)) (ap (λ (n : ℕ). 47 + n) s) (omega arith)
+    (rw (c.in_ok-push_parts.ensures, c.in_ok-reserve.ensures.items, c.new-file.ensures.items) refl)
 
 pub returns-clause-read_back : goal.returns-clause-read_back
 returns-clause-read_back c = λ keeps. subst (λ (f : List ℕ). Lists f (braced (plain_all c.args.list.now))) (sym (returns-clause-bytes c)) (written_is_read (plain_all c.args.list.now) c.requires keeps)
 
 pub returns-clause-read_back_whole : goal.returns-clause-read_back_whole
-returns-clause-read_back_whole c = λ all. subst (Lists c.push_sections.new.out.items) (braced_all (plain_all c.args.list.now) all) (returns-clause-read_back c (braced_keep (plain_all c.args.list.now) all))
+returns-clause-read_back_whole c = λ all. subst (Lists c.push_parts.new.out.items) (braced_all (plain_all c.args.list.now) all) (returns-clause-read_back c (braced_keep (plain_all c.args.list.now) all))
 
 pub overflow_add-strings : goal.overflow_add-strings
 overflow_add-strings c =
@@ -58,8 +58,8 @@ overflow_add-sections_at-2 c =
     let i = items c.args.list.now in
     omega (arith, s, n, f, i)
 
-pub push_sections-requires-clause-strings : goal.push_sections-requires-clause-strings
-push_sections-requires-clause-strings c =
+pub push_parts-requires-clause-strings : goal.push_parts-requires-clause-strings
+push_parts-requires-clause-strings c =
     let s = c.names_len-strings.ensures in
     let n = names_short (plain_all c.args.list.now) c.requires in
     let f = c.requires.few in
