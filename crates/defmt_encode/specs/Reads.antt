@@ -3,6 +3,9 @@ use Rattle.std.specs.Prelude.{◌≡◌, ◌≤◌, ℕ, List, Option, Result, O
 use Rattle.std.specs.Borrow.{Bor}
 use Rattle.dl_io.specs.Buffer.{Buffer}
 use Rattle.defmt_grammar.specs.declared.piece.Piece.{Piece}
+use Rattle.defmt_grammar.specs.declared.kind.Kind.TheVariants as kinds
+use Rattle.defmt_grammar.specs.declared.slot.Slot.{Slot}
+use Rattle.defmt_grammar.specs.declared.slot.Slot.TheVariants as slots
 use Rattle.defmt_intern.specs.Table.{Map}
 use Rattle.defmt_values.specs.Plain.{Val, Vals, Elems}
 use Rattle.defmt_values.specs.View.{plain}
@@ -97,6 +100,13 @@ told heard (Err e) = Err e
 abbrev pub SumSmall : {T : Type 0} → Result (T × ℕ × Bor (List ℕ)) Fault → Type 0
 SumSmall (Ok r) = r.1 ≤ 8192
 SumSmall (Err e) = Unit {0}
+
+-- no values stand inside a value of the slot
+abbrev pub IsLeaf : Slot → Type 0
+IsLeaf (slots.One kinds.Format) = ⊥
+IsLeaf (slots.One kinds.FormatSlice) = ⊥
+IsLeaf (slots.One (kinds.FormatArray count)) = ⊥
+IsLeaf slot = Unit {0}
 
 -- ---- the answers of `read_message`
 

@@ -1,11 +1,11 @@
 //! Values read from the bytes of a message.
-ghost use Rattle.std.specs.Prelude.{◌≡◌, ◌≤◌, ◌<◌, ◌+◌, ◌^◌, ◌*◌, [], ◌∷◌, IfOk, IfSome, ℕ};
+ghost use Rattle.std.specs.Prelude.{◌≡◌, ◌≤◌, ◌<◌, ◌+◌, ◌^◌, ◌*◌, [], ◌∷◌, IfOk, IfSome, Option, ℕ};
 ghost use Rattle.defmt_grammar.specs.Slots.{IsSound};
 ghost use Rattle.defmt_grammar.specs.declared.kind.Kind.TheVariants.{Uint};
 ghost use Rattle.defmt_grammar.specs.declared.slot.Slot.TheVariants.{One};
 ghost use Rattle.defmt_values.specs.Entries.{look, is_format, is_interned, places_of};
-ghost use Rattle.defmt_encode.specs.Read.{suited, interned_of, istr_at, form_in, form_of, add, variant_of, uint_at, int_at, flag_at, char_at, str_at, slice_at, array_at, window_at, only_at, each_at, elem_at, elems_at, node_at, list_at, some_at, slot_at, value_at, below};
-ghost use Rattle.defmt_encode.specs.Reads.{now_of, variant_now, ReadsVal, ReadsVals, ReadsElem, ReadsElems, SumSmall, with_vals};
+ghost use Rattle.defmt_encode.specs.Read.{suited, interned_of, istr_at, form_in, form_of, add, variant_of, uint_at, int_at, flag_at, char_at, str_at, slice_at, array_at, window_at, only_at, each_at, elem_at, elems_at, node_at, list_at, some_at, slot_at, value_at, below, OneAt};
+ghost use Rattle.defmt_encode.specs.Reads.{now_of, variant_now, ReadsVal, ReadsVals, ReadsElem, ReadsElems, SumSmall, IsLeaf, with_vals};
 
 use crate::cause::{Cause, Fault};
 use crate::field::{
@@ -209,6 +209,35 @@ fn read_window(first: u8, width: u8, sum: u128, bytes: &[u8]) -> Result<(Value, 
     Ok((Value::Bits(moved_up(n, first, width)), sum, rest))
 }
 
+// A value of a slot inside which no values stand.
+fn read_leaf<'b>(
+    alloc: Global,
+    table: &Table,
+    slot: Slot,
+    sum: u128,
+    bytes: &'b [u8],
+) -> Result<(Value, u128, &'b [u8]), Fault>
+    requires slot { IsSound slot }
+    requires leaf { IsLeaf slot }
+    requires sum { sum ≤ 8192 }
+    ensures value { (below : Option OneAt) (weight : ℕ) → ReadsVal result (slot_at table.now below slot weight sum bytes.now) }
+    ensures small { SumSmall result }
+{
+    match slot {
+        Slot::One(Kind::Uint(size)) => read_uint(size, sum, bytes),
+        Slot::One(Kind::Int(size)) => read_int(size, sum, bytes),
+        Slot::One(Kind::Bool) => read_bool(sum, bytes),
+        Slot::One(Kind::Char) => read_char(sum, bytes),
+        Slot::One(Kind::Str) => read_str(alloc, sum, bytes),
+        Slot::One(Kind::Istr) => read_istr(table, sum, bytes),
+        Slot::One(Kind::Bytes) => read_slice(alloc, sum, bytes),
+        Slot::One(Kind::ByteArray(count)) => read_byte_array(alloc, count, sum, bytes),
+        Slot::One(Kind::Bits { .. }) => Err(Fault::Bad(Cause::Short)),
+        Slot::Bits { first, width } => read_window(first, width, sum, bytes),
+        Slot::One(Kind::Format | Kind::FormatSlice | Kind::FormatArray(_)) => unreachable!(),
+    }
+}
+
 // A value of a slot. At most `left` levels of Format values may still be opened.
 #[cycle(read)]
 fn read_value<'b>(
@@ -227,14 +256,6 @@ fn read_value<'b>(
     ensures small { SumSmall result }
 {
     match slot {
-        Slot::One(Kind::Uint(size)) => read_uint(size, sum, bytes),
-        Slot::One(Kind::Int(size)) => read_int(size, sum, bytes),
-        Slot::One(Kind::Bool) => read_bool(sum, bytes),
-        Slot::One(Kind::Char) => read_char(sum, bytes),
-        Slot::One(Kind::Str) => read_str(alloc, sum, bytes),
-        Slot::One(Kind::Istr) => read_istr(table, sum, bytes),
-        Slot::One(Kind::Bytes) => read_slice(alloc, sum, bytes),
-        Slot::One(Kind::ByteArray(count)) => read_byte_array(alloc, count, sum, bytes),
         Slot::One(Kind::Format) => {
             if left == 0 {
                 return Err(Fault::Bad(Cause::Deep));
@@ -254,8 +275,7 @@ fn read_value<'b>(
             sum,
             bytes,
         ),
-        Slot::One(Kind::Bits { .. }) => Err(Fault::Bad(Cause::Short)),
-        Slot::Bits { first, width } => read_window(first, width, sum, bytes),
+        leaf => read_leaf(alloc, table, leaf, sum, bytes),
     }
 }
 
@@ -389,27 +409,6 @@ fn read_into<'b>(
     Ok((total, rest))
 }
 
-// The same in a list of their own.
-#[cycle(read)]
-fn read_args<'b>(
-    alloc: Global,
-    table: &Table,
-    pieces: &Pieces,
-    left: u8,
-    weight: u128,
-    sum: u128,
-    bytes: &'b [u8],
-) -> Result<(Args, u128, &'b [u8]), Fault>
-    requires weight { weight ≤ 8192 }
-    requires sum { sum ≤ 8192 }
-    ensures value { ReadsVals result (each_at (value_at table.now left) (places_of pieces.now) weight sum bytes.now) }
-    ensures small { SumSmall result }
-{
-    let mut args = Args::new(alloc);
-    let (sum, rest) = read_into(alloc, table, pieces, left, weight, sum, bytes, &mut args)?;
-    Ok((args, sum, rest))
-}
-
 // The elements of a list, which are pushed one by one.
 #[cycle(read)]
 fn read_items<'b>(
@@ -457,7 +456,8 @@ fn read_item<'b>(
 {
     let sum = add(weight, sum)?;
     let (variant, pieces, rest) = variant_of(form, bytes)?;
-    let (args, sum, rest) = read_args(alloc, table, pieces, left, weight, sum, rest)?;
+    let mut args = Args::new(alloc);
+    let (sum, rest) = read_into(alloc, table, pieces, left, weight, sum, rest, &mut args)?;
     Ok((Item { variant, args }, sum, rest))
 }
 

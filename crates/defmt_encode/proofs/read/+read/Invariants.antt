@@ -11,9 +11,6 @@ decreases-read_value l = 10 * l.left + 4
 abbrev pub decreases-read_some : goal.decreases-read_some
 decreases-read_some l = 10 * l.left + 3
 
-abbrev pub decreases-read_args : goal.decreases-read_args
-decreases-read_args l = 10 * l.left + 6
-
 abbrev pub decreases-read_into : goal.decreases-read_into
 decreases-read_into l = 10 * l.left + 5
 
