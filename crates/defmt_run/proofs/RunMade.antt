@@ -40,7 +40,3 @@ module _ (s : Script) (tape : List Mark) (account : Account) (captured rest : Li
 
   pub made_record : events ≡ [] → output ≡ captured ++ rest → Makes (Run Stream) s told output
   made_record none is = as_told (Run Stream) (record { tells = (account, logged, none); is = is ∙ sym run.whole ∙ run.sends })
-
--- of a script by another name
-pub of_script : (task : Task) (other s : Script) (told : Told) (output : List ℕ) → other ≡ s → Makes task other told output → Makes task s told output
-of_script task other s told output is makes = subst (λ (x : Script). Makes task x told output) is makes

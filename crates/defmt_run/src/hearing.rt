@@ -29,8 +29,7 @@ pub fn hear(alloc: Global, run: &Run) -> Result<Events, Memory>
     frames_read_back();
     without_front();
     let copy = script.table().copy()?;
-    let events = events_of(alloc, copy, run.captured.as_slice(), run.rest.as_slice())?;
-    Ok(events)
+    events_of(alloc, copy, run.captured.as_slice(), run.rest.as_slice())
 }
 
 // The events of a stream that is fed in two parts.

@@ -51,8 +51,7 @@ pub fn make_run<G: Gate + Sync, R: Threads + Wait + Sync>(
     ensures { IfOk result (λ m. Makes (RunTask output) script (record { tape = m.tape.marks; settled = Some m.settled; events = m.events; looks = m.looks }) m.output.items) }
 {
     let run = log(rt, alloc, script, gate)?;
-    let making = make_of(alloc, output, run)?;
-    Ok(making)
+    make_of(alloc, output, run)
 }
 
 /// What is written of a script that isn't run.

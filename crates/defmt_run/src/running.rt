@@ -179,8 +179,7 @@ fn read_script<S: Source>(alloc: Global, src: &mut S) -> Result<Script, Fault>
     ensures later { S.faults src.old ≤ S.faults src.new }
 {
     let text = read_input(alloc, src)?;
-    let script = script_of(alloc, text.as_slice())?;
-    Ok(script)
+    script_of(alloc, text.as_slice())
 }
 
 fn read_input<S: Source>(alloc: Global, src: &mut S) -> Result<Bytes, Fault>
