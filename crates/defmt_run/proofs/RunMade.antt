@@ -1,22 +1,22 @@
 -- What a run comes to.
-use Rattle.std.proofs.Common.{◌≡◌, ◌++◌, ℕ, Bool, List, [], refl, sym, ◌∙◌, ap, subst}
+use Rattle.std.proofs.Common.{◌≡◌, ◌++◌, ℕ, List, [], Ok, Err, refl, sym, ap, subst, ◌∙◌}
+use Rattle.std.specs.Prelude.{IfOk, Result}
 use Rattle.defmt_decode.specs.Event.{events_of}
 use Rattle.defmt_decode.specs.declared.event.Event.{Event}
 use Rattle.defmt_logger.specs.declared.mark.Mark.{Mark}
-use Rattle.defmt_run.specs.Printed.{Makes, printed}
+use Rattle.defmt_run.specs.Printed.{Makes, Tells}
 use Rattle.defmt_run.specs.Told.{Ran, LinesIn, Told, told_of}
 use Rattle.defmt_run.specs.declared.task.Task.{Task}
-use Rattle.defmt_run.specs.declared.task.RunOutput.TheVariants.{Counts, Lines, Stream}
+use Rattle.defmt_run.specs.declared.task.RunOutput.TheVariants.{Counts, Stream}
 use Rattle.defmt_run.specs.declared.task.Task.TheVariants.{Run}
 use Rattle.defmt_script.specs.Script.{Script}
 use Rattle.defmt_writers.specs.Runs.{IsRun}
 use Rattle.rtt_ring.specs.Account.{Account}
 use Rattle.rtt_ring.specs.declared.settled.RingKind.TheVariants.{Word}
 
-module _ (s : Script) (tape : List Mark) (account : Account) (captured rest : List ℕ) (events : List Event) (looks : ℕ) (told : Told) (output : List ℕ)
-    (told_is : told ≡ told_of tape account events looks) (run : IsRun s tape account captured rest looks) (ring : account.ring ≡ Word) where
-  logged : Ran s account (told_of tape account events looks)
-  logged = record {
+module _ (s : Script) (tape : List Mark) (account : Account) (captured rest : List ℕ) (looks : ℕ) (run : IsRun s tape account captured rest looks) (ring : account.ring ≡ Word) where
+  logged : (events : List Event) → Ran s account (told_of tape account events looks)
+  logged events = record {
     settled = refl;
     ring = ring;
     lawful = run.lawful;
@@ -28,15 +28,16 @@ module _ (s : Script) (tape : List Mark) (account : Account) (captured rest : Li
     looks = run.looked;
   }
 
-  as_told : (task : Task) → Makes task s (told_of tape account events looks) output → Makes task s told output
-  as_told task makes = subst (λ (t : Told). Makes task s t output) (sym told_is) makes
+  -- as it does for lines too
+  pub told_heard : {E : Type 0} (heard : Result (List Event) E) → IfOk heard (λ (events : List Event). events ≡ events_of s.table account.sent)
+      → IfOk heard (λ (events : List Event). LinesIn s.settings.mode s tape events) → IfOk heard (λ (events : List Event). Tells (Run Counts) s (told_of tape account events looks))
+  told_heard (Ok events) is lines = (account, logged events, record { events = is; lines = lines })
+  told_heard (Err fault) is lines = tt
 
-  pub made_run : (group : Bool) → events ≡ events_of s.table account.sent → LinesIn s.settings.mode s tape events → output ≡ printed (Run (Lines group)) s (told_of tape account events looks)
-      → Makes (Run (Lines group)) s told output
-  made_run group heard lines is = as_told (Run (Lines group)) (record { tells = (account, logged, record { events = heard; lines = lines }); is = is })
+  pub told_none : (events : List Event) → events ≡ [] → Tells (Run Stream) s (told_of tape account events looks)
+  told_none events none = (account, logged events, none)
 
-  pub made_counts : events ≡ events_of s.table account.sent → LinesIn s.settings.mode s tape events → output ≡ printed (Run Counts) s (told_of tape account events looks) → Makes (Run Counts) s told output
-  made_counts heard lines is = as_told (Run Counts) (record { tells = (account, logged, record { events = heard; lines = lines }); is = is })
-
-  pub made_record : events ≡ [] → output ≡ captured ++ rest → Makes (Run Stream) s told output
-  made_record none is = as_told (Run Stream) (record { tells = (account, logged, none); is = is ∙ sym run.whole ∙ run.sends })
+-- by other names
+pub made_as : (task : Task) (s : Script) (told other : Told) (output written : List ℕ) → told ≡ other → output ≡ written → Makes task s other written → Makes task s told output
+made_as task s told other output written told_is output_is makes =
+    subst (λ (t : Told). Makes task s t output) (sym told_is) (subst (λ (l : List ℕ). Makes task s other l) (sym output_is) makes)

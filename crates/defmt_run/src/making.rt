@@ -1,11 +1,10 @@
 // What is made of a script, before it is written.
 ghost use Rattle.std.specs.Prelude.{◌≡◌, ◌≤◌, ◌^◌, ◌++◌, IfOk};
 ghost use Rattle.elf_table.specs.Listed.{size_of};
-ghost use Rattle.defmt_run.specs.Printed.{Makes, shown};
+ghost use Rattle.defmt_run.specs.Printed.{Makes, Tells, printed, shown};
 ghost use Rattle.defmt_run.specs.Told.{told_of};
 ghost use Rattle.defmt_writers.specs.Runs.{IsRun};
 ghost use Rattle.rtt_ring.specs.declared.settled.RingKind.TheVariants.{Word};
-ghost use Rattle.defmt_run.specs.declared.task.RunOutput.TheVariants.{Counts, Lines, Stream};
 ghost use Rattle.defmt_run.specs.declared.task.Task.TheVariants.{Run as RunTask};
 
 use crate::hearing::hear;
@@ -70,32 +69,37 @@ fn make_of(alloc: Global, output: RunOutput, run: Run) -> Result<Making, Memory>
     requires ring { run.settled.ring ≡ Word }
     ensures { IfOk result (λ m. Makes (RunTask output) run.script (record { tape = m.tape.marks; settled = Some m.settled; events = m.events; looks = m.looks }) m.output.items) }
 {
+    let events = events_for(alloc, output, &run)?;
+    let written = written_of(alloc, output, &run, &events)?;
+    Ok(told(run, events, written))
+}
+
+// What the host tells of a run, nothing where only what was sent is written.
+fn events_for(alloc: Global, output: RunOutput, run: &Run) -> Result<Events, Memory>
+    requires run { IsRun run.now.script run.now.tape.marks run.now.settled run.now.captured.items run.now.rest.items run.now.looks }
+    requires ring { run.now.settled.ring ≡ Word }
+    ensures { IfOk result (λ events. Tells (RunTask output) run.now.script (told_of run.now.tape.marks run.now.settled events run.now.looks)) }
+{
     match output {
-        RunOutput::Lines { group } => print_run(alloc, group, run),
-        RunOutput::Stream => record_run(alloc, run),
-        RunOutput::Counts => count_run(alloc, run),
+        RunOutput::Lines { .. } => hear(alloc, run),
+        RunOutput::Stream => Ok(Events::new(alloc)),
+        RunOutput::Counts => hear(alloc, run),
     }
 }
 
-// What the host told of a run and what was lost is to be printed.
-fn print_run(alloc: Global, group: bool, run: Run) -> Result<Making, Memory>
-    requires run { IsRun run.script run.tape.marks run.settled run.captured.items run.rest.items run.looks }
-    requires ring { run.settled.ring ≡ Word }
-    ensures { IfOk result (λ m. Makes (RunTask (Lines group)) run.script (record { tape = m.tape.marks; settled = Some m.settled; events = m.events; looks = m.looks }) m.output.items) }
+// What is written of a run of which the host tells these events.
+fn written_of(alloc: Global, output: RunOutput, run: &Run, events: &Events) -> Result<Bytes, Memory>
+    requires { IsRun run.now.script run.now.tape.marks run.now.settled run.now.captured.items run.now.rest.items run.now.looks }
+    ensures { IfOk result (λ out. out.items ≡ printed (RunTask output) run.now.script (told_of run.now.tape.marks run.now.settled events.now run.now.looks)) }
 {
-    let events = hear(alloc, &run)?;
-    let output = run_lines(alloc, group, &run.script, &run.tape, &events)?;
-    Ok(told(run, events, output))
-}
-
-// What was sent is to be written.
-fn record_run(alloc: Global, run: Run) -> Result<Making, Memory>
-    requires run { IsRun run.script run.tape.marks run.settled run.captured.items run.rest.items run.looks }
-    requires ring { run.settled.ring ≡ Word }
-    ensures { IfOk result (λ m. Makes (RunTask Stream) run.script (record { tape = m.tape.marks; settled = Some m.settled; events = m.events; looks = m.looks }) m.output.items) }
-{
-    let output = joined(alloc, run.captured.as_slice(), run.rest.as_slice())?;
-    Ok(told(run, Events::new(alloc), output))
+    match output {
+        RunOutput::Lines { group } => run_lines(alloc, group, &run.script, &run.tape, events),
+        RunOutput::Stream => joined(alloc, run.captured.as_slice(), run.rest.as_slice()),
+        RunOutput::Counts => {
+            run.script.lawful();
+            summary(alloc, &run.script, &run.tape)
+        }
+    }
 }
 
 // These bytes, one part after the other.
@@ -107,18 +111,6 @@ fn joined(alloc: Global, front: &[u8], rest: &[u8]) -> Result<Bytes, Memory>
     all.extend_from_slice(front)?;
     all.extend_from_slice(rest)?;
     Ok(all)
-}
-
-// Counts of the statements are to be printed.
-fn count_run(alloc: Global, run: Run) -> Result<Making, Memory>
-    requires run { IsRun run.script run.tape.marks run.settled run.captured.items run.rest.items run.looks }
-    requires ring { run.settled.ring ≡ Word }
-    ensures { IfOk result (λ m. Makes (RunTask Counts) run.script (record { tape = m.tape.marks; settled = Some m.settled; events = m.events; looks = m.looks }) m.output.items) }
-{
-    run.script.lawful();
-    let events = hear(alloc, &run)?;
-    let output = summary(alloc, &run.script, &run.tape)?;
-    Ok(told(run, events, output))
 }
 
 // What is told of a run.
