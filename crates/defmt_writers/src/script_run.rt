@@ -236,8 +236,7 @@ fn run_named<
         late: _,
         of: _,
     } = drain;
-    let answer = settle::<H>(alloc, script, tape, captured, up, down)?;
-    Ok(answer)
+    settle::<H>(alloc, script, tape, captured, up, down)
 }
 
 /// Runs a script over a ring of its own: a thread for each writer that has statements logs them, and the calling thread reads.
@@ -298,7 +297,7 @@ fn split_ring<H: Channel>(alloc: Global, script: &Script) -> Result<(H::Up, H::D
     }
 }
 
-// The same, and the room for what the reader takes, with nothing in it.
+// The two ends of a new ring of the script's size, and the room for what the reader takes, with nothing in it.
 fn prepare<H: Channel>(alloc: Global, script: &Script) -> Result<(H::Up, H::Down, Bytes), Memory>
     requires { ModeFits script.now.settings.mode H.tells }
     ensures up { IfOk result (λ e. H.Up.view e.0 ≡ new_up (H.Up.view e.0).split script.now.settings.ring (H.Up.view e.0).tells) }

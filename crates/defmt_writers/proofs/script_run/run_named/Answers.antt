@@ -1,35 +1,33 @@
-use Rattle.std.proofs.Common.{◌≡◌, ℕ, sym, ap, subst, ◌∙◌}
-use Rattle.defmt_logger.specs.Kept.{IsKept, Reel}
+use Rattle.std.proofs.Common.{◌≡◌, ℕ, ◌∙◌}
+use Rattle.std.proofs.lemmas.Result.{IfOk-weaker}
 use Rattle.defmt_logger.specs.Tape.{count, marks_of}
 use Rattle.defmt_script.specs.Script.{Script}
-use Rattle.defmt_writers.proofs.Ends.{below_eight, run_ends}
-use Rattle.dl_io.specs.Buffer.{Buffer}
-use Rattle.rtt_ring.specs.Views.{Up}
+use Rattle.defmt_writers.proofs.Ends.{below_eight, run_settled}
 use Rattle.defmt_writers.proofs.script_run.run_named.Goals as goal
+
+pub returns-clause-script : goal.returns-clause-script
+returns-clause-script g c = IfOk-weaker c.settle.result _ _ (λ run is. is ∙ c.close-tape.ensures.script) c.settle.ensures.script
 
 pub returns-clause-run : goal.returns-clause-run
 returns-clause-run g c =
     let s : Script = g.K.Naming.script in
     let close = c.close-tape.ensures in
     let ends = c.finish.ensures in
-    let run = c.in_ok-answer.answer in
-    let made = c.in_ok-answer.ensures in
-    let q : Script = c.close-tape.result.2 in
-    let u : Up = g.H.Up.UpEnd.view c.close-tape.result.1 in
+    let made = c.settle.ensures in
     let drain = c.take_all.new.self in
-    let kept : IsKept (record { script = q; tape = run.tape; up = u }) = subst (λ (t : Reel). IsKept (record { script = q; tape = t; up = u })) (sym made.tape) close.kept in
-    let own : (w : ℕ) → marks_of w run.tape.marks ≡ marks_of w c.close-tape.result.0.marks = λ w. ap (λ (t : Reel). marks_of w t.marks) made.tape in
-    let held : run.captured.items ≡ drain.captured.items = ap (λ (b : Buffer). b.items) made.captured in
-    run_ends s q run.tape u _ _ _ _ close.script kept
-    (below_eight (λ w. marks_of w run.tape.marks ≡ count s w)
-    (own 0 ∙ close.p0 ∙ ends.p0 ∙ c.finish.new.pens.p0.all)
-    (own 1 ∙ close.p1 ∙ ends.p1 ∙ c.finish.new.pens.p1.all)
-    (own 2 ∙ close.p2 ∙ ends.p2 ∙ c.finish.new.pens.p2.all)
-    (own 3 ∙ close.p3 ∙ ends.p3 ∙ c.finish.new.pens.p3.all)
-    (own 4 ∙ close.p4 ∙ ends.p4 ∙ c.finish.new.pens.p4.all)
-    (own 5 ∙ close.p5 ∙ ends.p5 ∙ c.finish.new.pens.p5.all)
-    (own 6 ∙ close.p6 ∙ ends.p6 ∙ c.finish.new.pens.p6.all)
-    (own 7 ∙ close.p7 ∙ ends.p7 ∙ c.finish.new.pens.p7.all))
-    made.account.0 (made.account.1 ∙ drain.got ∙ sym held) made.rest.0 made.rest.1
-    (λ h. held ∙ drain.idle (drain.late_is ∙ h))
-    made.looks
+    run_settled s c.close-tape.result.2 c.close-tape.result.0 (g.H.Up.UpEnd.view c.close-tape.result.1) drain.captured _ _ c.settle.result
+    close.script close.kept
+    (below_eight (λ w. marks_of w c.close-tape.result.0.marks ≡ count s w)
+    (close.p0 ∙ ends.p0 ∙ c.finish.new.pens.p0.all)
+    (close.p1 ∙ ends.p1 ∙ c.finish.new.pens.p1.all)
+    (close.p2 ∙ ends.p2 ∙ c.finish.new.pens.p2.all)
+    (close.p3 ∙ ends.p3 ∙ c.finish.new.pens.p3.all)
+    (close.p4 ∙ ends.p4 ∙ c.finish.new.pens.p4.all)
+    (close.p5 ∙ ends.p5 ∙ c.finish.new.pens.p5.all)
+    (close.p6 ∙ ends.p6 ∙ c.finish.new.pens.p6.all)
+    (close.p7 ∙ ends.p7 ∙ c.finish.new.pens.p7.all))
+    drain.got (λ h. drain.idle (drain.late_is ∙ h))
+    made.tape made.captured made.account made.rest made.looks
+
+pub returns-clause-ring : goal.returns-clause-ring
+returns-clause-ring g c = IfOk-weaker c.settle.result _ _ (λ run is. is.2) c.settle.ensures.account
