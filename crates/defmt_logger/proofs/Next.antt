@@ -17,7 +17,11 @@ use Rattle.rtt_ring.specs.Views.{Up}
 pub writer_is : (s : Script) (tape : List Mark) (w : ℕ) → HoldsOfScripts s → marks_of w tape < count s w → w < 8
 writer_is s tape w h more = omega (arith, writer_below s.writers w (marks_of w tape) more, h.eight)
 
--- and then the tape has room
+-- a desk that is the same has it too
+pub more_left : (d e : Sheet) (w : ℕ) → d ≡ e → marks_of w e.tape.marks < count e.script w → marks_of w d.tape.marks < count d.script w
+more_left d e w same more = subst (λ (x : Sheet). marks_of w x.tape.marks < count x.script w) (sym same) more
+
+-- where a writer has a statement left the tape has room
 pub room_left : (d : Sheet) (w : ℕ) → IsKept d → HoldsOfScripts d.script → marks_of w d.tape.marks < count d.script w → 0 < d.tape.room
 room_left d w k h more =
     let m : Mark = next_mark d.script d.tape.marks w Whole in
