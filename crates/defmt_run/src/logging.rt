@@ -30,8 +30,7 @@ pub fn log<G: Gate + Sync, R: Threads + Wait + Sync>(
         ensures { result ≡ base + step * t }
     { base + step * u64::from(t) };
     let stamp = Stamp::new(base, step, clock);
-    let run = run_script::<WordRing, _, G, R>(rt, alloc, script, stamp, gate)?;
-    Ok(run)
+    run_script::<WordRing, _, G, R>(rt, alloc, script, stamp, gate)
 }
 
 /// The first stamp of a script and the step to the next, both 0 without stamps. Takes no memory.
