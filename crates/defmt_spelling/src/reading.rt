@@ -298,27 +298,8 @@ fn read_item(
 {
     let sum = add(weight, sum)?;
     let (pieces, variant) = find_pieces(form, variant)?;
-    let (args, sum) = read_inside(alloc, names, table, pieces, left, weight, sum, inside)?;
+    let (args, sum) = read_values(alloc, names, table, pieces, left, weight, sum, inside)?;
     Ok((Item { variant, args }, sum))
-}
-
-// The values in brackets, which are known to be spelled.
-#[cycle(read)]
-fn read_inside(
-    alloc: Global,
-    names: &Names,
-    table: &Table,
-    pieces: &Pieces,
-    left: u8,
-    weight: usize,
-    sum: usize,
-    text: &str,
-) -> Result<(Args, usize), ArgFault>
-    requires sum { sum ≤ 8192 }
-    ensures value { (ss : Shapes) → SpellsShapes text.now ss → GivesValues result (meant_vals names.now table.now (places_of pieces.now) ss) (scan_vals table.now left (places_of pieces.now) weight sum (meant_vals names.now table.now (places_of pieces.now) ss)) }
-    ensures small { SmallValue result }
-{
-    read_values(alloc, names, table, pieces, left, weight, sum, text)
 }
 
 // The values of a text, in a text that has this weight.

@@ -5,15 +5,12 @@ use Rattle.defmt_spelling.proofs.Exits as exits
 use Rattle.defmt_spelling.proofs.Loops as loops
 use Rattle.std.specs.Prelude.{IfSome}
 use Rattle.std.specs.Str.{IsUtf8}
-use Rattle.std.proofs.Common.{None, subst, length}
-use Rattle.defmt_shapes.specs.Spelling.{Tells, IsValue}
+use Rattle.std.proofs.Common.{Ok, Err, subst}
+use Rattle.defmt_shapes.specs.Spelling.{IsValue}
 use Rattle.defmt_spelling.proofs.Firsts.{one_head, one_item}
-use Rattle.defmt_spelling.specs.Leaves.{decimal_cause, hexadecimal_cause, empty_cause}
-use Rattle.defmt_spelling.specs.Meaning.{index_of, decimal_at, hexadecimal_at, negated}
+use Rattle.defmt_spelling.specs.Meaning.{index_of}
 use Rattle.defmt_values.proofs.Scans as scans
 use Rattle.defmt_values.specs.Entries.{places_of}
-use Rattle.defmt_values.specs.Plain.{int, flag, char, str, istr, bytes, seq, no_elems}
-use Rattle.defmt_values.specs.Scan.{int_cause, flag_cause, char_cause, str_cause, istr_cause, bytes_cause}
 use Rattle.defmt_values.specs.View.{plain}
 use Rattle.defmt_spelling.proofs.reading.+read.Goals as goal
 
@@ -68,9 +65,16 @@ read_front-returns-in_default-clause-value t c =
     rw c.into-in_default.ensures (loops.front_unspelled c.args.names.now c.args.table.now c.args.left c.args.slot c.args.weight c.args.sum c.args.text.now c.skip_spaces-text.result.now c.skip_spaces-text.ensures.rest c.if-is_empty.ensures
     (subst (λ o. IsValue c.skip_spaces-text.result.now o) c.in_default.is c.in_ok-spelling.ensures.value))
 
-pub read_inside-returns-clause-value : goal.read_inside-returns-clause-value
-read_inside-returns-clause-value t c =
-    loops.inside_gives c.args.names.now c.args.table.now c.args.left c.args.weight one_head (places_of c.args.pieces.now) c.args.sum c.args.text.now c.read_values.result c.read_values.ensures.value
+pub read_item-returns-in_err-args-clause-value : goal.read_item-returns-in_err-args-clause-value
+read_item-returns-in_err-args-clause-value t c = λ v ss m s.
+    let p = err_from_is_err_and c.from_residual-in_err-args.result c.from_residual-in_err-args.ensures.1 in
+    let inside = loops.inside_gives c.args.names.now c.args.table.now c.args.left c.args.weight one_head (places_of c.in_ok-pieces.pieces.now) c.in_ok-sum.sum c.args.inside.now (Err c.in_err-args.field-0.0) c.in_err-args.ensures.value ss s in
+    rw (p.1, p.2) (exits.item_values_exit c.args.names.now c.args.table.now c.args.left c.args.weight c.args.sum c.args.form.now v ss c.in_err-args.field-0.0 c.in_ok-sum.sum c.in_ok-pieces.pieces.now c.in_ok-sum.ensures.value (c.in_ok-pieces.ensures v m).0 inside)
+
+pub read_item-returns-clause-value : goal.read_item-returns-clause-value
+read_item-returns-clause-value t c = λ v ss m s.
+    let inside = loops.inside_gives c.args.names.now c.args.table.now c.args.left c.args.weight one_head (places_of c.in_ok-pieces.pieces.now) c.in_ok-sum.sum c.args.inside.now (Ok (c.in_ok-args.args, c.in_ok-args.sum)) c.in_ok-args.ensures.value ss s in
+    exits.item_end c.args.names.now c.args.table.now c.args.left c.args.weight c.args.sum c.args.form.now v ss c.in_ok-sum.sum c.in_ok-pieces.pieces.now c.in_ok-pieces.variant c.in_ok-args.args c.in_ok-args.sum c.in_ok-sum.ensures.value (c.in_ok-pieces.ensures v m) inside
 
 pub read_items-returns-in_err-item-clause-value : goal.read_items-returns-in_err-item-clause-value
 read_items-returns-in_err-item-clause-value t c = λ index items there s.

@@ -16,9 +16,6 @@ decreases-read_front l = 7 * l.left + 2
 abbrev pub decreases-read_values : goal.decreases-read_values
 decreases-read_values l = 7 * l.left + 3
 
-abbrev pub decreases-read_inside : goal.decreases-read_inside
-decreases-read_inside l = 7 * l.left + 4
-
 abbrev pub decreases-read_item : goal.decreases-read_item
 decreases-read_item l = 7 * l.left + 5
 
