@@ -1,8 +1,10 @@
 // Recordings that are decoded. A row is the words and the digits of the recording, and the status and the lines.
-use crate::rows::{Kind, each_row};
-use crate::sessions::{Told, parts_of, source_of, stage_of, told_in, written_of};
+use crate::rows::{Kind, each_block};
+use crate::sessions::{
+    Stage, Told, add_table, failing_stage, parted, put_session, stage_of, written_of,
+};
 use defmt_run::OpenGate;
-use dl_io::{Bytes, MemShelf, MemSource};
+use dl_io::{Bytes, MemShelf};
 use std::alloc::Global;
 use std::sync::Wait;
 use std::test::Fail;
@@ -10,7 +12,7 @@ use std::thread::Threads;
 use test_rows::bytes_of;
 
 /// A script that logs one string.
-pub const HI: &str = "s hi defmt_info hello\nw 0 hi";
+pub(crate) const HI: &str = "s hi defmt_info hello\nw 0 hi";
 
 const RECORDINGS: &str = "\
 defmtl decode --table hi.elf
@@ -52,60 +54,89 @@ defmtl decode --table other.elf
 =
 status 7 shelf";
 
-/// A shelf with the table of `HI` and a file that is no table, which fails at the fetches with these numbers.
-pub fn shelf_of(alloc: Global, table: Bytes, fails: &[u8]) -> Result<MemShelf, Fail> {
-    let mut shelf = MemShelf::new(alloc, Bytes::from_slice(alloc, fails)?);
-    shelf.put("hi.elf", table)?;
-    shelf.put("no.elf", Bytes::from_slice(alloc, b"hello")?)?;
-    Ok(shelf)
-}
-
-/// The same with the table made.
-pub fn table_shelf<R: Threads + Wait + Sync>(
+/// A stage with the table of `HI` and a file that is no table. One of the three fails at the calls with these numbers.
+pub(crate) fn table_stage<R: Threads + Wait + Sync>(
     rt: &R,
     alloc: Global,
+    bytes: &[u8],
+    end: &[u8],
+    who: &str,
     fails: &[u8],
-) -> Result<MemShelf, Fail> {
-    let table = written_of(rt, alloc, "defmtl table", HI)?;
-    shelf_of(alloc, table, fails)
+) -> Result<Stage, Fail> {
+    let mut stage = failing_stage(alloc, bytes, end, who, fails)?;
+    add_table(rt, alloc, "hi.elf", HI, &mut stage.shelf)?;
+    stage
+        .shelf
+        .put("no.elf", Bytes::from_slice(alloc, b"hello")?)?;
+    Ok(stage)
 }
 
-fn digits_source(alloc: Global, digits: &str) -> Result<MemSource, Fail> {
-    let recording = bytes_of(alloc, digits)?;
-    source_of(alloc, &recording, b"")
-}
-
-/// The row of a decoding: its words and the digits of the recording.
-pub fn decoded_row<R: Threads + Wait + Sync>(
+/// Puts what is told of a decoding: its words and the digits of the recording.
+pub(crate) fn put_decoded<R: Threads + Wait + Sync>(
     rt: &R,
     alloc: Global,
     row: &str,
-) -> Result<String, Fail> {
-    let (line, digits) = parts_of(row);
-    let shelf = table_shelf(rt, alloc, b"")?;
-    let mut stage = stage_of(alloc, shelf, b"")?;
-    let mut source = digits_source(alloc, digits)?;
-    told_in(
-        rt,
-        alloc,
-        line,
-        Told::Lines,
-        &mut source,
-        &mut stage,
-        &OpenGate,
-    )
+    out: &mut String,
+) -> Result<(), Fail> {
+    let (line, digits) = parted(row, '\n');
+    let recording = bytes_of(alloc, digits)?;
+    let mut stage = table_stage(rt, alloc, &recording, b"", "nobody", b"")?;
+    put_session(rt, alloc, line, Told::Lines, &mut stage, &OpenGate, out)
+}
+
+// Tables with a byte that was changed: the byte's place, its value and the script of the table, and the status.
+const CHANGES: &str = "\
+120 1
+s a defmt_info a
+s b defmt_info b
+=
+status 6 table name cause 2 symbol 1";
+
+// The bytes, of which the one at this place is another.
+fn changed(alloc: Global, bytes: &[u8], place: usize, value: u8) -> Result<Bytes, Fail> {
+    let mut changed = Bytes::new(alloc);
+    for (at, byte) in bytes.iter().enumerate() {
+        changed.push(if at == place { value } else { *byte })?;
+    }
+    Ok(changed)
+}
+
+fn add_changed<R: Threads + Wait + Sync>(
+    rt: &R,
+    alloc: Global,
+    row: &str,
+    shelf: &mut MemShelf,
+) -> Result<(), Fail> {
+    let (change, script) = parted(row, '\n');
+    let (place, value) = parted(change, ' ');
+    let (place, value) = (place.parse::<usize>()?, value.parse::<u8>()?);
+    let table = written_of(rt, alloc, "defmtl table", script)?;
+    Ok(shelf.put(
+        "changed.elf",
+        changed(alloc, table.as_slice(), place, value)?,
+    )?)
+}
+
+/// Puts what is told of a decoding by a changed table: the byte's place, its value and the script.
+pub(crate) fn put_changed<R: Threads + Wait + Sync>(
+    rt: &R,
+    alloc: Global,
+    row: &str,
+    out: &mut String,
+) -> Result<(), Fail> {
+    let line = "defmtl decode --table changed.elf";
+    let mut stage = stage_of(alloc, b"", b"")?;
+    add_changed(rt, alloc, row, &mut stage.shelf)?;
+    put_session(rt, alloc, line, Told::Lines, &mut stage, &OpenGate, out)
 }
 
 #[test]
-fn a_recording_is_decoded_and_its_faults_are_counted(rt: HostRuntime) -> Result<(), Fail> {
-    let rows = each_row(&rt, rt.alloc(), RECORDINGS, Kind::Decode)?;
+fn a_recording_is_decoded_unless_its_table_is_refused(rt: HostRuntime) -> Result<(), Fail> {
+    let rows = each_block(&rt, rt.alloc(), RECORDINGS, Kind::Decoded)?;
     assert_eq!(rt; rows.as_str(), "4 rows");
-    Ok(())
-}
-
-#[test]
-fn tables_that_are_refused_write_nothing(rt: HostRuntime) -> Result<(), Fail> {
-    let rows = each_row(&rt, rt.alloc(), REFUSALS, Kind::Decode)?;
+    let rows = each_block(&rt, rt.alloc(), REFUSALS, Kind::Decoded)?;
     assert_eq!(rt; rows.as_str(), "3 rows");
+    let rows = each_block(&rt, rt.alloc(), CHANGES, Kind::Changed)?;
+    assert_eq!(rt; rows.as_str(), "1 rows");
     Ok(())
 }

@@ -1,11 +1,11 @@
 // A device with many strings and statements, whose recording is decoded as its script is printed.
-use crate::rows::{Kind, each_row};
+use crate::rows::{Kind, each_block};
 use crate::sessions::{
-    Stage, Told, empty_shelf, empty_stage, script_of, stage_of, told_in, written_of,
+    Stage, Told, add_table, parted, put_played, put_session, stage_of, written_of,
 };
 use defmt_run::OpenGate;
-use dl_io::{Bytes, MemShelf, MemSource};
 use std::alloc::Global;
+use std::fmt::Write;
 use std::sync::Wait;
 use std::test::Fail;
 use std::thread::Threads;
@@ -56,159 +56,149 @@ fn kind(number: u32) -> (&'static str, &'static str) {
     }
 }
 
-fn add_strings(alloc: Global, text: &mut String, level: &str) -> Result<(), Fail> {
+fn add_strings(level: &str, text: &mut String) -> Result<(), Fail> {
     for number in 0..7u32 {
         let (shown, _) = kind(number);
-        let line = format!(in alloc; "\ns {level}{number} defmt_{level} {{=u8}} {{=u16}} {shown}")?;
-        text.push_str(line.as_str())?;
+        write!(
+            text,
+            "\ns {level}{number} defmt_{level} {{=u8}} {{=u16}} {shown}"
+        )?;
     }
     Ok(())
 }
 
 // The statements of the four writers with this number.
-fn add_statements(alloc: Global, text: &mut String, number: u32) -> Result<(), Fail> {
+fn add_statements(number: u32, text: &mut String) -> Result<(), Fail> {
     let level = level(number);
     for writer in 0..4u32 {
         let place = (number % 7 + writer) % 7;
         let (_, args) = kind(place);
-        let line = format!(in alloc; "\nw {writer} {level}{place} {writer} {number} {args}")?;
-        text.push_str(line.as_str())?;
+        write!(text, "\nw {writer} {level}{place} {writer} {number} {args}")?;
     }
     Ok(())
 }
 
 // A script of 40 strings, and of so many statements of each of four writers in turn.
-fn device(alloc: Global, count: &str) -> Result<String, Fail> {
-    let count: u32 = count.parse()?;
-    let mut text = String::from_str(alloc, HEAD)?;
+fn add_device(count: &str, text: &mut String) -> Result<(), Fail> {
+    text.push_str(HEAD)?;
     for level in LEVELS.split(' ') {
-        add_strings(alloc, &mut text, level)?;
+        add_strings(level, text)?;
     }
-    for number in 0..count {
-        add_statements(alloc, &mut text, number)?;
+    for number in 0..count.parse::<u32>()? {
+        add_statements(number, text)?;
     }
-    Ok(text)
+    Ok(())
 }
 
-// Adds the lines of a writer without their stamps.
-fn add_lines_of(all: &mut String, lines: &str, writer: u8) -> Result<(), Fail> {
+// Puts a line without its stamp, if it is of this writer.
+fn put_line_of(line: &str, writer: u8, out: &mut String) -> Result<(), Fail> {
+    let (_, rest) = parted(line, ' ');
+    if rest.as_bytes().get(6) != Some(&writer) {
+        return Ok(());
+    }
+    Ok(write!(out, "{rest}\n")?)
+}
+
+fn put_lines_of(lines: &str, writer: u8, out: &mut String) -> Result<(), Fail> {
     for line in lines.split('\n') {
-        let Some((_, rest)) = line.split_once(' ') else {
-            continue;
-        };
-        if rest.as_bytes().get(6) == Some(&writer) {
-            all.push_str(rest)?;
-            all.push('\n')?;
+        put_line_of(line, writer, out)?;
+    }
+    Ok(())
+}
+
+// Puts the lines of a session without a fault, without their stamps, those of a writer behind those of the writer before it.
+fn put_by_writer(told: &str, out: &mut String) -> Result<(), Fail> {
+    if told.starts_with("status 0 fine\n") {
+        for writer in b'0'..b'4' {
+            put_lines_of(told, writer, out)?;
         }
     }
     Ok(())
 }
 
-// The lines of a session without a fault, without their stamps, those of a writer behind those of the writer before it.
-fn by_writer(alloc: Global, told: &str) -> Result<String, Fail> {
-    let mut all = String::new(alloc);
-    if !told.starts_with("status 0 fine\n") {
-        return Ok(all);
-    }
-    for writer in b'0'..b'4' {
-        add_lines_of(&mut all, told, writer)?;
-    }
-    Ok(all)
+fn put_printed<R: Threads + Wait + Sync>(
+    rt: &R,
+    alloc: Global,
+    script: &str,
+    out: &mut String,
+) -> Result<(), Fail> {
+    let line = "defmtl print";
+    let mut told = String::new(alloc);
+    put_played(rt, alloc, line, Told::Lines, script, "\n", &mut told)?;
+    put_by_writer(told.as_str(), out)
 }
 
-fn printed<R: Threads + Wait + Sync>(rt: &R, alloc: Global, script: &str) -> Result<String, Fail> {
-    let mut source = script_of(alloc, script)?;
-    let mut stage = empty_stage(alloc)?;
-    told_in(
-        rt,
-        alloc,
-        "defmtl print",
-        Told::Lines,
-        &mut source,
-        &mut stage,
-        &OpenGate,
-    )
-}
-
-fn shelf_of(alloc: Global, table: Bytes) -> Result<MemShelf, Fail> {
-    let mut shelf = empty_shelf(alloc);
-    shelf.put("device.elf", table)?;
-    Ok(shelf)
-}
-
+// A stage with the script's table, whose source gives the script's recording.
 fn device_stage<R: Threads + Wait + Sync>(
     rt: &R,
     alloc: Global,
     script: &str,
 ) -> Result<Stage, Fail> {
-    let table = written_of(rt, alloc, "defmtl table", script)?;
-    let shelf = shelf_of(alloc, table)?;
-    stage_of(alloc, shelf, b"")
+    let recording = written_of(rt, alloc, "defmtl record", script)?;
+    let mut stage = stage_of(alloc, recording.as_slice(), b"")?;
+    add_table(rt, alloc, "device.elf", script, &mut stage.shelf)?;
+    Ok(stage)
 }
 
-fn recorded<R: Threads + Wait + Sync>(
+fn put_decoded<R: Threads + Wait + Sync>(
     rt: &R,
     alloc: Global,
     script: &str,
-) -> Result<MemSource, Fail> {
-    let recording = written_of(rt, alloc, "defmtl record", script)?;
-    Ok(MemSource::new(recording, Bytes::new(alloc)))
-}
-
-fn decoded<R: Threads + Wait + Sync>(rt: &R, alloc: Global, script: &str) -> Result<String, Fail> {
+    out: &mut String,
+) -> Result<(), Fail> {
+    let line = "defmtl decode --table device.elf";
     let mut stage = device_stage(rt, alloc, script)?;
-    let mut source = recorded(rt, alloc, script)?;
-    told_in(
+    let mut told = String::new(alloc);
+    put_session(
         rt,
         alloc,
-        "defmtl decode --table device.elf",
+        line,
         Told::Lines,
-        &mut source,
         &mut stage,
         &OpenGate,
-    )
+        &mut told,
+    )?;
+    put_by_writer(told.as_str(), out)
 }
 
-fn compared(alloc: Global, due: &str, got: &str) -> Result<String, Fail> {
+fn put_compared(due: &str, got: &str, out: &mut String) -> Result<(), Fail> {
     let due_count = due.split('\n').count();
     let got_count = got.split('\n').count();
     let verdict = if got == due { "the same" } else { "others" };
-    Ok(format!(in alloc; "{due_count} of print, {got_count} of decode, {verdict}")?)
+    Ok(write!(
+        out,
+        "{due_count} of print, {got_count} of decode, {verdict}"
+    )?)
 }
 
-fn printed_lines<R: Threads + Wait + Sync>(
+fn put_both<R: Threads + Wait + Sync>(
     rt: &R,
     alloc: Global,
     script: &str,
-) -> Result<String, Fail> {
-    let told = printed(rt, alloc, script)?;
-    by_writer(alloc, told.as_str())
+    out: &mut String,
+) -> Result<(), Fail> {
+    let mut due = String::new(alloc);
+    put_printed(rt, alloc, script, &mut due)?;
+    let mut got = String::new(alloc);
+    put_decoded(rt, alloc, script, &mut got)?;
+    put_compared(due.as_str(), got.as_str(), out)
 }
 
-fn decoded_lines<R: Threads + Wait + Sync>(
-    rt: &R,
-    alloc: Global,
-    script: &str,
-) -> Result<String, Fail> {
-    let told = decoded(rt, alloc, script)?;
-    by_writer(alloc, told.as_str())
-}
-
-/// The row of a device: how many statements each writer has.
-pub fn device_row<R: Threads + Wait + Sync>(
+/// Puts what is told of a device: the row is how many statements each writer has.
+pub(crate) fn put_device<R: Threads + Wait + Sync>(
     rt: &R,
     alloc: Global,
     row: &str,
-) -> Result<String, Fail> {
-    let script = device(alloc, row)?;
-    let due = printed_lines(rt, alloc, script.as_str())?;
-    let got = decoded_lines(rt, alloc, script.as_str())?;
-    compared(alloc, due.as_str(), got.as_str())
+    out: &mut String,
+) -> Result<(), Fail> {
+    let mut script = String::new(alloc);
+    add_device(row, &mut script)?;
+    put_both(rt, alloc, script.as_str(), out)
 }
 
 #[test]
 fn a_device_is_decoded_as_it_is_printed(rt: HostRuntime) -> Result<(), Fail> {
-    let rows = each_row(&rt, rt.alloc(), DEVICES, Kind::Device)?;
+    let rows = each_block(&rt, rt.alloc(), DEVICES, Kind::Device)?;
     assert_eq!(rt; rows.as_str(), "1 rows");
     Ok(())
 }

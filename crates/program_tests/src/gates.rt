@@ -1,9 +1,10 @@
 // Writers that a gate holds. A row is how many writers there are and the script, and how often the gate let one go, the status and
 // the lines.
-use crate::rows::{Kind, each_row};
-use crate::sessions::{Told, empty_stage, parts_of, source_of, told_in};
+use crate::rows::{Kind, each_block};
+use crate::sessions::{Told, parted, put_session, stage_of};
 use defmt_run::Gate;
 use std::alloc::Global;
+use std::fmt::Write;
 use std::sync::Wait;
 use std::sync::atomic::{AtomicU64, Ordering};
 use std::test::Fail;
@@ -153,41 +154,36 @@ fn gate_for(writers: u64) -> Holding {
     }
 }
 
-fn told_behind<R: Threads + Wait + Sync>(
+fn put_behind<R: Threads + Wait + Sync>(
     rt: &R,
     alloc: Global,
     script: &str,
     gate: &Holding,
-) -> Result<String, Fail> {
-    let mut source = source_of(alloc, script.as_bytes(), b"")?;
-    let mut stage = empty_stage(alloc)?;
-    told_in(
-        rt,
-        alloc,
-        "defmtl run --group",
-        Told::Lines,
-        &mut source,
-        &mut stage,
-        gate,
-    )
+    out: &mut String,
+) -> Result<(), Fail> {
+    let line = "defmtl run --group";
+    let mut stage = stage_of(alloc, script.as_bytes(), b"")?;
+    put_session(rt, alloc, line, Told::Lines, &mut stage, gate, out)
 }
 
-/// The row of a gate: how many writers it holds, and the script.
-pub fn held_row<R: Threads + Wait + Sync>(
+/// Puts what is told behind a gate: how many writers it holds, and the script.
+pub(crate) fn put_held<R: Threads + Wait + Sync>(
     rt: &R,
     alloc: Global,
     row: &str,
-) -> Result<String, Fail> {
-    let (writers, script) = parts_of(row);
+    out: &mut String,
+) -> Result<(), Fail> {
+    let (writers, script) = parted(row, '\n');
     let gate = gate_for(writers.parse()?);
-    let told = told_behind(rt, alloc, script, &gate)?;
+    let mut told = String::new(alloc);
+    put_behind(rt, alloc, script, &gate, &mut told)?;
     let let_go = gate.let_go.load(Ordering::SeqCst);
-    Ok(format!(in alloc; "{let_go} let go, {told}")?)
+    Ok(write!(out, "{let_go} let go, {}", told.as_str())?)
 }
 
 #[test]
 fn writers_wait_for_each_other_and_for_the_reader(rt: HostRuntime) -> Result<(), Fail> {
-    let rows = each_row(&rt, rt.alloc(), HELD, Kind::Held)?;
+    let rows = each_block(&rt, rt.alloc(), HELD, Kind::Held)?;
     assert_eq!(rt; rows.as_str(), "6 rows");
     Ok(())
 }

@@ -2,11 +2,12 @@ ghost use Rattle.std.specs.Prelude.{[], ◌∷◌, true, false, None};
 
 // Recordings that a listener hears, which has a letter for each part.
 use crate::rows::{Kind, each_line};
-use crate::sessions::{sink_of, source_of};
+use crate::sessions::{parted, sink_of, source_of};
 use defmt_framing::{Framer, Teller};
 use defmt_listen::{ListenFault, Listener, listen};
-use dl_io::{Bytes, Failed, MemSource, Memory, RepeatSource, Source};
+use dl_io::{Bytes, Failed, Memory, RepeatSource, Source};
 use std::alloc::Global;
+use std::fmt::Write;
 use std::test::Fail;
 use test_rows::bytes_of;
 
@@ -22,7 +23,7 @@ const REPEATED: &str = "\
 0 200000 = 0 faults, nothing, 65536 at most";
 
 // What a part tells: a letter. All but pieces are faults.
-#[derive(Clone, Copy, Debug, PartialEq, Eq)]
+#[derive(Drop)]
 struct Mark {
     letter: u8,
     fault: bool,
@@ -141,88 +142,73 @@ fn fault_of(fault: ListenFault) -> &'static str {
     }
 }
 
-// The answer and the lines that were written, with a point for each newline.
-fn text_of(
-    alloc: Global,
-    answer: Result<u64, ListenFault>,
-    written: &[u8],
-) -> Result<String, Fail> {
-    let mut text = match answer {
-        Ok(count) => format!(in alloc; "{count} faults, ")?,
-        Err(fault) => String::from_str(alloc, fault_of(fault))?,
-    };
+fn put_answer(answer: Result<u64, ListenFault>, out: &mut String) -> Result<(), Fail> {
+    match answer {
+        Ok(count) => Ok(write!(out, "{count} faults, ")?),
+        Err(fault) => Ok(out.push_str(fault_of(fault))?),
+    }
+}
+
+// Puts the lines that were written, with a point for each newline.
+fn put_letters(written: &[u8], out: &mut String) -> Result<(), Fail> {
     if written.is_empty() {
-        text.push_str("nothing")?;
+        out.push_str("nothing")?;
     }
     for byte in written {
-        text.push(if *byte == b'\n' {
+        out.push(if *byte == b'\n' {
             '.'
         } else {
             char::from(*byte)
         })?;
     }
-    Ok(text)
+    Ok(())
 }
 
-fn heard_of<S: Source>(alloc: Global, source: &mut S, fails: &[u8]) -> Result<String, Fail> {
+fn put_heard_of<S: Source>(
+    alloc: Global,
+    source: &mut S,
+    fails: &[u8],
+    out: &mut String,
+) -> Result<(), Fail> {
     let mut sink = sink_of(alloc, fails)?;
     let ear = Ear {
         framer: Framer::new(alloc),
         letters: Letters,
     };
-    let answer = listen(alloc, source, &mut sink, ear);
-    text_of(alloc, answer, sink.held())
+    put_answer(listen(alloc, source, &mut sink, ear), out)?;
+    put_letters(sink.held(), out)
 }
 
-// A source of the bytes with these digits, which fails at the reads with those.
-fn digits_source(alloc: Global, digits: &str, fails: &str) -> Result<MemSource, Fail> {
-    let fails = bytes_of(alloc, fails)?;
-    source_of(alloc, &bytes_of(alloc, digits)?, &fails)
+pub(crate) fn put_heard(alloc: Global, row: &str, out: &mut String) -> Result<(), Fail> {
+    let (digits, fails) = parted(row, '/');
+    let (reads, writes) = parted(fails, '/');
+    let (bytes, reads) = (bytes_of(alloc, digits)?, bytes_of(alloc, reads)?);
+    let mut source = source_of(alloc, &bytes, b"", &reads)?;
+    put_heard_of(alloc, &mut source, &bytes_of(alloc, writes)?, out)
 }
 
-pub fn heard_row(alloc: Global, row: &str) -> Result<String, Fail> {
-    let Some((digits, fails)) = row.split_once('/') else {
-        return Err("no reads".into());
-    };
-    let Some((reads, writes)) = fails.split_once('/') else {
-        return Err("no writes".into());
-    };
-    let mut source = digits_source(alloc, digits, reads)?;
-    heard_of(alloc, &mut source, &bytes_of(alloc, writes)?)
+/// A source that gives this byte so often.
+pub(crate) fn repeat_of(byte: &str, count: &str) -> Result<RepeatSource, Fail> {
+    Ok(RepeatSource::new(byte.parse()?, count.parse()?))
 }
 
-// The source of a row.
-fn repeated(row: &str) -> Result<Asked, Fail> {
-    let Some((byte, count)) = row.split_once(' ') else {
-        return Err("no count".into());
-    };
-    Ok(Asked {
-        source: RepeatSource::new(byte.parse()?, count.parse()?),
+pub(crate) fn put_repeated(alloc: Global, row: &str, out: &mut String) -> Result<(), Fail> {
+    let (byte, count) = parted(row, ' ');
+    let mut source = Asked {
+        source: repeat_of(byte, count)?,
         most: 0,
-    })
-}
-
-pub fn repeated_row(alloc: Global, row: &str) -> Result<String, Fail> {
-    let mut source = repeated(row)?;
-    let heard = heard_of(alloc, &mut source, b"")?;
-    let most = source.most;
-    Ok(format!(in alloc; "{heard}, {most} at most")?)
+    };
+    put_heard_of(alloc, &mut source, b"", out)?;
+    Ok(write!(out, ", {} at most", source.most)?)
 }
 
 #[test]
-fn each_part_has_a_line_and_a_fault_leaves_what_was_begun(rt: HostRuntime) -> Result<(), Fail> {
-    assert_eq!(rt;
-        each_line(&rt, rt.alloc(), HEARD, Kind::Heard)?.as_str(),
-        "3 rows"
-    );
-    Ok(())
-}
-
-#[test]
-fn a_recording_is_read_in_parts_up_to_its_limit(rt: HostRuntime) -> Result<(), Fail> {
-    assert_eq!(rt;
-        each_line(&rt, rt.alloc(), REPEATED, Kind::Repeated)?.as_str(),
-        "2 rows"
-    );
+fn each_part_has_a_line_up_to_a_fault_and_a_recording_is_read_in_parts_up_to_its_limit(
+    rt: HostRuntime,
+) -> Result<(), Fail> {
+    let rows = each_line(&rt, rt.alloc(), HEARD, Kind::Heard)?;
+    assert_eq!(rt; rows.as_str(), "3 rows");
+    let rows = each_line(&rt, rt.alloc(), REPEATED, Kind::Repeated)?;
+    assert_eq!(rt; rows.as_str(), "2 rows");
     Ok(())
 }

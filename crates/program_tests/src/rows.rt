@@ -1,31 +1,29 @@
-// The rows of sessions, by their kinds.
-use crate::damaged::changed_row;
-use crate::decode::decoded_row;
-use crate::device::device_row;
-use crate::gates::held_row;
-use crate::hearing::{heard_row, repeated_row};
-use crate::limits::long_row;
-use crate::live::live_row;
-use crate::outside::fault_row;
-use crate::sessions::{Told, command_row, open_row};
-use crate::table::table_row;
-use crate::turns::turns_row;
-use crate::words::asked;
+// The rows of the tests, by what is asked of their inputs.
+use crate::commands::put_length;
+use crate::decode::{put_changed, put_decoded};
+use crate::device::put_device;
+use crate::gates::put_held;
+use crate::hearing::{put_heard, put_repeated};
+use crate::limits::put_long;
+use crate::live::put_live;
+use crate::outside::{put_fault, put_turns};
+use crate::sessions::{Told, put_row};
+use crate::words::put_words;
 use std::alloc::Global;
 use std::sync::Wait;
 use std::test::Fail;
 use std::thread::Threads;
 
-/// What the rows of a text are, each as its module says.
+/// What is asked of an input, each as its module says.
 #[derive(Clone, Copy)]
-pub enum Kind {
-    Command,
-    Open,
-    Record,
+pub(crate) enum Kind {
+    Lines,
+    OpenLines,
+    Digits,
     Account,
     OpenAccount,
-    Table,
-    Decode,
+    Length,
+    Decoded,
     Changed,
     Long,
     Fault,
@@ -35,34 +33,7 @@ pub enum Kind {
     Device,
     Heard,
     Repeated,
-    Asked,
-}
-
-fn row_of<R: Threads + Wait + Sync>(
-    rt: &R,
-    alloc: Global,
-    kind: Kind,
-    row: &str,
-) -> Result<String, Fail> {
-    match kind {
-        Kind::Command => command_row(rt, alloc, row, Told::Lines),
-        Kind::Open => open_row(rt, alloc, row, Told::Lines),
-        Kind::Record => command_row(rt, alloc, row, Told::Digits),
-        Kind::Account => command_row(rt, alloc, row, Told::Account),
-        Kind::OpenAccount => open_row(rt, alloc, row, Told::Account),
-        Kind::Table => table_row(rt, alloc, row),
-        Kind::Decode => decoded_row(rt, alloc, row),
-        Kind::Changed => changed_row(rt, alloc, row),
-        Kind::Long => long_row(rt, alloc, row),
-        Kind::Fault => fault_row(rt, alloc, row),
-        Kind::Turns => turns_row(rt, alloc, row),
-        Kind::Held => held_row(rt, alloc, row),
-        Kind::Live => live_row(rt, alloc, row),
-        Kind::Device => device_row(rt, alloc, row),
-        Kind::Heard => heard_row(alloc, row),
-        Kind::Repeated => repeated_row(alloc, row),
-        Kind::Asked => asked(alloc, row),
-    }
+    Job,
 }
 
 fn put_answer<R: Threads + Wait + Sync>(
@@ -72,12 +43,29 @@ fn put_answer<R: Threads + Wait + Sync>(
     row: &str,
     out: &mut String,
 ) -> Result<(), Fail> {
-    let answer = row_of(rt, alloc, kind, row)?;
-    Ok(out.push_str(answer.as_str())?)
+    match kind {
+        Kind::Lines => put_row(rt, alloc, row, Told::Lines, "\n", out),
+        Kind::OpenLines => put_row(rt, alloc, row, Told::Lines, "", out),
+        Kind::Digits => put_row(rt, alloc, row, Told::Digits, "\n", out),
+        Kind::Account => put_row(rt, alloc, row, Told::Account, "\n", out),
+        Kind::OpenAccount => put_row(rt, alloc, row, Told::Account, "", out),
+        Kind::Length => put_length(rt, alloc, row, out),
+        Kind::Decoded => put_decoded(rt, alloc, row, out),
+        Kind::Changed => put_changed(rt, alloc, row, out),
+        Kind::Long => put_long(rt, alloc, row, out),
+        Kind::Fault => put_fault(rt, alloc, row, out),
+        Kind::Turns => put_turns(rt, alloc, row, out),
+        Kind::Held => put_held(rt, alloc, row, out),
+        Kind::Live => put_live(rt, alloc, row, out),
+        Kind::Device => put_device(rt, alloc, row, out),
+        Kind::Heard => put_heard(alloc, row, out),
+        Kind::Repeated => put_repeated(alloc, row, out),
+        Kind::Job => put_words(alloc, row, out),
+    }
 }
 
 /// Asks for the answers of lines, as `test_rows::each_line` does.
-pub fn each_line<R: Threads + Wait + Sync>(
+pub(crate) fn each_line<R: Threads + Wait + Sync>(
     rt: &R,
     alloc: Global,
     lines: &str,
@@ -89,13 +77,13 @@ pub fn each_line<R: Threads + Wait + Sync>(
 }
 
 /// Asks for the answers of blocks, as `test_rows::each_block` does.
-pub fn each_row<R: Threads + Wait + Sync>(
+pub(crate) fn each_block<R: Threads + Wait + Sync>(
     rt: &R,
     alloc: Global,
-    rows: &str,
+    blocks: &str,
     kind: Kind,
 ) -> Result<String, Fail> {
-    test_rows::each_block(alloc, rows, |alloc, row, out| {
+    test_rows::each_block(alloc, blocks, |alloc, row, out| {
         put_answer(rt, alloc, kind, row, out)
     })
 }

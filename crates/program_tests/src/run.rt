@@ -1,5 +1,5 @@
 // Scripts that are run. A row is the words and the script, and the status and the lines that are written.
-use crate::rows::{Kind, each_row};
+use crate::rows::{Kind, each_block};
 use std::test::Fail;
 
 const RUNS: &str = r#"defmtl run
@@ -106,22 +106,14 @@ reader late
 status 5 script line 1 cause 8 inner 0";
 
 #[test]
-fn a_run_prints_what_was_sent_and_reports_what_was_not(rt: HostRuntime) -> Result<(), Fail> {
-    let rows = each_row(&rt, rt.alloc(), RUNS, Kind::Command)?;
+fn a_run_prints_what_was_sent_and_reports_what_was_not_unless_it_is_refused(
+    rt: HostRuntime,
+) -> Result<(), Fail> {
+    let rows = each_block(&rt, rt.alloc(), RUNS, Kind::Lines)?;
     assert_eq!(rt; rows.as_str(), "2 rows");
-    Ok(())
-}
-
-#[test]
-fn the_last_line_of_a_script_needs_no_newline(rt: HostRuntime) -> Result<(), Fail> {
-    let rows = each_row(&rt, rt.alloc(), OPEN_RUNS, Kind::Open)?;
+    let rows = each_block(&rt, rt.alloc(), OPEN_RUNS, Kind::OpenLines)?;
     assert_eq!(rt; rows.as_str(), "6 rows");
-    Ok(())
-}
-
-#[test]
-fn words_and_scripts_that_are_refused_write_nothing(rt: HostRuntime) -> Result<(), Fail> {
-    let rows = each_row(&rt, rt.alloc(), REFUSALS, Kind::Open)?;
+    let rows = each_block(&rt, rt.alloc(), REFUSALS, Kind::OpenLines)?;
     assert_eq!(rt; rows.as_str(), "3 rows");
     Ok(())
 }

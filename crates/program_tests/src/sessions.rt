@@ -1,17 +1,26 @@
 // Sessions over sources, shelves and sinks in memory.
-use crate::live::compared;
-use crate::outside::counts_told;
-use crate::record::bytes_told;
-use crate::told::account_of;
+use crate::commands::put_bytes;
+use crate::live::put_verdict;
+use crate::outside::put_counts;
+use crate::told::put_account;
 use defmt_run::{Gate, OpenGate, Outcome, session};
 use dl_io::{Bytes, MemShelf, MemSink, MemSource, Source};
 use std::alloc::Global;
+use std::fmt::Write;
 use std::sync::Wait;
 use std::test::Fail;
 use std::thread::Threads;
 
+/// What stands in front of the first mark and behind it, and nothing where there is no mark.
+pub(crate) fn parted(text: &str, mark: char) -> (&str, &str) {
+    match text.split_once(mark) {
+        Some(parts) => parts,
+        None => (text, ""),
+    }
+}
+
 /// The words of a line, which single spaces part.
-pub fn words_of(alloc: Global, line: &str) -> Result<Vec<String>, Fail> {
+pub(crate) fn words_of(alloc: Global, line: &str) -> Result<Vec<String>, Fail> {
     let mut words = Vec::new(alloc);
     for word in line.split(' ') {
         words.push(String::from_str(alloc, word)?)?;
@@ -19,34 +28,65 @@ pub fn words_of(alloc: Global, line: &str) -> Result<Vec<String>, Fail> {
     Ok(words)
 }
 
+/// A source of these bytes and those behind them, which fails at the reads with these numbers.
+pub(crate) fn source_of(
+    alloc: Global,
+    bytes: &[u8],
+    end: &[u8],
+    fails: &[u8],
+) -> Result<MemSource, Fail> {
+    let mut given = Bytes::from_slice(alloc, bytes)?;
+    given.extend_from_slice(end)?;
+    Ok(MemSource::new(given, Bytes::from_slice(alloc, fails)?))
+}
+
 /// A sink with room, which fails at the writes with these numbers.
-pub fn sink_of(alloc: Global, fails: &[u8]) -> Result<MemSink, Fail> {
+pub(crate) fn sink_of(alloc: Global, fails: &[u8]) -> Result<MemSink, Fail> {
     let fails = Bytes::from_slice(alloc, fails)?;
     let mut held = Bytes::new(alloc);
     held.reserve(1_048_576)?;
     Ok(MemSink::new(held, fails))
 }
 
-/// A source of these bytes, which fails at the reads with these numbers.
-pub fn source_of(alloc: Global, bytes: &[u8], fails: &[u8]) -> Result<MemSource, Fail> {
-    let bytes = Bytes::from_slice(alloc, bytes)?;
-    Ok(MemSource::new(bytes, Bytes::from_slice(alloc, fails)?))
+/// What a session reads, where its files stand, and what it writes into.
+#[derive(Drop)]
+pub(crate) struct Stage {
+    pub source: MemSource,
+    pub shelf: MemShelf,
+    pub sink: MemSink,
 }
 
-/// A source of this script, with a newline behind its last line.
-pub fn script_of(alloc: Global, script: &str) -> Result<MemSource, Fail> {
-    let mut bytes = Bytes::from_slice(alloc, script.as_bytes())?;
-    bytes.push(b'\n')?;
-    Ok(MemSource::new(bytes, Bytes::new(alloc)))
+// The calls that fail for one of the three, if it is the one that fails.
+fn fails_of<'a>(fails: &'a [u8], who: &str, name: &str) -> &'a [u8] {
+    if who == name { fails } else { b"" }
 }
 
-/// A shelf without files.
-pub fn empty_shelf(alloc: Global) -> MemShelf {
-    MemShelf::new(alloc, Bytes::new(alloc))
+/// A stage without files, whose source gives these bytes and those behind them. One of the three fails at the calls with these numbers.
+pub(crate) fn failing_stage(
+    alloc: Global,
+    bytes: &[u8],
+    end: &[u8],
+    who: &str,
+    fails: &[u8],
+) -> Result<Stage, Fail> {
+    let fetches = Bytes::from_slice(alloc, fails_of(fails, who, "shelf"))?;
+    let source = source_of(alloc, bytes, end, fails_of(fails, who, "source"))?;
+    let sink = sink_of(alloc, fails_of(fails, who, "sink"))?;
+    let shelf = MemShelf::new(alloc, fetches);
+    Ok(Stage {
+        source,
+        shelf,
+        sink,
+    })
+}
+
+/// The same where nothing fails.
+pub(crate) fn stage_of(alloc: Global, bytes: &[u8], end: &[u8]) -> Result<Stage, Fail> {
+    failing_stage(alloc, bytes, end, "nobody", b"")
 }
 
 /// What a session on the words of this line comes to.
-pub fn outcome_of<S: Source, G: Gate + Sync, R: Threads + Wait + Sync>(
+pub(crate) fn outcome_of<S: Source, G: Gate + Sync, R: Threads + Wait + Sync>(
     rt: &R,
     alloc: Global,
     line: &str,
@@ -59,44 +99,45 @@ pub fn outcome_of<S: Source, G: Gate + Sync, R: Threads + Wait + Sync>(
     Ok(session(rt, alloc, &words, source, shelf, sink, gate))
 }
 
-/// The status of an outcome and its words, as `status 0 fine`.
-pub fn status_of(alloc: Global, outcome: &Outcome) -> Result<String, Fail> {
+/// Puts the status of an outcome and its words, as `status 0 fine`.
+pub(crate) fn put_status(alloc: Global, outcome: &Outcome, out: &mut String) -> Result<(), Fail> {
     let said = outcome.say(alloc)?;
-    let status = outcome.status;
-    let said = said.as_str();
-    Ok(format!(in alloc; "status {status} {said}")?)
+    Ok(write!(out, "status {} {}", outcome.status, said.as_str())?)
 }
 
-/// The status of an outcome, and behind it the lines that were written.
-pub fn told_of(alloc: Global, outcome: &Outcome, written: &[u8]) -> Result<String, Fail> {
-    let mut text = status_of(alloc, outcome)?;
-    add_lines(&mut text, written)?;
-    Ok(text)
+fn put_text(lines: &str, out: &mut String) -> Result<(), Fail> {
+    match lines.strip_suffix("\n") {
+        Some(lines) => Ok(out.push_str(lines)?),
+        None => Ok(write!(out, "{lines} without a newline")?),
+    }
 }
 
-// Adds lines, which a newline ends.
-fn add_lines(text: &mut String, written: &[u8]) -> Result<(), Fail> {
+// Puts lines, which a newline ends.
+fn put_written(written: &[u8], out: &mut String) -> Result<(), Fail> {
     if written.is_empty() {
         return Ok(());
     }
-    text.push('\n')?;
-    let Ok(lines) = str::from_utf8(written) else {
-        text.push_str("no text")?;
-        return Ok(());
-    };
-    match lines.strip_suffix("\n") {
-        Some(lines) => text.push_str(lines)?,
-        None => {
-            text.push_str(lines)?;
-            text.push_str(" without a newline")?
-        }
+    out.push('\n')?;
+    match str::from_utf8(written) {
+        Ok(lines) => put_text(lines, out),
+        Err(_) => Ok(out.push_str("no text")?),
     }
-    Ok(())
+}
+
+/// Puts the status of an outcome, and behind it the lines that were written.
+pub(crate) fn put_lines(
+    alloc: Global,
+    outcome: &Outcome,
+    written: &[u8],
+    out: &mut String,
+) -> Result<(), Fail> {
+    put_status(alloc, outcome, out)?;
+    put_written(written, out)
 }
 
 /// What is told of a session beside its status.
 #[derive(Clone, Copy)]
-pub enum Told {
+pub(crate) enum Told {
     /// The lines that were written.
     Lines,
     /// The digits of what was written.
@@ -109,68 +150,82 @@ pub enum Told {
     Tape,
 }
 
-fn tell(alloc: Global, told: Told, outcome: &Outcome, written: &[u8]) -> Result<String, Fail> {
+fn put_told(
+    alloc: Global,
+    told: Told,
+    outcome: &Outcome,
+    written: &[u8],
+    out: &mut String,
+) -> Result<(), Fail> {
     match told {
-        Told::Lines => told_of(alloc, outcome, written),
-        Told::Digits => bytes_told(alloc, outcome, written),
-        Told::Account => account_of(alloc, outcome),
-        Told::Counts => counts_told(alloc, outcome, written),
-        Told::Tape => compared(alloc, outcome, written),
+        Told::Lines => put_lines(alloc, outcome, written, out),
+        Told::Digits => put_bytes(alloc, outcome, written, out),
+        Told::Account => put_account(alloc, outcome, out),
+        Told::Counts => put_counts(alloc, outcome, written, out),
+        Told::Tape => put_verdict(alloc, outcome, written, out),
     }
 }
 
-/// A shelf and a sink of a session.
-#[derive(Drop)]
-pub struct Stage {
-    pub shelf: MemShelf,
-    pub sink: MemSink,
-}
-
-/// A stage with this shelf, and a sink that fails at the writes with these numbers.
-pub fn stage_of(alloc: Global, shelf: MemShelf, fails: &[u8]) -> Result<Stage, Fail> {
-    let sink = sink_of(alloc, fails)?;
-    Ok(Stage { shelf, sink })
-}
-
-/// A stage without files, whose sink doesn't fail.
-pub fn empty_stage(alloc: Global) -> Result<Stage, Fail> {
-    stage_of(alloc, empty_shelf(alloc), b"")
-}
-
-/// What is told of a session on the words of this line.
-pub fn told_in<S: Source, G: Gate + Sync, R: Threads + Wait + Sync>(
+/// Puts what is told of a session on the words of this line.
+pub(crate) fn put_session<G: Gate + Sync, R: Threads + Wait + Sync>(
     rt: &R,
     alloc: Global,
     line: &str,
     told: Told,
-    source: &mut S,
     stage: &mut Stage,
     gate: &G,
-) -> Result<String, Fail> {
+    out: &mut String,
+) -> Result<(), Fail> {
     let outcome = outcome_of(
         rt,
         alloc,
         line,
-        source,
+        &mut stage.source,
         &mut stage.shelf,
         &mut stage.sink,
         gate,
     )?;
-    tell(alloc, told, &outcome, stage.sink.held())
+    put_told(alloc, told, &outcome, stage.sink.held(), out)
+}
+
+/// Puts what is told of a session on a script, behind whose last line this stands.
+pub(crate) fn put_played<R: Threads + Wait + Sync>(
+    rt: &R,
+    alloc: Global,
+    line: &str,
+    told: Told,
+    script: &str,
+    end: &str,
+    out: &mut String,
+) -> Result<(), Fail> {
+    let mut stage = stage_of(alloc, script.as_bytes(), end.as_bytes())?;
+    put_session(rt, alloc, line, told, &mut stage, &OpenGate, out)
+}
+
+/// Puts what is told of the session of a row: its words and a script, behind whose last line this stands.
+pub(crate) fn put_row<R: Threads + Wait + Sync>(
+    rt: &R,
+    alloc: Global,
+    row: &str,
+    told: Told,
+    end: &str,
+    out: &mut String,
+) -> Result<(), Fail> {
+    let (line, script) = parted(row, '\n');
+    put_played(rt, alloc, line, told, script, end, out)
 }
 
 fn written_in<R: Threads + Wait + Sync>(
     rt: &R,
     alloc: Global,
     line: &str,
-    source: &mut MemSource,
     stage: &mut Stage,
 ) -> Result<Bytes, Fail> {
     let outcome = outcome_of(
         rt,
         alloc,
         line,
-        source,
+        &mut stage.source,
         &mut stage.shelf,
         &mut stage.sink,
         &OpenGate,
@@ -182,47 +237,24 @@ fn written_in<R: Threads + Wait + Sync>(
 }
 
 /// What a session on a script writes, which has no fault.
-pub fn written_of<R: Threads + Wait + Sync>(
+pub(crate) fn written_of<R: Threads + Wait + Sync>(
     rt: &R,
     alloc: Global,
     line: &str,
     script: &str,
 ) -> Result<Bytes, Fail> {
-    let mut source = script_of(alloc, script)?;
-    let mut stage = empty_stage(alloc)?;
-    written_in(rt, alloc, line, &mut source, &mut stage)
+    let mut stage = stage_of(alloc, script.as_bytes(), b"\n")?;
+    written_in(rt, alloc, line, &mut stage)
 }
 
-/// The first line of a row, and what stands below it.
-pub fn parts_of(row: &str) -> (&str, &str) {
-    match row.split_once('\n') {
-        Some(parts) => parts,
-        None => (row, ""),
-    }
-}
-
-/// The row of a command: its words and a script, behind whose last line a newline stands.
-pub fn command_row<R: Threads + Wait + Sync>(
+/// Puts the table of a script on a shelf.
+pub(crate) fn add_table<R: Threads + Wait + Sync>(
     rt: &R,
     alloc: Global,
-    row: &str,
-    told: Told,
-) -> Result<String, Fail> {
-    let (line, script) = parts_of(row);
-    let mut source = script_of(alloc, script)?;
-    let mut stage = empty_stage(alloc)?;
-    told_in(rt, alloc, line, told, &mut source, &mut stage, &OpenGate)
-}
-
-/// The same with no newline behind the script's last line.
-pub fn open_row<R: Threads + Wait + Sync>(
-    rt: &R,
-    alloc: Global,
-    row: &str,
-    told: Told,
-) -> Result<String, Fail> {
-    let (line, script) = parts_of(row);
-    let mut source = source_of(alloc, script.as_bytes(), b"")?;
-    let mut stage = empty_stage(alloc)?;
-    told_in(rt, alloc, line, told, &mut source, &mut stage, &OpenGate)
+    name: &str,
+    script: &str,
+    shelf: &mut MemShelf,
+) -> Result<(), Fail> {
+    let table = written_of(rt, alloc, "defmtl table", script)?;
+    Ok(shelf.put(name, table)?)
 }

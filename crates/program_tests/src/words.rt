@@ -3,6 +3,7 @@ use crate::rows::{Kind, each_line};
 use crate::sessions::words_of;
 use defmt_words::{Job, job_of};
 use std::alloc::Global;
+use std::fmt::Write;
 use std::test::Fail;
 
 const JOBS: &str = "\
@@ -27,42 +28,37 @@ defmtl print --group = nothing
 defmtl decode = nothing
 defmtl --help = nothing";
 
-fn text_of(alloc: Global, job: Option<Job<'_>>) -> Result<String, Fail> {
+fn put_job(job: Option<Job<'_>>, out: &mut String) -> Result<(), Fail> {
     let word = match job {
         Some(Job::Run { group: false }) => "run",
         Some(Job::Run { group: true }) => "run in groups",
         Some(Job::Record) => "record",
         Some(Job::Table) => "table",
         Some(Job::Print) => "print",
-        Some(Job::Decode { table }) => return Ok(format!(in alloc; "decode by {table}")?),
-        Some(Job::Generate { count }) => return Ok(format!(in alloc; "generate {count}")?),
+        Some(Job::Decode { table }) => return Ok(write!(out, "decode by {table}")?),
+        Some(Job::Generate { count }) => return Ok(write!(out, "generate {count}")?),
         None => "nothing",
     };
-    Ok(String::from_str(alloc, word)?)
+    Ok(out.push_str(word)?)
 }
 
-pub fn asked(alloc: Global, row: &str) -> Result<String, Fail> {
-    let words = words_of(alloc, row)?;
-    match job_of(alloc, &words) {
-        Ok(job) => text_of(alloc, job),
-        Err(_) => Ok(String::from_str(alloc, "memory")?),
+fn put_asked(alloc: Global, words: &[String], out: &mut String) -> Result<(), Fail> {
+    match job_of(alloc, words) {
+        Ok(job) => put_job(job, out),
+        Err(_) => Ok(out.push_str("memory")?),
     }
 }
 
-#[test]
-fn words_ask_for_their_job(rt: HostRuntime) -> Result<(), Fail> {
-    assert_eq!(rt;
-        each_line(&rt, rt.alloc(), JOBS, Kind::Asked)?.as_str(),
-        "8 rows"
-    );
-    Ok(())
+pub(crate) fn put_words(alloc: Global, row: &str, out: &mut String) -> Result<(), Fail> {
+    let words = words_of(alloc, row)?;
+    put_asked(alloc, &words, out)
 }
 
 #[test]
-fn other_words_ask_for_nothing(rt: HostRuntime) -> Result<(), Fail> {
-    assert_eq!(rt;
-        each_line(&rt, rt.alloc(), NO_JOBS, Kind::Asked)?.as_str(),
-        "10 rows"
-    );
+fn words_ask_for_their_job_and_others_for_nothing(rt: HostRuntime) -> Result<(), Fail> {
+    let rows = each_line(&rt, rt.alloc(), JOBS, Kind::Job)?;
+    assert_eq!(rt; rows.as_str(), "8 rows");
+    let rows = each_line(&rt, rt.alloc(), NO_JOBS, Kind::Job)?;
+    assert_eq!(rt; rows.as_str(), "10 rows");
     Ok(())
 }

@@ -1,0 +1,134 @@
+// The commands that print, record, write a table and generate. A row is the words and the script, and what is told of the session.
+use crate::rows::{Kind, each_block};
+use crate::sessions::{parted, put_status, written_of};
+use defmt_run::Outcome;
+use std::alloc::Global;
+use std::fmt::Write;
+use std::sync::Wait;
+use std::test::Fail;
+use std::thread::Threads;
+use test_rows::put_digits;
+
+// The status and the lines.
+const LINES: &str = "\
+defmtl print
+stamp 1000 250
+s a defmt_info a {=u8}
+s b defmt_warn b {=bool}
+w 1 b true
+w 0 a 1
+w 0 a 2
+=
+status 0 fine
+0.001000 INFO  a 1
+0.001250 INFO  a 2
+0.001500 WARN  b true";
+
+// The status and the counts, where no newline stands behind the words.
+const COUNTS: &str = "\
+defmtl gen 10
+=
+status 0 fine
+lines 10
+trace 2
+debug 2
+info 2
+warn 2
+error 2
+writer 0 3
+writer 1 3
+writer 2 2
+writer 3 2
+bytes 164
+
+defmtl gen 4096
+=
+status 0 fine
+lines 4096
+trace 819
+debug 819
+info 820
+warn 819
+error 819
+writer 0 1024
+writer 1 1024
+writer 2 1024
+writer 3 1024
+bytes 67169
+
+defmtl gen 0
+=
+status 2 words";
+
+#[test]
+fn a_script_is_printed_writer_by_writer_and_a_generated_one_is_counted(
+    rt: HostRuntime,
+) -> Result<(), Fail> {
+    let rows = each_block(&rt, rt.alloc(), LINES, Kind::Lines)?;
+    assert_eq!(rt; rows.as_str(), "1 rows");
+    let rows = each_block(&rt, rt.alloc(), COUNTS, Kind::OpenLines)?;
+    assert_eq!(rt; rows.as_str(), "3 rows");
+    Ok(())
+}
+
+// The status and the digits of the bytes.
+const RECORDINGS: &str = "\
+defmtl record
+s hi defmt_info hello
+w 0 hi
+=
+status 0 fine
+00 01 7e 00
+
+defmtl record
+s opt defmt_prim None|Some({=?})
+s num defmt_prim {=u8}
+s pt defmt_derived Pt {{ x: {=?}, y: {=?} }}
+s log defmt_debug at {} {:x}
+w 0 log pt(num(3) num(255)) opt:1(num(255))
+=
+status 0 fine
+00 04 03 02 03 2a 02 ff 01 01 02 12 ff 7d 00";
+
+/// Puts the status of an outcome, and below it the digits of what was written.
+pub(crate) fn put_bytes(
+    alloc: Global,
+    outcome: &Outcome,
+    written: &[u8],
+    out: &mut String,
+) -> Result<(), Fail> {
+    put_status(alloc, outcome, out)?;
+    out.push('\n')?;
+    put_digits(out, written)
+}
+
+// How many bytes the table's file has.
+const TABLES: &str = "\
+defmtl table
+s hi defmt_info hello
+w 0 hi
+=
+472 bytes";
+
+/// Puts how many bytes a command writes.
+pub(crate) fn put_length<R: Threads + Wait + Sync>(
+    rt: &R,
+    alloc: Global,
+    row: &str,
+    out: &mut String,
+) -> Result<(), Fail> {
+    let (line, script) = parted(row, '\n');
+    let written = written_of(rt, alloc, line, script)?;
+    Ok(write!(out, "{} bytes", written.len())?)
+}
+
+#[test]
+fn a_recording_is_the_bytes_that_were_sent_and_a_table_has_its_length(
+    rt: HostRuntime,
+) -> Result<(), Fail> {
+    let rows = each_block(&rt, rt.alloc(), RECORDINGS, Kind::Digits)?;
+    assert_eq!(rt; rows.as_str(), "2 rows");
+    let rows = each_block(&rt, rt.alloc(), TABLES, Kind::Length)?;
+    assert_eq!(rt; rows.as_str(), "1 rows");
+    Ok(())
+}
