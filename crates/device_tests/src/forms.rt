@@ -1,5 +1,5 @@
 // Macros with their arguments one by one: a proved caller of each, and messages that they put.
-ghost use Rattle.std.specs.Prelude.{◌≡◌, ◌≤◌, ◌<◌, ◌+◌, ◌^◌, ◌∷◌, [], length, take, IfOk};
+ghost use Rattle.std.specs.Prelude.{◌≡◌, ◌≤◌, ◌<◌, ◌+◌, ◌^◌, ◌∷◌, [], length, take};
 ghost use Rattle.defmt_encode.specs.Carry.{bytes_val, message_of, stamp_args};
 ghost use Rattle.defmt_grammar.specs.Sizes.{IsSigned};
 ghost use Rattle.defmt_grammar.specs.declared.kind.IntSize.TheVariants as sizes;
@@ -14,29 +14,36 @@ ghost use Rattle.defmt_macros.specs.Sites.{IsSite};
 ghost use Rattle.defmt_macros.specs.Stamps.{StampSuits};
 
 use crate::rows::{self, each_line};
-use crate::scripts::script_of;
+use crate::scripts::{script_of, site_at};
 use defmt_grammar::{IntSize, Kind, Slot};
 use defmt_intern::{Table, Tag};
 use defmt_macros::{Frame, Site, debug, error, info, println_, put, stamp_suits, trace, warn};
-use defmt_script::Script;
 use defmt_values::Value;
 use std::alloc::Global;
 use std::test::Fail;
-use test_rows::{bytes_of, digits_of};
+use test_rows::{bytes_of, put_digits};
 
 // A number and a truth value.
+pub(crate) const TRACE: &str = "s v defmt_trace {=u8} {=bool}";
+
 const TRACES: &str = "\
 7 true = 01 00 07 01
 255 false = 01 00 ff 00";
 
 // A number and the digits of bytes.
+pub(crate) const DEBUG: &str = "s v defmt_debug {=i128} {=[u8]}";
+
 const DEBUGS: &str =
     "-2 0a ff = 01 00 fe ff ff ff ff ff ff ff ff ff ff ff ff ff ff ff 02 00 00 00 0a ff";
 
 // A text and a number, which is a character's.
+pub(crate) const INFO: &str = "s v defmt_info {=str} {=char}";
+
 const INFOS: &str = "hi 8364 = 01 00 02 00 00 00 68 69 ac 20 00 00";
 
 // Two numbers.
+pub(crate) const WARN: &str = "s v defmt_warn {=u128} {=usize}";
+
 const WARNS: &str = "258 7 = 01 00 02 01 00 00 00 00 00 00 00 00 00 00 00 00 00 00 07 00 00 00";
 
 // Whatever the arguments of a macro are, the buffer begins with their message.
@@ -163,137 +170,146 @@ fn put_signed(frame: &mut Frame, table: &Table, a: i8, b: i16, c: i32, d: i64, e
     put!(frame, table, isize e);
 }
 
-// The site of the script's first string, where no message has a stamp.
-fn site_of(alloc: Global, script: &Script, slots: &[Slot]) -> Result<Site, Fail>
-    ensures site { IfOk result (λ site. IsSite script.now.table site.index site.tag site.slots) }
-    ensures slots { IfOk result (λ site. site.slots ≡ slots.now) }
-    ensures stamp { IfOk result (λ _. StampSuits script.now.table None) }
-{
-    if !stamp_suits(script.table(), None) {
-        return Err(Fail::new("a stamp"));
-    }
-    match Site::new(alloc, script.table(), 1, slots) {
-        Ok(site) => Ok(site),
-        Err(_) => Err(Fail::new("no site")),
-    }
-}
-
-// The digits of the first bytes of a buffer.
-fn front_of(alloc: Global, buf: &[u8], count: usize) -> Result<String, Fail> {
+// Puts the digits of the first bytes of a buffer.
+fn put_front(buf: &[u8], count: usize, out: &mut String) -> Result<(), Fail> {
     if count > buf.len() {
         return Err(Fail::new("a long message"));
     }
-    digits_of(alloc, &buf[..count])
+    put_digits(out, &buf[..count])
 }
 
-fn words_of(row: &str) -> Result<(&str, &str), Fail> {
-    match row.split_once(' ') {
-        Some(words) => Ok(words),
-        None => Err(Fail::new("no second word")),
-    }
-}
-
-pub fn trace_of(alloc: Global, row: &str) -> Result<String, Fail> {
-    let (a, b) = words_of(row)?;
-    let a = u8::from_str_radix(a, 10)?;
-    let script = script_of(alloc, "s v defmt_trace {=u8} {=bool}")?;
-    let slots = [Slot::One(Kind::Uint(IntSize::W8)), Slot::One(Kind::Bool)];
-    let site = site_of(alloc, &script, &slots)?;
-    let Tag::Trace = site.tag() else {
-        return Err(Fail::new("another tag"));
+fn put_trace(table: &Table, site: &Site, a: &str, b: &str, out: &mut String) -> Result<(), Fail>
+    requires tag { site.now.tag ≡ tags.Trace }
+    requires entry { IsSite table.now site.now.index site.now.tag site.now.slots }
+    requires stamp { StampSuits table.now None }
+{
+    let [Slot::One(Kind::Uint(IntSize::W8)), Slot::One(Kind::Bool)] = site.slots() else {
+        return Err(Fail::new("other slots"));
     };
+    let a = u8::from_str_radix(a, 10)?;
     let mut buf = [0; 2000];
-    let count = with_trace(&mut buf, script.table(), &site, None, a, b == "true");
-    front_of(alloc, &buf, count)
+    let count = with_trace(&mut buf, table, site, None, a, b == "true");
+    put_front(&buf, count, out)
 }
 
-pub fn debug_of(alloc: Global, row: &str) -> Result<String, Fail> {
-    let (a, b) = words_of(row)?;
+fn put_debug(
+    table: &Table,
+    site: &Site,
+    a: &str,
+    bytes: &[u8],
+    out: &mut String,
+) -> Result<(), Fail>
+    requires tag { site.now.tag ≡ tags.Debug }
+    requires entry { IsSite table.now site.now.index site.now.tag site.now.slots }
+    requires stamp { StampSuits table.now None }
+{
+    let [Slot::One(Kind::Int(IntSize::W128)), Slot::One(Kind::Bytes)] = site.slots() else {
+        return Err(Fail::new("other slots"));
+    };
     let a = i128::from_str_radix(a, 10)?;
-    let bytes = bytes_of(alloc, b)?;
     if bytes.len() > 1000 {
         return Err(Fail::new("many bytes"));
     }
-    let script = script_of(alloc, "s v defmt_debug {=i128} {=[u8]}")?;
-    let slots = [Slot::One(Kind::Int(IntSize::W128)), Slot::One(Kind::Bytes)];
-    let site = site_of(alloc, &script, &slots)?;
-    let Tag::Debug = site.tag() else {
-        return Err(Fail::new("another tag"));
-    };
     let mut buf = [0; 2000];
-    let count = with_debug(&mut buf, script.table(), &site, None, a, &bytes);
-    front_of(alloc, &buf, count)
+    let count = with_debug(&mut buf, table, site, None, a, bytes);
+    put_front(&buf, count, out)
 }
 
-pub fn info_of(alloc: Global, row: &str) -> Result<String, Fail> {
-    let (a, b) = words_of(row)?;
+fn put_info(table: &Table, site: &Site, a: &str, b: &str, out: &mut String) -> Result<(), Fail>
+    requires tag { site.now.tag ≡ tags.Info }
+    requires entry { IsSite table.now site.now.index site.now.tag site.now.slots }
+    requires stamp { StampSuits table.now None }
+{
+    let [Slot::One(Kind::Str), Slot::One(Kind::Char)] = site.slots() else {
+        return Err(Fail::new("other slots"));
+    };
     let Some(b) = char::from_u32(u32::from_str_radix(b, 10)?) else {
         return Err(Fail::new("no character"));
     };
     if a.len() > 1000 {
         return Err(Fail::new("a long text"));
     }
-    let script = script_of(alloc, "s v defmt_info {=str} {=char}")?;
-    let slots = [Slot::One(Kind::Str), Slot::One(Kind::Char)];
-    let site = site_of(alloc, &script, &slots)?;
-    let Tag::Info = site.tag() else {
-        return Err(Fail::new("another tag"));
-    };
     let mut buf = [0; 2000];
-    let count = with_info(&mut buf, script.table(), &site, None, a, b);
-    front_of(alloc, &buf, count)
+    let count = with_info(&mut buf, table, site, None, a, b);
+    put_front(&buf, count, out)
 }
 
-pub fn warn_of(alloc: Global, row: &str) -> Result<String, Fail> {
-    let (a, b) = words_of(row)?;
-    let a = u128::from_str_radix(a, 10)?;
-    let b = u32::from_str_radix(b, 10)?;
-    let script = script_of(alloc, "s v defmt_warn {=u128} {=usize}")?;
-    let slots = [
+fn put_warn(table: &Table, site: &Site, a: &str, b: &str, out: &mut String) -> Result<(), Fail>
+    requires tag { site.now.tag ≡ tags.Warn }
+    requires entry { IsSite table.now site.now.index site.now.tag site.now.slots }
+    requires stamp { StampSuits table.now None }
+{
+    let [
         Slot::One(Kind::Uint(IntSize::W128)),
         Slot::One(Kind::Uint(IntSize::Native)),
-    ];
-    let site = site_of(alloc, &script, &slots)?;
-    let Tag::Warn = site.tag() else {
-        return Err(Fail::new("another tag"));
+    ] = site.slots()
+    else {
+        return Err(Fail::new("other slots"));
     };
+    let a = u128::from_str_radix(a, 10)?;
+    let b = u32::from_str_radix(b, 10)?;
     let mut buf = [0; 2000];
-    let count = with_warn(&mut buf, script.table(), &site, None, a, b as usize);
-    front_of(alloc, &buf, count)
+    let count = with_warn(&mut buf, table, site, None, a, b as usize);
+    put_front(&buf, count, out)
+}
+
+// Puts the message of two arguments, by the macro of the site's tag.
+fn put_by_tag(
+    alloc: Global,
+    table: &Table,
+    site: &Site,
+    row: &str,
+    out: &mut String,
+) -> Result<(), Fail>
+    requires entry { IsSite table.now site.now.index site.now.tag site.now.slots }
+    requires stamp { StampSuits table.now None }
+{
+    let Some((a, b)) = row.split_once(' ') else {
+        return Err(Fail::new("no second word"));
+    };
+    match site.tag() {
+        Tag::Trace => put_trace(table, site, a, b, out),
+        Tag::Debug => put_debug(table, site, a, &bytes_of(alloc, b)?, out),
+        Tag::Info => put_info(table, site, a, b, out),
+        Tag::Warn => put_warn(table, site, a, b, out),
+        _ => Err(Fail::new("another tag")),
+    }
+}
+
+// The same of the first string of a table, where no message has a stamp.
+fn put_by_table(alloc: Global, table: &Table, row: &str, out: &mut String) -> Result<(), Fail> {
+    if !stamp_suits(table, None) {
+        return Err(Fail::new("a stamp"));
+    }
+    let site = site_at(alloc, table, 1)?;
+    put_by_tag(alloc, table, &site, row, out)
+}
+
+// The same of a script's.
+pub(crate) fn put_form(
+    alloc: Global,
+    script: &str,
+    row: &str,
+    out: &mut String,
+) -> Result<(), Fail> {
+    let script = script_of(alloc, script)?;
+    put_by_table(alloc, script.table(), row, out)
 }
 
 #[test]
-fn trace_puts_its_arguments(rt: HostRuntime) -> Result<(), Fail> {
-    assert_eq!(rt;
-        each_line(&rt, rt.alloc(), TRACES, rows::Kind::TraceOf)?.as_str(),
-        "2 rows"
-    );
+fn trace_and_debug_put_their_arguments(rt: HostRuntime) -> Result<(), Fail> {
+    let rows = each_line(&rt, rt.alloc(), TRACES, rows::Kind::Trace)?;
+    assert_eq!(rt; rows.as_str(), "2 rows");
+    let rows = each_line(&rt, rt.alloc(), DEBUGS, rows::Kind::Debug)?;
+    assert_eq!(rt; rows.as_str(), "1 rows");
     Ok(())
 }
 
 #[test]
-fn debug_puts_its_arguments(rt: HostRuntime) -> Result<(), Fail> {
-    assert_eq!(rt;
-        each_line(&rt, rt.alloc(), DEBUGS, rows::Kind::DebugOf)?.as_str(),
-        "1 rows"
-    );
-    Ok(())
-}
-
-#[test]
-fn info_puts_its_arguments(rt: HostRuntime) -> Result<(), Fail> {
-    assert_eq!(rt;
-        each_line(&rt, rt.alloc(), INFOS, rows::Kind::InfoOf)?.as_str(),
-        "1 rows"
-    );
-    Ok(())
-}
-
-#[test]
-fn warn_puts_its_arguments(rt: HostRuntime) -> Result<(), Fail> {
-    assert_eq!(rt;
-        each_line(&rt, rt.alloc(), WARNS, rows::Kind::WarnOf)?.as_str(),
-        "1 rows"
-    );
+fn info_and_warn_put_their_arguments(rt: HostRuntime) -> Result<(), Fail> {
+    let rows = each_line(&rt, rt.alloc(), INFOS, rows::Kind::Info)?;
+    assert_eq!(rt; rows.as_str(), "1 rows");
+    let rows = each_line(&rt, rt.alloc(), WARNS, rows::Kind::Warn)?;
+    assert_eq!(rt; rows.as_str(), "1 rows");
     Ok(())
 }

@@ -4,7 +4,7 @@ ghost use Rattle.defmt_hooks.specs.Even.{RunsEvenly};
 
 use crate::rows::{Kind, each_line};
 use defmt_hooks::{Clock, Stamp};
-use std::alloc::Global;
+use std::fmt::Write;
 use std::test::Fail;
 
 const MOST: u64 = 281_474_976_710_656;
@@ -36,7 +36,7 @@ fn answers_of(base: u64, step: u64, t: u32) -> (u64, u64)
     (stamp.at(t), tick_of(&stamp, t))
 }
 
-pub fn stamps_of(alloc: Global, row: &str) -> Result<String, Fail> {
+pub(crate) fn put_stamps(row: &str, out: &mut String) -> Result<(), Fail> {
     let Some((base, rest)) = row.split_once(' ') else {
         return Err(Fail::new("no step"));
     };
@@ -50,14 +50,12 @@ pub fn stamps_of(alloc: Global, row: &str) -> Result<String, Fail> {
         return Err(Fail::new("a number is too large"));
     }
     let (at, tick) = answers_of(base, step, number);
-    Ok(format!(in alloc; "{at} {tick}")?)
+    Ok(write!(out, "{at} {tick}")?)
 }
 
 #[test]
 fn stamps_are_evenly_apart(rt: HostRuntime) -> Result<(), Fail> {
-    assert_eq!(rt;
-        each_line(&rt, rt.alloc(), STAMPS, Kind::StampsOf)?.as_str(),
-        "4 rows"
-    );
+    let rows = each_line(&rt, rt.alloc(), STAMPS, Kind::Stamps)?;
+    assert_eq!(rt; rows.as_str(), "4 rows");
     Ok(())
 }

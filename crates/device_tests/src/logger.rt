@@ -1,14 +1,11 @@
 // A logger over a plain ring, on one thread.
-ghost use Rattle.std.specs.Prelude.{◌≡◌, ◌≤◌, ◌∷◌, [], true, length, ⊤};
-ghost use Rattle.defmt_grammar.specs.declared.kind.IntSize.TheVariants.{W8};
-ghost use Rattle.defmt_grammar.specs.declared.kind.Kind.TheVariants.{Uint};
-ghost use Rattle.defmt_grammar.specs.declared.slot.Slot.TheVariants.{One};
+ghost use Rattle.std.specs.Prelude.{◌≡◌, [], true, ⊤};
 ghost use Rattle.defmt_logger.specs.Kept.{IsClockOf};
 ghost use Rattle.rtt_ring.specs.PlainView.{up_of};
 ghost use Rattle.rtt_ring.specs.Views.{new_up};
 
 use crate::rows::{self, each_block};
-use crate::scripts::{bytes_text, clock_of, marks_text, script_of};
+use crate::scripts::{clock_of, put_digits_or_nothing, put_marks, script_of, site_at};
 use defmt_grammar::{IntSize, Kind, Slot};
 use defmt_hooks::Clock;
 use defmt_intern::Table;
@@ -19,6 +16,7 @@ use dl_io::Bytes;
 use rtt_modes::Relief;
 use rtt_ring::{PlainRing, UpEnd};
 use std::alloc::Global;
+use std::fmt::Write;
 use std::marker::Brand;
 use std::sync::Wait;
 use std::sync::ledger::{Blank, Ledger};
@@ -71,23 +69,8 @@ fn log_by<B: Books, K: Naming, U: UpEnd, C: Clock, S: Seat<B, L>, L: Ledger, W: 
     }
 }
 
-// Begins a message of two numbers, puts both, and drops its frame.
-fn drop_frame(message: &mut [u8], site: &Site, table: &Table)
-    requires room { 2000 ≤ length message.old }
-    requires slots { site.now.slots ≡ One (Uint W8) ∷ One (Uint W8) ∷ [] }
-{
-    let mut frame = Frame::begin(message, site, None);
-    put!(frame, table, u8 1);
-    put!(frame, table, u8 2);
-    drop(frame);
-}
-
-// The same with a site of its own, of the first entry.
-fn drop_frame_of(alloc: Global, table: &Table) -> Result<(), Fail> {
-    let byte = Slot::One(Kind::Uint(IntSize::W8));
-    let Ok(site) = Site::new(alloc, table, 1, &[byte, byte]) else {
-        return Err(Fail::new("no site"));
-    };
+// Begins a message of two bytes, puts both, and drops its frame.
+fn drop_frame(site: &Site, table: &Table) -> Result<(), Fail> {
     let [
         Slot::One(Kind::Uint(IntSize::W8)),
         Slot::One(Kind::Uint(IntSize::W8)),
@@ -95,12 +78,43 @@ fn drop_frame_of(alloc: Global, table: &Table) -> Result<(), Fail> {
     else {
         return Err(Fail::new("other slots"));
     };
-    drop_frame(&mut [0; 2000], &site, table);
+    let mut message = [0; 2000];
+    let mut frame = Frame::begin(&mut message, site, None);
+    put!(frame, table, u8 1);
+    put!(frame, table, u8 2);
+    drop(frame);
     Ok(())
 }
 
+// The same of the first entry of a table, where there is a table.
+fn drop_frame_of(alloc: Global, table: Option<&Table>) -> Result<(), Fail> {
+    match table {
+        Some(table) => {
+            let site = site_at(alloc, table, 1)?;
+            drop_frame(&site, table)
+        }
+        None => Ok(()),
+    }
+}
+
+fn put_tape(tape: &Tape, sent: &[u8], out: &mut String) -> Result<(), Fail> {
+    put_marks(out, tape)?;
+    let (count, spare) = (tape.len(), tape.spare());
+    write!(out, "{count} marks, room for {spare}\nsent ")?;
+    put_digits_or_nothing(out, sent)
+}
+
+// Puts a tape and what the ring sent.
+fn put_sent(alloc: Global, tape: &Tape, ring: PlainRing, out: &mut String) -> Result<(), Fail>
+    requires { (up_of ring).staged ≡ [] }
+{
+    let mut sent = Bytes::new(alloc);
+    ring.settle(&mut sent)?;
+    put_tape(tape, sent.as_slice(), out)
+}
+
 // Logs a statement of the writer 1 and three of the writer 0, as far as they have them, drops a frame of a table where there
-// is one, and closes the logger. Gives the tape and what was sent.
+// is one, and closes the logger. Puts the tape and what was sent.
 fn log_by_pens<
     L0: Ledger,
     L1: Ledger,
@@ -128,7 +142,8 @@ fn log_by_pens<
     clock: C,
     ring: PlainRing,
     table: Option<&Table>,
-) -> Result<(Tape, Bytes), Fail>
+    out: &mut String,
+) -> Result<(), Fail>
     requires clock { IsClockOf script.settings.stamp (C.base clock) (C.step clock) (C.ready clock) (C.gives clock) }
     requires fresh { up_of ring ≡ new_up (up_of ring).split script.settings.ring true }
     requires names { (K.script ≡ script) × (K.split ≡ (up_of ring).split) }
@@ -153,22 +168,21 @@ fn log_by_pens<
     for _ in 0..3 {
         log_by(rt, &logger, &mut pens.p0);
     }
-    if let Some(table) = table {
-        drop_frame_of(alloc, table)?;
-    }
+    let dropped = drop_frame_of(alloc, table);
     let (tape, ring, _) = logger.close(pens);
-    let mut sent = Bytes::new(alloc);
-    ring.settle(&mut sent)?;
-    Ok((tape, sent))
+    dropped?;
+    put_sent(alloc, &tape, ring, out)
 }
 
 // Runs the pens of a script's logger over a ring of its own.
 fn log_script<W: Wait>(
     rt: &W,
     alloc: Global,
-    script: Script,
+    text: &str,
     table: Option<&Table>,
-) -> Result<(Tape, Bytes), Fail> {
+    out: &mut String,
+) -> Result<(), Fail> {
+    let script = script_of(alloc, text)?;
     let Ok(ring) = PlainRing::split(alloc, script.ring()) else {
         return Err(Fail::new("no ring"));
     };
@@ -188,40 +202,34 @@ fn log_script<W: Wait>(
         clock,
         ring,
         table,
+        out,
     )
 }
 
-fn told(alloc: Global, tape: &Tape, sent: &Bytes) -> Result<String, Fail> {
-    let marks = marks_text(alloc, tape)?;
-    let sent = bytes_text(alloc, sent.as_slice())?;
-    let count = tape.len();
-    let spare = tape.spare();
-    Ok(format!(in alloc; "{marks}{count} marks, room for {spare}\nsent {sent}")?)
+pub(crate) fn put_logged<W: Wait>(
+    rt: &W,
+    alloc: Global,
+    text: &str,
+    out: &mut String,
+) -> Result<(), Fail> {
+    log_script(rt, alloc, text, None, out)
 }
 
-pub fn logged<W: Wait>(rt: &W, alloc: Global, text: &str) -> Result<String, Fail> {
+pub(crate) fn put_logged_and_dropped<W: Wait>(
+    rt: &W,
+    alloc: Global,
+    text: &str,
+    out: &mut String,
+) -> Result<(), Fail> {
     let script = script_of(alloc, text)?;
-    let (tape, sent) = log_script(rt, alloc, script, None)?;
-    told(alloc, &tape, &sent)
-}
-
-pub fn logged_and_dropped<W: Wait>(rt: &W, alloc: Global, text: &str) -> Result<String, Fail> {
-    let script = script_of(alloc, text)?;
-    let table = script.table().copy()?;
-    let (tape, sent) = log_script(rt, alloc, script, Some(&table))?;
-    told(alloc, &tape, &sent)
+    log_script(rt, alloc, text, Some(script.table()), out)
 }
 
 #[test]
-fn pens_log_what_fits_and_report_what_does_not(rt: HostRuntime) -> Result<(), Fail> {
-    let answer = each_block(&rt, rt.alloc(), LOGGED, rows::Kind::Logged)?;
-    assert_eq!(rt; answer.as_str(), "1 rows");
-    Ok(())
-}
-
-#[test]
-fn a_frame_that_is_dropped_leaves_ring_and_tape(rt: HostRuntime) -> Result<(), Fail> {
-    let answer = each_block(&rt, rt.alloc(), DROPPED, rows::Kind::LoggedAndDropped)?;
-    assert_eq!(rt; answer.as_str(), "1 rows");
+fn pens_log_what_fits_and_a_dropped_frame_leaves_no_trace(rt: HostRuntime) -> Result<(), Fail> {
+    let rows = each_block(&rt, rt.alloc(), LOGGED, rows::Kind::Logged)?;
+    assert_eq!(rt; rows.as_str(), "1 rows");
+    let rows = each_block(&rt, rt.alloc(), DROPPED, rows::Kind::LoggedAndDropped)?;
+    assert_eq!(rt; rows.as_str(), "1 rows");
     Ok(())
 }

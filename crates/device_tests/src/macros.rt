@@ -2,15 +2,15 @@
 ghost use Rattle.defmt_macros.specs.Sites.{IsSite};
 
 use crate::rows::{Kind, each_block};
-use crate::scripts::script_of;
+use crate::scripts::{script_of, site_at};
 use defmt_encode::message;
 use defmt_intern::Table;
 use defmt_macros::{Site, log, stamp_suits};
 use defmt_script::Script;
-use defmt_values::{Statement, check, own_form};
+use defmt_values::{Statement, check};
 use std::alloc::Global;
 use std::test::Fail;
-use test_rows::digits_of;
+use test_rows::put_digits;
 
 // A script: the message of its statement, with the script's first stamp, by the macro of the string's tag with all arguments.
 const MESSAGES: &str = "\
@@ -58,14 +58,14 @@ w 0 at point(number(3) number(255)) optional:1(number(255))
 =
 04 00 03 00 02 00 03 02 00 ff 01 00 01 02 00 ff";
 
-// The message that the macro of the site's tag puts.
-fn put_by_macro<'b>(
-    buf: &'b mut [u8; 2000],
+// Puts the message of the macro of the site's tag.
+fn put_by_macro(
     table: &Table,
     site: &Site,
     stamp: Option<u64>,
     statement: &Statement,
-) -> Result<&'b [u8], Fail>
+    out: &mut String,
+) -> Result<(), Fail>
     requires { IsSite table.now site.now.index site.now.tag site.now.slots }
 {
     if site.index() != statement.index {
@@ -81,8 +81,9 @@ fn put_by_macro<'b>(
     if !stamp_suits(table, stamp) {
         return Err(Fail::new("the stamp doesn't suit"));
     }
-    let count = log(buf, table, site, stamp, &statement.args);
-    Ok(&buf[..count])
+    let mut buf = [0; 2000];
+    let count = log(&mut buf, table, site, stamp, &statement.args);
+    put_digits(out, &buf[..count])
 }
 
 fn first_stamp(script: &Script) -> Option<u64> {
@@ -92,28 +93,22 @@ fn first_stamp(script: &Script) -> Option<u64> {
     }
 }
 
-pub fn message_of(alloc: Global, text: &str) -> Result<String, Fail> {
-    let script = script_of(alloc, text)?;
+fn put_first_message(alloc: Global, script: &Script, out: &mut String) -> Result<(), Fail> {
     let Some(statement) = script.statement(0, 0) else {
         return Err(Fail::new("no statement"));
     };
-    let table = script.table();
-    let Ok(pieces) = own_form(table, statement.index) else {
-        return Err(Fail::new("no text"));
-    };
-    let Ok(site) = Site::new(alloc, table, statement.index, pieces.slots()) else {
-        return Err(Fail::new("no site"));
-    };
-    let mut buf = [0; 2000];
-    let put = put_by_macro(&mut buf, table, &site, first_stamp(&script), statement)?;
-    digits_of(alloc, put)
+    let site = site_at(alloc, script.table(), statement.index)?;
+    put_by_macro(script.table(), &site, first_stamp(script), statement, out)
+}
+
+pub(crate) fn put_message(alloc: Global, text: &str, out: &mut String) -> Result<(), Fail> {
+    let script = script_of(alloc, text)?;
+    put_first_message(alloc, &script, out)
 }
 
 #[test]
 fn each_tag_has_its_macro(rt: HostRuntime) -> Result<(), Fail> {
-    assert_eq!(rt;
-        each_block(&rt, rt.alloc(), MESSAGES, Kind::MessageOf)?.as_str(),
-        "8 rows"
-    );
+    let rows = each_block(&rt, rt.alloc(), MESSAGES, Kind::Message)?;
+    assert_eq!(rt; rows.as_str(), "8 rows");
     Ok(())
 }

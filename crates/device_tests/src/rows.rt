@@ -1,10 +1,10 @@
 // The rows of the tests, by what is asked of their inputs.
-use crate::forms::{debug_of, info_of, trace_of, warn_of};
-use crate::hooks::stamps_of;
-use crate::logger::{logged, logged_and_dropped};
-use crate::macros::message_of;
-use crate::sites::{list_of, site_of};
-use crate::writers::{alone, in_time, meet, openly, queue};
+use crate::forms::{self, put_form};
+use crate::hooks::put_stamps;
+use crate::logger::{put_logged, put_logged_and_dropped};
+use crate::macros::put_message;
+use crate::sites::{put_list, put_site};
+use crate::writers::{put_alone, put_in_time, put_meeting, put_open, put_queued};
 use std::alloc::Global;
 use std::sync::Wait;
 use std::test::Fail;
@@ -12,47 +12,22 @@ use std::thread::Threads;
 
 /// What is asked of an input, each as its module says.
 #[derive(Clone, Copy)]
-pub enum Kind {
-    TraceOf,
-    DebugOf,
-    InfoOf,
-    WarnOf,
-    StampsOf,
-    SiteOf,
-    ListOf,
-    MessageOf,
+pub(crate) enum Kind {
+    Trace,
+    Debug,
+    Info,
+    Warn,
+    Stamps,
+    Site,
+    List,
+    Message,
     Logged,
     LoggedAndDropped,
-    Meet,
-    Queue,
+    Meeting,
+    Queued,
     InTime,
-    Openly,
+    Open,
     Alone,
-}
-
-fn answer<R: Threads + Wait + Sync>(
-    rt: &R,
-    alloc: Global,
-    kind: Kind,
-    input: &str,
-) -> Result<String, Fail> {
-    match kind {
-        Kind::TraceOf => trace_of(alloc, input),
-        Kind::DebugOf => debug_of(alloc, input),
-        Kind::InfoOf => info_of(alloc, input),
-        Kind::WarnOf => warn_of(alloc, input),
-        Kind::StampsOf => stamps_of(alloc, input),
-        Kind::SiteOf => site_of(alloc, input),
-        Kind::ListOf => list_of(alloc, input),
-        Kind::MessageOf => message_of(alloc, input),
-        Kind::Logged => logged(rt, alloc, input),
-        Kind::LoggedAndDropped => logged_and_dropped(rt, alloc, input),
-        Kind::Meet => meet(rt, alloc, input),
-        Kind::Queue => queue(rt, alloc, input),
-        Kind::InTime => in_time(rt, alloc, input),
-        Kind::Openly => openly(rt, alloc, input),
-        Kind::Alone => alone(rt, alloc, input),
-    }
 }
 
 fn put_answer<R: Threads + Wait + Sync>(
@@ -62,12 +37,27 @@ fn put_answer<R: Threads + Wait + Sync>(
     input: &str,
     out: &mut String,
 ) -> Result<(), Fail> {
-    let answer = answer(rt, alloc, kind, input)?;
-    Ok(out.push_str(answer.as_str())?)
+    match kind {
+        Kind::Trace => put_form(alloc, forms::TRACE, input, out),
+        Kind::Debug => put_form(alloc, forms::DEBUG, input, out),
+        Kind::Info => put_form(alloc, forms::INFO, input, out),
+        Kind::Warn => put_form(alloc, forms::WARN, input, out),
+        Kind::Stamps => put_stamps(input, out),
+        Kind::Site => put_site(alloc, input, out),
+        Kind::List => put_list(alloc, input, out),
+        Kind::Message => put_message(alloc, input, out),
+        Kind::Logged => put_logged(rt, alloc, input, out),
+        Kind::LoggedAndDropped => put_logged_and_dropped(rt, alloc, input, out),
+        Kind::Meeting => put_meeting(rt, alloc, input, out),
+        Kind::Queued => put_queued(rt, alloc, input, out),
+        Kind::InTime => put_in_time(rt, alloc, input, out),
+        Kind::Open => put_open(rt, alloc, input, out),
+        Kind::Alone => put_alone(rt, alloc, input, out),
+    }
 }
 
 /// Asks for the answers of lines, as `test_rows::each_line` does.
-pub fn each_line<R: Threads + Wait + Sync>(
+pub(crate) fn each_line<R: Threads + Wait + Sync>(
     rt: &R,
     alloc: Global,
     lines: &str,
@@ -79,7 +69,7 @@ pub fn each_line<R: Threads + Wait + Sync>(
 }
 
 /// Asks for the answers of blocks, as `test_rows::each_block` does.
-pub fn each_block<R: Threads + Wait + Sync>(
+pub(crate) fn each_block<R: Threads + Wait + Sync>(
     rt: &R,
     alloc: Global,
     blocks: &str,

@@ -1,15 +1,20 @@
-// Scripts of rows, their clocks, and what rows tell of a run.
-ghost use Rattle.std.specs.Prelude.{◌≡◌, ◌≤◌, ◌+◌, ◌*◌};
+// Scripts of rows, their clocks and sites, and what rows tell of a run.
+ghost use Rattle.std.specs.Prelude.{◌≡◌, ◌≤◌, ◌+◌, ◌*◌, IfOk};
 ghost use Rattle.defmt_logger.specs.Kept.{IsClockOf};
+ghost use Rattle.defmt_macros.specs.Sites.{IsSite};
 
 use defmt_hooks::Clock;
+use defmt_intern::Table;
 use defmt_logger::{Mark, Tape};
+use defmt_macros::Site;
 use defmt_script::{Script, read};
+use defmt_values::own_form;
 use std::alloc::Global;
+use std::fmt::Write;
 use std::test::Fail;
-use test_rows::digits_of;
+use test_rows::put_digits;
 
-pub fn script_of(alloc: Global, text: &str) -> Result<Script, Fail> {
+pub(crate) fn script_of(alloc: Global, text: &str) -> Result<Script, Fail> {
     if text.len() > 10_000 {
         return Err(Fail::new("a long script"));
     }
@@ -18,7 +23,7 @@ pub fn script_of(alloc: Global, text: &str) -> Result<Script, Fail> {
 
 // A clock that counts by a base and a step.
 #[derive(Drop)]
-pub struct Even {
+pub(crate) struct Even {
     base: u64,
     step: u64,
     ghost within: { (base ≤ 281474976710656) × (step ≤ 281474976710656) },
@@ -39,7 +44,7 @@ impl Clock for Even {
 }
 
 // The clock of a script.
-pub fn clock_of(script: &Script) -> Even
+pub(crate) fn clock_of(script: &Script) -> Even
     ensures { IsClockOf script.now.settings.stamp result.base result.step (λ t. t ≤ 4096) (λ t stamp. stamp ≡ result.base + result.step * t) }
 {
     script.lawful();
@@ -49,17 +54,29 @@ pub fn clock_of(script: &Script) -> Even
     }
 }
 
-// The digits of bytes, or that there are none.
-pub fn bytes_text(alloc: Global, bytes: &[u8]) -> Result<String, Fail> {
-    if bytes.is_empty() {
-        return Ok(String::from_str(alloc, "nothing")?);
+// The site of an entry, with the slots of the entry's own text.
+pub(crate) fn site_at(alloc: Global, table: &Table, index: u16) -> Result<Site, Fail>
+    ensures { IfOk result (λ site. IsSite table.now site.index site.tag site.slots) }
+{
+    let Ok(pieces) = own_form(table, index) else {
+        return Err(Fail::new("no text"));
+    };
+    match Site::new(alloc, table, index, pieces.slots()) {
+        Ok(site) => Ok(site),
+        Err(_) => Err(Fail::new("no site")),
     }
-    digits_of(alloc, bytes)
 }
 
-// A line for each mark: the writer, the place, the stamp and what became of the frame.
-pub fn marks_text(alloc: Global, tape: &Tape) -> Result<String, Fail> {
-    let mut text = String::new(alloc);
+// Puts the digits of bytes, or that there are none.
+pub(crate) fn put_digits_or_nothing(out: &mut String, bytes: &[u8]) -> Result<(), Fail> {
+    if bytes.is_empty() {
+        return Ok(out.push_str("nothing")?);
+    }
+    put_digits(out, bytes)
+}
+
+// Puts a line for each mark: the writer, the place, the stamp and what became of the frame.
+pub(crate) fn put_marks(out: &mut String, tape: &Tape) -> Result<(), Fail> {
     for mark in tape.as_slice() {
         let Mark {
             writer,
@@ -67,8 +84,7 @@ pub fn marks_text(alloc: Global, tape: &Tape) -> Result<String, Fail> {
             stamp,
             fate,
         } = *mark;
-        let line = format!(in alloc; "{writer}.{place} at {stamp} {fate:?}\n")?;
-        text.push_str(line.as_str())?;
+        write!(out, "{writer}.{place} at {stamp} {fate:?}\n")?;
     }
-    Ok(text)
+    Ok(())
 }

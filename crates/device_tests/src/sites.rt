@@ -2,15 +2,10 @@
 use crate::rows::{Kind, each_line};
 use defmt_grammar::{Mode, Pieces, Slot, Text, parse};
 use defmt_intern::{Entry, Table, Tag};
-use defmt_macros::{Site, SiteFault, Slots};
+use defmt_macros::{Site, Slots};
 use std::alloc::Global;
+use std::fmt::Write;
 use std::test::Fail;
-
-// The entries 1, 2 and 3.
-const TABLE: &str = "\
-defmt_info {=u8:#04x} {0=u8:b}
-defmt_prim {=u8}
-defmt_info {=f32}";
 
 // An index and a text with slots: the site's index, tag and slots, or why there is none.
 const SITES: &str = "\
@@ -24,31 +19,23 @@ const SITES: &str = "\
 // A text with slots: the list to which they were appended one by one.
 const LISTS: &str = "{=bool} {1=0..16} = One(Bool) Bits { first: 0, width: 2 }";
 
-fn text_of(alloc: Global, text: &str) -> Result<Text, Fail> {
-    let mut copy = Text::new(alloc);
-    copy.push_str(text)?;
-    Ok(copy)
+fn add(alloc: Global, table: &mut Table, tag: Tag, text: &str) -> Result<(), Fail> {
+    let mut entry = Entry {
+        tag,
+        package: Text::new(alloc),
+        text: Text::new(alloc),
+        disambiguator: Text::new(alloc),
+    };
+    entry.text.push_str(text)?;
+    table.add(entry)?;
+    Ok(())
 }
 
-fn entry_of(alloc: Global, tag: &str, text: &str) -> Result<Entry, Fail> {
-    Ok(Entry {
-        tag: Tag::of_name(alloc, tag)?,
-        package: text_of(alloc, "script")?,
-        text: text_of(alloc, text)?,
-        disambiguator: text_of(alloc, "")?,
-    })
-}
-
-// The table of the entries of these lines, a tag and a text each.
-fn table_of(alloc: Global, lines: &str) -> Result<Table, Fail> {
-    let mut table = Table::new(alloc);
-    for line in lines.lines() {
-        let Some((tag, text)) = line.split_once(' ') else {
-            return Err(Fail::new("no entry"));
-        };
-        table.add(entry_of(alloc, tag, text)?)?;
-    }
-    Ok(table)
+// Adds the entries 1, 2 and 3 to an empty table.
+fn fill(alloc: Global, table: &mut Table) -> Result<(), Fail> {
+    add(alloc, table, Tag::Info, "{=u8:#04x} {0=u8:b}")?;
+    add(alloc, table, Tag::Prim, "{=u8}")?;
+    add(alloc, table, Tag::Info, "{=f32}")
 }
 
 fn pieces_of(alloc: Global, text: &str) -> Result<Pieces, Fail> {
@@ -58,64 +45,69 @@ fn pieces_of(alloc: Global, text: &str) -> Result<Pieces, Fail> {
     Ok(parse(alloc, text, Mode::Strict)?)
 }
 
-fn slots_text(alloc: Global, slots: &[Slot]) -> Result<String, Fail> {
-    let mut text = String::new(alloc);
+fn put_slots(out: &mut String, slots: &[Slot]) -> Result<(), Fail> {
+    let mut gap = "";
     for slot in slots {
-        if !text.is_empty() {
-            text.push(' ')?;
-        }
-        let one = format!(in alloc; "{slot:?}")?;
-        text.push_str(one.as_str())?;
+        write!(out, "{gap}{slot:?}")?;
+        gap = " ";
     }
-    Ok(text)
+    Ok(())
 }
 
-fn made_text(alloc: Global, made: &Result<Site, SiteFault>) -> Result<String, Fail> {
-    match made {
-        Ok(site) => {
-            let index = site.index();
-            let tag = site.tag();
-            let slots = slots_text(alloc, site.slots())?;
-            Ok(format!(in alloc; "{index} {tag:?} {slots}")?)
-        }
-        Err(fault) => Ok(format!(in alloc; "{fault:?}")?),
+fn put_made(site: &Site, out: &mut String) -> Result<(), Fail> {
+    let (index, tag) = (site.index(), site.tag());
+    write!(out, "{index} {tag:?} ")?;
+    put_slots(out, site.slots())
+}
+
+fn put_site_of(
+    alloc: Global,
+    table: &Table,
+    index: u16,
+    slots: &[Slot],
+    out: &mut String,
+) -> Result<(), Fail> {
+    match Site::new(alloc, table, index, slots) {
+        Ok(site) => put_made(&site, out),
+        Err(fault) => Ok(write!(out, "{fault:?}")?),
     }
 }
 
-pub fn site_of(alloc: Global, row: &str) -> Result<String, Fail> {
+fn put_site_in(alloc: Global, table: &mut Table, row: &str, out: &mut String) -> Result<(), Fail> {
+    fill(alloc, table)?;
     let Some((index, text)) = row.split_once(' ') else {
         return Err(Fail::new("no text"));
     };
     let index = u16::from_str_radix(index, 10)?;
     let pieces = pieces_of(alloc, text)?;
-    let table = table_of(alloc, TABLE)?;
-    let made = Site::new(alloc, &table, index, pieces.slots());
-    made_text(alloc, &made)
+    put_site_of(alloc, table, index, pieces.slots(), out)
 }
 
-pub fn list_of(alloc: Global, text: &str) -> Result<String, Fail> {
-    let pieces = pieces_of(alloc, text)?;
+pub(crate) fn put_site(alloc: Global, row: &str, out: &mut String) -> Result<(), Fail> {
+    let mut table = Table::new(alloc);
+    put_site_in(alloc, &mut table, row, out)
+}
+
+fn put_appended(alloc: Global, given: &[Slot], out: &mut String) -> Result<(), Fail> {
     let mut slots = Slots::new(alloc);
-    for slot in pieces.slots() {
+    for slot in given {
         slots.push(*slot)?;
     }
-    slots_text(alloc, slots.as_slice())
+    put_slots(out, slots.as_slice())
+}
+
+pub(crate) fn put_list(alloc: Global, text: &str, out: &mut String) -> Result<(), Fail> {
+    let pieces = pieces_of(alloc, text)?;
+    put_appended(alloc, pieces.slots(), out)
 }
 
 #[test]
-fn sites_are_checked_against_the_table(rt: HostRuntime) -> Result<(), Fail> {
-    assert_eq!(rt;
-        each_line(&rt, rt.alloc(), SITES, Kind::SiteOf)?.as_str(),
-        "6 rows"
-    );
-    Ok(())
-}
-
-#[test]
-fn slots_are_kept_in_their_order(rt: HostRuntime) -> Result<(), Fail> {
-    assert_eq!(rt;
-        each_line(&rt, rt.alloc(), LISTS, Kind::ListOf)?.as_str(),
-        "1 rows"
-    );
+fn sites_are_checked_against_the_table_and_slots_keep_their_order(
+    rt: HostRuntime,
+) -> Result<(), Fail> {
+    let rows = each_line(&rt, rt.alloc(), SITES, Kind::Site)?;
+    assert_eq!(rt; rows.as_str(), "6 rows");
+    let rows = each_line(&rt, rt.alloc(), LISTS, Kind::List)?;
+    assert_eq!(rt; rows.as_str(), "1 rows");
     Ok(())
 }

@@ -1,10 +1,11 @@
 // Scripts that are run by threads, under gates that hold some of them.
-ghost use Rattle.std.specs.Prelude.{◌≡◌};
+ghost use Rattle.std.specs.Prelude.{◌≡◌, [], IfOk};
 ghost use Rattle.defmt_logger.specs.Kept.{IsClockOf, TellsIn};
+ghost use Rattle.defmt_writers.specs.Runs.{ModeFits};
 ghost use Rattle.rtt_ring.specs.Views.{new_down, new_up};
 
 use crate::rows::{Kind, each_block};
-use crate::scripts::{bytes_text, clock_of, marks_text, script_of};
+use crate::scripts::{clock_of, put_digits_or_nothing, put_marks, script_of};
 use defmt_hooks::Clock;
 use defmt_logger::{Eight, Logger, Naming};
 use defmt_script::{RingMode, Script};
@@ -12,6 +13,7 @@ use defmt_writers::{Gate, OpenGate, Run, run_script, serve_here};
 use dl_io::Bytes;
 use rtt_ring::{Channel, QueueRing, WordRing};
 use std::alloc::Global;
+use std::fmt::Write;
 use std::marker::Brand;
 use std::sync::Wait;
 use std::sync::atomic::{AtomicU64, Ordering};
@@ -19,6 +21,7 @@ use std::sync::ledger::{Blank, Ledger};
 use std::test::Fail;
 use std::thread;
 use std::thread::Threads;
+use test_rows::put_digits;
 
 // A script of the writers 0 and 1 with a statement each: what came of it where they wait for each other.
 const MEETINGS: &str = "\
@@ -154,37 +157,40 @@ fn reaches(number: &AtomicU64, least: u64) -> bool {
     false
 }
 
-// Holds the writers 0 and 1 at place 0 until both were asked.
+// Holds the writers below a number at a place, until so many of them were asked there and so many bytes were taken. Those that
+// then pass are counted.
 #[derive(Drop)]
-struct Meeting {
+struct Hold {
+    below: u8,
+    place: u32,
+    asked_least: u64,
+    taken_least: u64,
     asked: AtomicU64,
-    met: AtomicU64,
+    taken: AtomicU64,
+    passed: AtomicU64,
 }
 
-impl Gate for Meeting {
-    fn pass(&self, writer: u8, place: u32) {
-        if writer < 2 && place == 0 {
-            self.asked.fetch_add(1, Ordering::SeqCst);
-            if reaches(&self.asked, 2) {
-                self.met.fetch_add(1, Ordering::SeqCst);
-            }
+impl Hold {
+    fn new(below: u8, place: u32, asked_least: u64, taken_least: u64) -> Hold {
+        Hold {
+            below,
+            place,
+            asked_least,
+            taken_least,
+            asked: AtomicU64::new(0),
+            taken: AtomicU64::new(0),
+            passed: AtomicU64::new(0),
         }
     }
-
-    fn took(&self, _: u64) {}
 }
 
-// Holds the writer 0 at place 3 until twelve bytes were taken.
-#[derive(Drop)]
-struct Twelve {
-    taken: AtomicU64,
-    reached: AtomicU64,
-}
-
-impl Gate for Twelve {
+impl Gate for Hold {
     fn pass(&self, writer: u8, place: u32) {
-        if writer == 0 && place == 3 && reaches(&self.taken, 12) {
-            self.reached.fetch_add(1, Ordering::SeqCst);
+        if writer < self.below && place == self.place {
+            self.asked.fetch_add(1, Ordering::SeqCst);
+            if reaches(&self.asked, self.asked_least) && reaches(&self.taken, self.taken_least) {
+                self.passed.fetch_add(1, Ordering::SeqCst);
+            }
         }
     }
 
@@ -193,86 +199,110 @@ impl Gate for Twelve {
     }
 }
 
-// Runs a script over a word ring.
-fn run_words<G: Gate + Sync, R: Threads + Wait + Sync>(
-    rt: &R,
-    alloc: Global,
-    text: &str,
-    gate: &G,
-) -> Result<Run, Fail> {
-    let script = script_of(alloc, text)?;
-    let clock = clock_of(&script);
-    Ok(run_script::<WordRing, _, G, R>(rt, alloc, script, clock, gate)?)
+// What is told of a run in front of its account, and the count of the writers that passed a gate.
+#[derive(Clone, Copy)]
+enum Told<'g> {
+    Nothing,
+    Marks,
+    Met(&'g AtomicU64),
+    Reached(&'g AtomicU64),
 }
 
-// Runs a script in blocking mode over a queue ring.
-fn run_queue<R: Threads + Wait + Sync>(rt: &R, alloc: Global, text: &str) -> Result<Run, Fail> {
-    let script = script_of(alloc, text)?;
-    let RingMode::Block = script.mode() else {
-        return Err(Fail::new("another mode"));
-    };
-    let clock = clock_of(&script);
-    Ok(run_script::<QueueRing, _, _, _>(rt, alloc, script, clock, &OpenGate)?)
+fn put_account(run: &Run, out: &mut String) -> Result<(), Fail> {
+    let (count, sent, ring) = (run.tape.len(), run.settled.sent_len(), run.settled.ring());
+    write!(out, "{count} marks, {sent} bytes sent, {ring:?}\ncaptured ")?;
+    put_digits_or_nothing(out, run.captured.as_slice())?;
+    out.push_str("\nrest ")?;
+    put_digits_or_nothing(out, run.rest.as_slice())
 }
 
-// What came of a run, but for the order of its marks.
-fn told(alloc: Global, run: &Run) -> Result<String, Fail> {
-    let captured = bytes_text(alloc, run.captured.as_slice())?;
-    let rest = bytes_text(alloc, run.rest.as_slice())?;
-    let count = run.tape.len();
-    let sent = run.settled.sent_len();
-    let ring = run.settled.ring();
-    Ok(format!(in alloc;
-        "{count} marks, {sent} bytes sent, {ring:?}\ncaptured {captured}\nrest {rest}"
-    )?)
-}
-
-// The same behind its marks.
-fn told_with_marks(alloc: Global, run: &Run) -> Result<String, Fail> {
-    let mut text = marks_text(alloc, &run.tape)?;
-    let rest = told(alloc, run)?;
-    text.push_str(rest.as_str())?;
-    Ok(text)
-}
-
-pub fn meet<R: Threads + Wait + Sync>(rt: &R, alloc: Global, text: &str) -> Result<String, Fail> {
-    let gate = Meeting {
-        asked: AtomicU64::new(0),
-        met: AtomicU64::new(0),
-    };
-    let run = run_words(rt, alloc, text, &gate)?;
-    let rest = told(alloc, &run)?;
-    let met = gate.met.load(Ordering::SeqCst);
-    Ok(format!(in alloc; "{met} met\n{rest}")?)
-}
-
-pub fn queue<R: Threads + Wait + Sync>(rt: &R, alloc: Global, text: &str) -> Result<String, Fail> {
-    let run = run_queue(rt, alloc, text)?;
-    told(alloc, &run)
-}
-
-pub fn in_time<R: Threads + Wait + Sync>(
-    rt: &R,
-    alloc: Global,
-    text: &str,
-) -> Result<String, Fail> {
-    let gate = Twelve {
-        taken: AtomicU64::new(0),
-        reached: AtomicU64::new(0),
-    };
-    let run = run_words(rt, alloc, text, &gate)?;
-    let rest = told_with_marks(alloc, &run)?;
-    let reached = gate.reached.load(Ordering::SeqCst);
+fn put_reached(count: u64, run: &Run, out: &mut String) -> Result<(), Fail> {
     let looks = run.looks;
-    Ok(format!(in alloc; "{reached} reached, {looks} looks\n{rest}")?)
+    write!(out, "{count} reached, {looks} looks\n")?;
+    put_marks(out, &run.tape)
 }
 
-pub fn openly<R: Threads + Wait + Sync>(rt: &R, alloc: Global, text: &str) -> Result<String, Fail> {
-    let run = run_words(rt, alloc, text, &OpenGate)?;
-    told_with_marks(alloc, &run)
+// Puts what came of a run, but for the order of its marks where they aren't told.
+fn put_told(told: Told<'_>, run: &Run, out: &mut String) -> Result<(), Fail> {
+    match told {
+        Told::Nothing => {}
+        Told::Marks => put_marks(out, &run.tape)?,
+        Told::Met(count) => write!(out, "{} met\n", count.load(Ordering::SeqCst))?,
+        Told::Reached(count) => put_reached(count.load(Ordering::SeqCst), run, out)?,
+    }
+    put_account(run, out)
 }
 
-// Logs the statements of the writer 0 on this thread alone, with room for 64 bytes. Gives what was sent, what was captured in front.
+// Runs a script.
+fn put_run<H: Channel, G: Gate + Sync, R: Threads + Wait + Sync>(
+    rt: &R,
+    alloc: Global,
+    script: Script,
+    gate: &G,
+    told: Told<'_>,
+    out: &mut String,
+) -> Result<(), Fail>
+    requires { ModeFits script.settings.mode H.tells }
+{
+    let clock = clock_of(&script);
+    let run = run_script::<H, _, G, R>(rt, alloc, script, clock, gate)?;
+    put_told(told, &run, out)
+}
+
+// A script in blocking mode.
+fn blocking_script_of(alloc: Global, text: &str) -> Result<Script, Fail>
+    ensures { IfOk result (λ script. script.settings.mode ≡ RingMode.Block) }
+{
+    let script = script_of(alloc, text)?;
+    match script.mode() {
+        RingMode::Block => Ok(script),
+        _ => Err(Fail::new("another mode")),
+    }
+}
+
+pub(crate) fn put_meeting<R: Threads + Wait + Sync>(
+    rt: &R,
+    alloc: Global,
+    text: &str,
+    out: &mut String,
+) -> Result<(), Fail> {
+    let script = script_of(alloc, text)?;
+    let gate = Hold::new(2, 0, 2, 0);
+    put_run::<WordRing, _, R>(rt, alloc, script, &gate, Told::Met(&gate.passed), out)
+}
+
+pub(crate) fn put_queued<R: Threads + Wait + Sync>(
+    rt: &R,
+    alloc: Global,
+    text: &str,
+    out: &mut String,
+) -> Result<(), Fail> {
+    let script = blocking_script_of(alloc, text)?;
+    put_run::<QueueRing, _, R>(rt, alloc, script, &OpenGate, Told::Nothing, out)
+}
+
+pub(crate) fn put_in_time<R: Threads + Wait + Sync>(
+    rt: &R,
+    alloc: Global,
+    text: &str,
+    out: &mut String,
+) -> Result<(), Fail> {
+    let script = script_of(alloc, text)?;
+    let gate = Hold::new(1, 3, 1, 12);
+    put_run::<WordRing, _, R>(rt, alloc, script, &gate, Told::Reached(&gate.passed), out)
+}
+
+pub(crate) fn put_open<R: Threads + Wait + Sync>(
+    rt: &R,
+    alloc: Global,
+    text: &str,
+    out: &mut String,
+) -> Result<(), Fail> {
+    let script = script_of(alloc, text)?;
+    put_run::<WordRing, _, R>(rt, alloc, script, &OpenGate, Told::Marks, out)
+}
+
+// Logs the statements of the writer 0 on this thread alone. What was sent is then captured or the rest.
 fn serve_alone<
     H: Channel,
     L0: Ledger,
@@ -301,11 +331,14 @@ fn serve_alone<
     clock: C,
     up: H::Up,
     mut down: H::Down,
-) -> Result<Bytes, Fail>
+    captured: &mut Bytes,
+    rest: &mut Bytes,
+) -> Result<(), Fail>
     requires clock { IsClockOf script.settings.stamp (C.base clock) (C.step clock) (C.ready clock) (C.gives clock) }
     requires up { H.Up.view up ≡ new_up (H.Up.view up).split script.settings.ring (H.Up.view up).tells }
     requires told { TellsIn script.settings.mode (H.Up.view up) }
     requires down { H.Down.view down ≡ new_down (H.Up.view up).split script.settings.ring }
+    requires empty { (captured.old.items ≡ []) × (rest.old.items ≡ []) }
     requires names { (K.script ≡ script) × (K.split ≡ (H.Up.view up).split) }
     requires l0 { (blank0.name ≡ L0.name) × (blank0.parts ≡ L0.parts) × (blank0.parts ≡ 1) }
     requires l1 { (blank1.name ≡ L1.name) × (blank1.parts ≡ L1.parts) × (blank1.parts ≡ 1) }
@@ -316,8 +349,6 @@ fn serve_alone<
     requires l6 { (blank6.name ≡ L6.name) × (blank6.parts ≡ L6.parts) × (blank6.parts ≡ 1) }
     requires l7 { (blank7.name ≡ L7.name) × (blank7.parts ≡ L7.parts) × (blank7.parts ≡ 1) }
 {
-    let mut sent = Bytes::new(alloc);
-    sent.reserve(64)?;
     let (logger, mut pens) = Logger::<Eight<L0, L1, L2, L3, L4, L5, L6, L7>, K, H::Up, C>::start(
         alloc, blank0, blank1, blank2, blank3, blank4, blank5, blank6, blank7, script, clock, up,
     )?;
@@ -328,24 +359,30 @@ fn serve_alone<
         count,
         &mut pens.p0,
         &mut down,
-        &mut sent,
+        captured,
         &OpenGate,
     );
     let (_, up, _) = logger.close(pens);
-    let mut rest = Bytes::new(alloc);
-    H::settle(up, down, &mut rest)?;
-    sent.extend_from_slice(rest.as_slice())?;
-    Ok(sent)
+    H::settle(up, down, rest)?;
+    Ok(())
 }
 
-fn run_alone<W: Wait>(rt: &W, alloc: Global, script: Script) -> Result<Bytes, Fail> {
-    let RingMode::Block = script.mode() else {
-        return Err(Fail::new("another mode"));
-    };
-    let clock = clock_of(&script);
+// The same of a script, with room for 64 bytes.
+fn run_alone<W: Wait>(
+    rt: &W,
+    alloc: Global,
+    text: &str,
+    captured: &mut Bytes,
+    rest: &mut Bytes,
+) -> Result<(), Fail>
+    requires { (captured.old.items ≡ []) × (rest.old.items ≡ []) }
+{
+    captured.reserve(64)?;
+    let script = blocking_script_of(alloc, text)?;
     let Ok((up, down)) = WordRing::split(alloc, script.ring()) else {
         return Err(Fail::new("no ring"));
     };
+    let clock = clock_of(&script);
     serve_alone::<WordRing, Brand, Brand, Brand, Brand, Brand, Brand, Brand, Brand, Brand, _, _>(
         rt,
         alloc,
@@ -361,62 +398,71 @@ fn run_alone<W: Wait>(rt: &W, alloc: Global, script: Script) -> Result<Bytes, Fa
         clock,
         up,
         down,
+        captured,
+        rest,
     )
 }
 
-pub fn alone<W: Wait>(rt: &W, alloc: Global, text: &str) -> Result<String, Fail> {
-    let script = script_of(alloc, text)?;
-    let sent = run_alone(rt, alloc, script)?;
-    let bytes = sent.as_slice();
+// How many bytes there are, the first five and the last two.
+fn put_ends(bytes: &[u8], out: &mut String) -> Result<(), Fail> {
     let count = bytes.len();
     if count < 5 {
         return Err(Fail::new("few bytes"));
     }
-    let first = bytes_text(alloc, &bytes[..5])?;
-    let last = bytes_text(alloc, &bytes[count - 2..])?;
-    Ok(format!(in alloc; "{count} bytes from {first} to {last}")?)
+    write!(out, "{count} bytes from ")?;
+    put_digits(out, &bytes[..5])?;
+    out.push_str(" to ")?;
+    put_digits(out, &bytes[count - 2..])
 }
 
-#[test]
-fn two_writers_wait_for_each_other_in_each_mode(rt: HostRuntime) -> Result<(), Fail> {
-    let answer = each_block(&rt, rt.alloc(), MEETINGS, Kind::Meet)?;
-    assert_eq!(rt; answer.as_str(), "3 rows");
-    Ok(())
+fn put_sent_alone<W: Wait>(
+    rt: &W,
+    alloc: Global,
+    text: &str,
+    sent: &mut Bytes,
+    out: &mut String,
+) -> Result<(), Fail>
+    requires { sent.old.items ≡ [] }
+{
+    let mut rest = Bytes::new(alloc);
+    run_alone(rt, alloc, text, sent, &mut rest)?;
+    sent.extend_from_slice(rest.as_slice())?;
+    put_ends(sent.as_slice(), out)
 }
 
-#[test]
-fn a_reader_takes_while_two_writers_wait_for_room(rt: HostRuntime) -> Result<(), Fail> {
-    let answer = each_block(&rt, rt.alloc(), QUEUED, Kind::Queue)?;
-    assert_eq!(rt; answer.as_str(), "1 rows");
-    Ok(())
-}
-
-#[test]
-fn nothing_is_dropped_beside_a_reader_that_takes_in_time(rt: HostRuntime) -> Result<(), Fail> {
-    let answer = each_block(&rt, rt.alloc(), IN_TIME, Kind::InTime)?;
-    assert_eq!(rt; answer.as_str(), "1 rows");
-    Ok(())
-}
-
-#[test]
-fn beside_a_late_reader_frames_are_dropped_or_cut(rt: HostRuntime) -> Result<(), Fail> {
-    let answer = each_block(&rt, rt.alloc(), LATE, Kind::Openly)?;
-    assert_eq!(rt; answer.as_str(), "2 rows");
-    Ok(())
-}
-
-#[test]
-fn a_script_without_lines_sends_nothing(rt: HostRuntime) -> Result<(), Fail> {
-    let answer = each_block(&rt, rt.alloc(), EMPTY, Kind::Openly)?;
-    assert_eq!(rt; answer.as_str(), "1 rows");
-    Ok(())
-}
-
-#[test]
-fn one_thread_serves_itself_where_a_frame_is_longer_than_the_ring(
-    rt: HostRuntime,
+pub(crate) fn put_alone<W: Wait>(
+    rt: &W,
+    alloc: Global,
+    text: &str,
+    out: &mut String,
 ) -> Result<(), Fail> {
-    let answer = each_block(&rt, rt.alloc(), ALONE, Kind::Alone)?;
-    assert_eq!(rt; answer.as_str(), "1 rows");
+    let mut sent = Bytes::new(alloc);
+    put_sent_alone(rt, alloc, text, &mut sent, out)
+}
+
+#[test]
+fn two_writers_wait_for_each_other_and_for_room(rt: HostRuntime) -> Result<(), Fail> {
+    let rows = each_block(&rt, rt.alloc(), MEETINGS, Kind::Meeting)?;
+    assert_eq!(rt; rows.as_str(), "3 rows");
+    let rows = each_block(&rt, rt.alloc(), QUEUED, Kind::Queued)?;
+    assert_eq!(rt; rows.as_str(), "1 rows");
+    Ok(())
+}
+
+#[test]
+fn frames_are_dropped_or_cut_beside_a_late_reader_alone(rt: HostRuntime) -> Result<(), Fail> {
+    let rows = each_block(&rt, rt.alloc(), IN_TIME, Kind::InTime)?;
+    assert_eq!(rt; rows.as_str(), "1 rows");
+    let rows = each_block(&rt, rt.alloc(), LATE, Kind::Open)?;
+    assert_eq!(rt; rows.as_str(), "2 rows");
+    Ok(())
+}
+
+#[test]
+fn no_lines_send_nothing_and_one_thread_serves_itself(rt: HostRuntime) -> Result<(), Fail> {
+    let rows = each_block(&rt, rt.alloc(), EMPTY, Kind::Open)?;
+    assert_eq!(rt; rows.as_str(), "1 rows");
+    let rows = each_block(&rt, rt.alloc(), ALONE, Kind::Alone)?;
+    assert_eq!(rt; rows.as_str(), "1 rows");
     Ok(())
 }
