@@ -69,6 +69,17 @@ fn log_by<B: Books, K: Naming, U: UpEnd, C: Clock, S: Seat<B, L>, L: Ledger, W: 
     }
 }
 
+// Logs the next three statements of a pen, as far as it has them.
+fn log_three_by<B: Books, K: Naming, U: UpEnd, C: Clock, S: Seat<B, L>, L: Ledger, W: Wait>(
+    rt: &W,
+    logger: &Logger<B, K, U, C>,
+    pen: &mut Pen<S, L, K>,
+) {
+    for _ in 0..3 {
+        log_by(rt, logger, pen);
+    }
+}
+
 // Begins a message of two bytes, puts both, and drops its frame.
 fn drop_frame(site: &Site, table: &Table) -> Result<(), Fail> {
     let [
@@ -104,10 +115,17 @@ fn put_tape(tape: &Tape, sent: &[u8], out: &mut String) -> Result<(), Fail> {
     put_digits_or_nothing(out, sent)
 }
 
-// Puts a tape and what the ring sent.
-fn put_sent(alloc: Global, tape: &Tape, ring: PlainRing, out: &mut String) -> Result<(), Fail>
+// Puts a tape and what the ring sent, where a frame was dropped or none had to be.
+fn put_sent(
+    alloc: Global,
+    dropped: Result<(), Fail>,
+    tape: &Tape,
+    ring: PlainRing,
+    out: &mut String,
+) -> Result<(), Fail>
     requires { (up_of ring).staged ≡ [] }
 {
+    dropped?;
     let mut sent = Bytes::new(alloc);
     ring.settle(&mut sent)?;
     put_tape(tape, sent.as_slice(), out)
@@ -165,13 +183,10 @@ fn log_by_pens<
         alloc, blank0, blank1, blank2, blank3, blank4, blank5, blank6, blank7, script, clock, ring,
     )?;
     log_by(rt, &logger, &mut pens.p1);
-    for _ in 0..3 {
-        log_by(rt, &logger, &mut pens.p0);
-    }
+    log_three_by(rt, &logger, &mut pens.p0);
     let dropped = drop_frame_of(alloc, table);
     let (tape, ring, _) = logger.close(pens);
-    dropped?;
-    put_sent(alloc, &tape, ring, out)
+    put_sent(alloc, dropped, &tape, ring, out)
 }
 
 // Runs the pens of a script's logger over a ring of its own.
