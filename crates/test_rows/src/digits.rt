@@ -12,19 +12,6 @@ pub fn bytes_of(alloc: Global, digits: &str) -> Result<Vec<u8>, Fail> {
     Ok(bytes)
 }
 
-/// The digits of these bytes.
-pub fn digits_of(alloc: Global, bytes: &[u8]) -> Result<String, Fail> {
-    let mut text = String::new(alloc);
-    for byte in bytes {
-        let pair = format!(in alloc; "{byte:02x}")?;
-        if !text.is_empty() {
-            text.push(' ')?;
-        }
-        text.push_str(pair.as_str())?;
-    }
-    Ok(text)
-}
-
 /// Puts the digits of these bytes behind a text.
 pub fn put_digits(out: &mut String, bytes: &[u8]) -> Result<(), Fail> {
     let mut gap = "";

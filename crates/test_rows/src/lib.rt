@@ -4,5 +4,5 @@
 mod digits;
 mod rows;
 
-pub use digits::{bytes_of, digits_of, put_digits};
+pub use digits::{bytes_of, put_digits};
 pub use rows::{each_block, each_line};
