@@ -54,6 +54,17 @@ defmtl decode --table other.elf
 =
 status 7 shelf";
 
+// Puts the table of `HI` on the shelf, and a file that is no table.
+fn add_files<R: Threads + Wait + Sync>(
+    rt: &R,
+    alloc: Global,
+    shelf: &mut MemShelf,
+) -> Result<(), Fail> {
+    add_table(rt, alloc, "hi.elf", HI, shelf)?;
+    let file = Bytes::from_slice(alloc, b"hello")?;
+    Ok(shelf.put("no.elf", file)?)
+}
+
 /// A stage with the table of `HI` and a file that is no table. One of the three fails at the calls with these numbers.
 pub(crate) fn table_stage<R: Threads + Wait + Sync>(
     rt: &R,
@@ -64,10 +75,7 @@ pub(crate) fn table_stage<R: Threads + Wait + Sync>(
     fails: &[u8],
 ) -> Result<Stage, Fail> {
     let mut stage = failing_stage(alloc, bytes, end, who, fails)?;
-    add_table(rt, alloc, "hi.elf", HI, &mut stage.shelf)?;
-    stage
-        .shelf
-        .put("no.elf", Bytes::from_slice(alloc, b"hello")?)?;
+    add_files(rt, alloc, &mut stage.shelf)?;
     Ok(stage)
 }
 
@@ -93,12 +101,12 @@ s b defmt_info b
 status 6 table name cause 2 symbol 1";
 
 // The bytes, of which the one at this place is another.
-fn changed(alloc: Global, bytes: &[u8], place: usize, value: u8) -> Result<Bytes, Fail> {
-    let mut changed = Bytes::new(alloc);
-    for (at, byte) in bytes.iter().enumerate() {
-        changed.push(if at == place { value } else { *byte })?;
+fn changed(bytes: Bytes, place: usize, value: u8) -> Bytes {
+    let mut bytes = bytes.into_vec();
+    if place < bytes.len() {
+        bytes[place] = value;
     }
-    Ok(changed)
+    Bytes::from_vec(bytes)
 }
 
 fn add_changed<R: Threads + Wait + Sync>(
@@ -111,10 +119,7 @@ fn add_changed<R: Threads + Wait + Sync>(
     let (place, value) = parted(change, ' ');
     let (place, value) = (place.parse::<usize>()?, value.parse::<u8>()?);
     let table = written_of(rt, alloc, "defmtl table", script)?;
-    Ok(shelf.put(
-        "changed.elf",
-        changed(alloc, table.as_slice(), place, value)?,
-    )?)
+    Ok(shelf.put("changed.elf", changed(table, place, value))?)
 }
 
 /// Puts what is told of a decoding by a changed table: the byte's place, its value and the script.

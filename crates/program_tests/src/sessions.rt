@@ -215,6 +215,14 @@ pub(crate) fn put_row<R: Threads + Wait + Sync>(
     put_played(rt, alloc, line, told, script, end, out)
 }
 
+// What was written, where the status is that of no fault.
+fn copied(alloc: Global, status: u8, written: &[u8]) -> Result<Bytes, Fail> {
+    if status != 0 {
+        return Err("a fault".into());
+    }
+    Ok(Bytes::from_slice(alloc, written)?)
+}
+
 fn written_in<R: Threads + Wait + Sync>(
     rt: &R,
     alloc: Global,
@@ -230,10 +238,7 @@ fn written_in<R: Threads + Wait + Sync>(
         &mut stage.sink,
         &OpenGate,
     )?;
-    if outcome.status != 0 {
-        return Err("a fault".into());
-    }
-    Ok(Bytes::from_slice(alloc, stage.sink.held())?)
+    copied(alloc, outcome.status, stage.sink.held())
 }
 
 /// What a session on a script writes, which has no fault.
