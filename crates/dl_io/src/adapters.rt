@@ -10,18 +10,19 @@ use std::io::{Read, Seek, SeekFrom, Write};
 use std::marker::Model;
 use std::rt::Files;
 
-// The most bytes that one read asks of the system.
-const PIECE: usize = 65_536;
+// The most bytes that one call asks of the system.
+const MOST_AT_ONCE: usize = 65_536;
 
 /// A source over a reader of std, as a file or the standard input.
 ///
 /// It tells nothing of the bytes to come: that the reader gives the right ones is trusted. It counts
-/// one fault at every error of the reader.
+/// one fault at every error of the reader. It reads at most 65,536 bytes at a time, into an array of
+/// its own first, so that a failed read leaves the lent buffer.
 #[derive(Drop)]
 pub struct StdSource<R> {
     reader: R,
     faults: u64,
-    piece: [u8; PIECE],
+    piece: [u8; MOST_AT_ONCE],
 }
 
 impl<R> Model for StdSource<R> {
@@ -40,7 +41,7 @@ impl<R: Read> StdSource<R> {
         StdSource {
             reader,
             faults: 0,
-            piece: [0; PIECE],
+            piece: [0; MOST_AT_ONCE],
         }
     }
 }
@@ -56,7 +57,7 @@ impl<R: Read> Source for StdSource<R> {
         ensures kept { OnErr result (buf.new ≡ buf.old) }
         ensures count { self.new ≡ (if is_err result then raised self.old else self.old) }
     {
-        let size = buf.len().min(PIECE);
+        let size = buf.len().min(MOST_AT_ONCE);
         let piece = &mut self.piece[..];
         match self.reader.read(&mut piece[..size]) {
             Ok(count) => {
@@ -136,12 +137,13 @@ impl<W: Write> Sink for StdSink<W> {
 /// The files of the folder that the program runs in: each fetch opens the file of the given name.
 ///
 /// It tells nothing of the files: that they hold the right bytes is trusted. It counts one fault at
-/// every error, a missing file included.
+/// every error, a missing file included. It fetches at most 65,536 bytes at a time, into an array of
+/// its own first, so that a failed fetch leaves the lent buffer.
 #[derive(Drop)]
 pub struct DirShelf<R> {
     rt: R,
     faults: u64,
-    piece: [u8; PIECE],
+    piece: [u8; MOST_AT_ONCE],
 }
 
 impl<R> Model for DirShelf<R> {
@@ -160,7 +162,7 @@ impl<R: Files> DirShelf<R> {
         DirShelf {
             rt,
             faults: 0,
-            piece: [0; PIECE],
+            piece: [0; MOST_AT_ONCE],
         }
     }
 }
@@ -177,7 +179,7 @@ impl<R: Files> Shelf for DirShelf<R> {
         ensures kept { OnErr result (buf.new ≡ buf.old) }
         ensures count { self.new ≡ (if is_err result then raised self.old else self.old) }
     {
-        let size = buf.len().min(PIECE);
+        let size = buf.len().min(MOST_AT_ONCE);
         let piece = &mut self.piece[..];
         match fetch(&self.rt, name, at, &mut piece[..size]) {
             Ok(count) => {
