@@ -23,25 +23,25 @@ use std::alloc::Global;
 use std::test::Fail;
 use test_rows::{bytes_of, put_digits};
 
-// A number and a truth value.
+// The string of a trace, and rows of a number and a truth value.
 pub(crate) const TRACE: &str = "s v defmt_trace {=u8} {=bool}";
 
 const TRACES: &str = "\
 7 true = 01 00 07 01
 255 false = 01 00 ff 00";
 
-// A number and the digits of bytes.
+// The string of a debug, and rows of a number and the digits of bytes.
 pub(crate) const DEBUG: &str = "s v defmt_debug {=i128} {=[u8]}";
 
 const DEBUGS: &str =
     "-2 0a ff = 01 00 fe ff ff ff ff ff ff ff ff ff ff ff ff ff ff ff 02 00 00 00 0a ff";
 
-// A text and a number, which is a character's.
+// The string of an info, and rows of a text and a number, which is a character's.
 pub(crate) const INFO: &str = "s v defmt_info {=str} {=char}";
 
 const INFOS: &str = "hi 8364 = 01 00 02 00 00 00 68 69 ac 20 00 00";
 
-// Two numbers.
+// The string of a warning, and rows of two numbers.
 pub(crate) const WARN: &str = "s v defmt_warn {=u128} {=usize}";
 
 const WARNS: &str = "258 7 = 01 00 02 01 00 00 00 00 00 00 00 00 00 00 00 00 00 00 07 00 00 00";
@@ -285,7 +285,7 @@ fn put_by_table(alloc: Global, table: &Table, row: &str, out: &mut String) -> Re
     put_by_tag(alloc, table, &site, row, out)
 }
 
-// The same of a script's.
+// The same of the first string of a script.
 pub(crate) fn put_form(
     alloc: Global,
     script: &str,

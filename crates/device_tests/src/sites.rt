@@ -26,6 +26,7 @@ fn add(alloc: Global, table: &mut Table, tag: Tag, text: &str) -> Result<(), Fai
         text: Text::new(alloc),
         disambiguator: Text::new(alloc),
     };
+    entry.package.push_str("script")?;
     entry.text.push_str(text)?;
     table.add(entry)?;
     Ok(())

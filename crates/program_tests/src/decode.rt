@@ -65,7 +65,8 @@ fn add_files<R: Threads + Wait + Sync>(
     Ok(shelf.put("no.elf", file)?)
 }
 
-/// A stage with the table of `HI` and a file that is no table. One of the three fails at the calls with these numbers.
+/// A stage whose source gives these bytes and those behind them, with the table of `HI` and a file that is no table. Of source, shelf and sink the one with
+/// this name fails at the calls with these numbers.
 pub(crate) fn table_stage<R: Threads + Wait + Sync>(
     rt: &R,
     alloc: Global,

@@ -203,9 +203,7 @@ pub(crate) fn put_repeated(alloc: Global, row: &str, out: &mut String) -> Result
 }
 
 #[test]
-fn each_part_has_a_line_up_to_a_fault_and_a_recording_is_read_in_parts_up_to_its_limit(
-    rt: HostRuntime,
-) -> Result<(), Fail> {
+fn a_recording_is_heard_in_parts_up_to_a_fault_or_its_limit(rt: HostRuntime) -> Result<(), Fail> {
     let rows = each_line(&rt, rt.alloc(), HEARD, Kind::Heard)?;
     assert_eq!(rt; rows.as_str(), "3 rows");
     let rows = each_line(&rt, rt.alloc(), REPEATED, Kind::Repeated)?;

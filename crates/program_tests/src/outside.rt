@@ -162,7 +162,7 @@ fn put_once(line: &str, out: &mut String) -> Result<(), Fail> {
     Ok(write!(out, "{line}\n")?)
 }
 
-// Puts what the session tells whose call fails, once, and answers whether it is what the one without a fault tells.
+// Puts what the session with this failing call tells, unless it stands there already or is what the one without a fault tells, and answers whether it is that.
 fn put_call<R: Threads + Wait + Sync>(
     rt: &R,
     alloc: Global,

@@ -11,7 +11,7 @@ use std::sync::Wait;
 use std::test::Fail;
 use std::thread::Threads;
 
-/// What stands in front of the first mark and behind it, and nothing where there is no mark.
+/// What stands in front of the first mark and what stands behind it; the whole text and nothing where there is no mark.
 pub(crate) fn parted(text: &str, mark: char) -> (&str, &str) {
     match text.split_once(mark) {
         Some(parts) => parts,
@@ -61,7 +61,8 @@ fn fails_of<'a>(fails: &'a [u8], who: &str, name: &str) -> &'a [u8] {
     if who == name { fails } else { b"" }
 }
 
-/// A stage without files, whose source gives these bytes and those behind them. One of the three fails at the calls with these numbers.
+/// A stage without files, whose source gives these bytes and those behind them. Of source, shelf and sink the one with this name fails at the calls with
+/// these numbers.
 pub(crate) fn failing_stage(
     alloc: Global,
     bytes: &[u8],
