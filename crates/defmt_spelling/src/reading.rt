@@ -5,15 +5,15 @@ ghost use Rattle.defmt_grammar.specs.Slots.{IsSound};
 ghost use Rattle.defmt_shapes.specs.Shape.{Shape as AnyShape, Shapes, Items as AnyItems, call, sequence, SpellsShapes, SpellsItems, StartsThere};
 ghost use Rattle.defmt_shapes.specs.Spelling.{Tells, HoldsVariant};
 ghost use Rattle.defmt_spelling.specs.Leaves.{sum_or};
-ghost use Rattle.defmt_spelling.specs.Meaning.{meant_val, meant_vals, meant_elems};
+ghost use Rattle.defmt_spelling.specs.Meaning.{meant_val, meant_elems};
 ghost use Rattle.defmt_intern.specs.Table.{Map as AnyTable};
 ghost use Rattle.defmt_spelling.specs.Names.{NameMap};
-ghost use Rattle.defmt_spelling.specs.Reading.{GivesLeaf, GivesValue, GivesValues, GivesElems, GivesItem, GivesForm, GivesVariant, GivesSum, Tests, IsLeaf, form_scan, item_scan, meant_inside, ReadsValues, ReadsFront, Reads, GivesOnly, SmallValue, SmallFront};
+ghost use Rattle.defmt_spelling.specs.Reading.{GivesLeaf, GivesValue, GivesElems, GivesItem, GivesForm, GivesVariant, GivesSum, Tests, IsLeaf, form_scan, item_scan, meant_inside, ReadsValues, ReadsFront, Reads, GivesOnly, SmallValue, SmallFront};
 ghost use Rattle.defmt_spelling.specs.Spelling.{ReadsArguments};
 ghost use Rattle.defmt_values.specs.Entries.{places_of};
 ghost use Rattle.defmt_values.specs.Fits.{Fits};
 ghost use Rattle.defmt_values.specs.Plain.{Val, Vals};
-ghost use Rattle.defmt_values.specs.Scan.{node_cause, list_cause, count_cause, form_at, pick, add, scan_val, scan_vals, scan_elems};
+ghost use Rattle.defmt_values.specs.Scan.{node_cause, list_cause, count_cause, form_at, pick, add, scan_val, scan_elems};
 
 use crate::fault::{ArgFault, Cause};
 use crate::leaves::{
