@@ -39,7 +39,7 @@ esac
 PROGRAM
 
 # Each crate that is proved is a line of $KIT/proved, and each call one of $KIT/calls; $KIT/seconds says how long a proof takes, and a file
-# $KIT/refuses names a crate that can't be proved.
+# $KIT/refuses names a crate that can't be proved, and $KIT/slow/NAME says how long one takes that takes another time.
 cat > "$kit/bin/rt" << 'RT'
 #!/bin/bash
 KIT=${0%/bin/rt}
@@ -50,7 +50,7 @@ prove() {
     cd "../$1" || exit 2
     mkdir -p out
     [ "$(cat out/proof 2> /dev/null)" = "$(text)" ] && return
-    sleep "$(cat "$KIT/seconds")" & echo $! >> "$KIT/sleeps"; wait
+    sleep "$(cat "$KIT/slow/$1" 2> /dev/null || cat "$KIT/seconds")" & echo $! >> "$KIT/sleeps"; wait
     [ "$(cat "$KIT/refuses" 2> /dev/null)" != "$1" ] || { echo "error: $1 is not proved"; return 1; }
     echo "$1" >> "$KIT/proved"
     text > out/proof
@@ -58,7 +58,8 @@ prove() {
 case $1 in
     doc) echo "$KIT/START-HERE.md" ;;
     all)
-        for it in low left right top defmt_run; do
+        for it in low left right beside top defmt_run; do
+            [ -d "../$it" ] || continue
             said=$(prove "$it"); status=$?
             printf '== %s\n%s\n' "$it" "$said"
             [ "$status" -eq 0 ] || exit 1
@@ -85,7 +86,7 @@ PATH=$work/path:$PATH
 
 # begin SECONDS: a repository in which nothing was built, and a proof takes so long
 begin() {
-    rm -rf "$work/top" "$kit/refuses"
+    rm -rf "$work/top" "$kit/refuses" "$kit/slow"
     : > "$kit/calls"; : > "$kit/proved"; : > "$kit/sleeps"
     echo "$1" > "$kit/seconds"
     mkdir "$work/top" && cd "$work/top" || exit 2
@@ -116,6 +117,17 @@ is_tidy() { [ -z "$(strays)" ]; }
 has_begun() { [ "$(wc -l < "$kit/sleeps")" -ge "$1" ]; }
 is_gone() { ! kill -0 "$1" 2> /dev/null; }
 touch "$work/began"
+
+# ---- a crate that is under way for long while only a chain is left
+
+begin 0.1
+mkdir -p crates/beside/src "$kit/slow"
+printf one > crates/beside/src/lib.rt
+sed -i 's/^defmt_run.*/beside: low\ndefmt_run may_wait=9: beside top/' crates.txt
+echo 4 > "$kit/slow/beside"; echo 1 > "$kit/slow/defmt_run"
+call run < /dev/null
+is 'what has been under way for a while is done as it goes' "$(grep -c '^top lib' "$kit/calls") $(grep -c '^defmt_run lib' "$kit/calls")" '0 1'
+is 'and each crate is proved once' "$(proofs)" "beside $all_crates"
 
 # ---- the first build
 
