@@ -139,7 +139,7 @@ is 'each crate is proved once, test crates and those aside are not' "$(proofs)" 
 has 'the program is the proved one' "$said" 'proved one'
 has 'how far a build is' "$said" 'crate 2 of 6 is done: left'
 has 'how long it will take' "$said" 'About '
-has 'how long the first build takes' "$said" 'about 20 minutes on four processors, 40 on two'
+has 'how long the first build takes' "$said" 'about 20 minutes on four processors, 32 on two'
 is 'the crates side by side get all processors' "$(sed -n 1p "$kit/calls" | grep -c "^defmt_run all check --jobs [1-9]")" 1
 is 'so does each of the chain' "$(grep -c '^top lib --jobs [1-9]\|^defmt_run lib --jobs [1-9]\|^defmt_cli run --jobs [1-9]' "$kit/calls")" 3
 until_true is_tidy
