@@ -6,6 +6,9 @@
 # A folder has a copy of the launcher, a few crates and a kit of small scripts: its rt "proves" a crate by a short sleep, and "builds" a program
 # that is a script too, and tells which sources it was built of. The last line is 'N passed, M failed'.
 
+# A signal that is ignored here, as nohup has it, would stop no build.
+[ -n "$SIGNALS_STOP" ] || SIGNALS_STOP=1 exec env --default-signal bash "$0" "$@"
+
 top=$(realpath "$(dirname "$0")/..") || exit 2
 work=$(mktemp -d) || exit 2
 trap 'rm -rf "$work"' EXIT
