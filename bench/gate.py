@@ -1,10 +1,11 @@
 #!/usr/bin/env python3
 """Tells what the merge gate costs: processor seconds by crate and kind, the dearest edit of each crate, and the longest chain of proofs.
 
-    bench/gate.py [--into FILE] [--docs] [-- COMMAND..]    runs the command at the repository's top, by default `rt ci --anew`
-    bench/gate.py [--into FILE] --watch PID                watches an `rt ci` of this checkout that runs already
+    bench/gate.py [--into FILE] [--edits] [--docs] [-- COMMAND..]    runs the command at the repository's top, by default `rt ci --anew`
+    bench/gate.py [--into FILE] [--edits] --watch PID                watches an `rt ci` of this checkout that runs already
 
-The table goes to FILE, or else behind what the command writes. --docs puts it into docs/PROOFS.md where the command passed.
+The table goes to FILE, or else behind what the command writes, and with --edits the seconds of each edit behind it. --docs puts the table into
+docs/PROOFS.md where the command passed.
 
 It looks at the processes of the run twice a second, and takes each for what its words say. What a process used behind the last look at it is
 in its parent's sum of ended children, and is shared evenly among those that ended since the look before. A watched run is told from the
@@ -162,24 +163,40 @@ def longest_chain(below, seconds):
     return max((chain(it) for it in below), default=(0, []))
 
 
-def table(sums):
-    """The table of a run, and what is above the bounds."""
-    rows, above, whole, below = [], [], defaultdict(float), crates()
-    by_crate, by_edit = defaultdict(lambda: defaultdict(float)), defaultdict(lambda: defaultdict(float))
+def by_edit(sums):
+    """The seconds of each edit that was tried, by crate and name."""
+    by_number = defaultdict(lambda: defaultdict(float))
     for (crate, kind, number), seconds in sums.items():
-        by_crate[crate][kind] += seconds
-        whole[kind] += seconds
         if kind == EDITS:
-            by_edit[crate][number] += seconds
-    tried = 0
-    for crate in below:
-        spent, names, edits = by_crate[crate], edits_of(crate), by_edit[crate]
-        if not spent:
-            continue
+            by_number[crate][number] += seconds
+    named = {}
+    for crate, edits in by_number.items():
+        names = edits_of(crate)
         # an edit that is tried from nothing has no number, as the only one of a crate
         if len(names) == 1 and None in edits:
             edits[0] = edits.pop(None)
-        named = {names[it]: at for it, at in edits.items() if it is not None and it < len(names)}
+        named[crate] = {names[it]: at for it, at in edits.items() if it is not None and it < len(names)}
+    return named
+
+
+def list_of_edits(sums):
+    """A line for each edit, the dearest first."""
+    each = [(at, f"{crate}/{name}") for crate, edits in by_edit(sums).items() for name, at in edits.items()]
+    return [f"{at:6.1f} {name}" for at, name in sorted(each, reverse=True)]
+
+
+def table(sums):
+    """The table of a run, and what is above the bounds."""
+    rows, above, whole, below = [], [], defaultdict(float), crates()
+    by_crate, edits = defaultdict(lambda: defaultdict(float)), by_edit(sums)
+    for (crate, kind, _), seconds in sums.items():
+        by_crate[crate][kind] += seconds
+        whole[kind] += seconds
+    tried = 0
+    for crate in below:
+        spent, names, named = by_crate[crate], edits_of(crate), edits.get(crate, {})
+        if not spent:
+            continue
         dearest = max(named, key=named.get, default="")
         above += [f"{crate}: {kind.lower()} {spent[kind]:.0f} s" for kind, most in MOST_SECONDS.items() if spent[kind] > most]
         above += [f"{crate}/{it}: {at:.0f} s" for it, at in named.items() if at > MOST_OF_EDIT]
@@ -251,6 +268,7 @@ def put_into_docs(text, name):
 def main():
     parser = argparse.ArgumentParser(description=__doc__.partition("\n")[0])
     parser.add_argument("--into", metavar="FILE")
+    parser.add_argument("--edits", action="store_true")
     parser.add_argument("--docs", action="store_true")
     parser.add_argument("--watch", metavar="PID", type=int)
     parser.add_argument("command", nargs="*", default=GATE)
@@ -267,12 +285,14 @@ def main():
         ending = f"`{' '.join(asked.command)}` {'failed' if status else 'passed'}: {last or f'status {status}'}"
     took = (time.monotonic() - begun) / 60
     said = wrapped(f"{ending}. That was on {datetime.date.today()}, in {took:.1f} minutes, on {machine()}. Processor seconds:")
-    text = "\n".join([said, "", *table(watch.seconds())]) + "\n"
+    sums = watch.seconds()
+    text = "\n".join([said, "", *table(sums)]) + "\n"
+    more = "\n".join(["", "Seconds of each edit:", *list_of_edits(sums)]) + "\n" if asked.edits else ""
     if asked.into:
         with open(asked.into, "w", encoding="utf-8") as it:
-            it.write(text)
+            it.write(text + more)
     else:
-        print(text, end="")
+        print(text + more, end="")
     if asked.docs and not status:
         put_into_docs(text, "gate")
     return status if status >= 0 else 128 - status
