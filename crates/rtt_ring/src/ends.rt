@@ -58,7 +58,7 @@ pub trait UpEnd {
 
 /// The lower end of a ring, which the reader has. No call takes memory or waits.
 pub trait DownEnd {
-    ghost use Rattle.std.specs.Prelude.{◌≡◌, ◌-◌, ◌+◌, min, [], length, take};
+    ghost use Rattle.std.specs.Prelude.{◌≡◌, ◌-◌, ◌+◌, min, [], length, take, drop};
     ghost use Rattle.rtt_ring.specs.Views.{Down, Took};
 
     /// What contracts see of the end.
@@ -69,10 +69,12 @@ pub trait DownEnd {
         ensures looked { Took (view self.old) (view self.new) [] }
         ensures found { result + length (view self.old).got ≡ (view self.new).found };
 
-    /// Looks, takes as many bytes as it found and as fit into `buf`, releases them and answers their number.
+    /// Looks, takes as many bytes as it found and as fit into `buf`, releases them and answers their number. What lies
+    /// behind them in `buf` is as before.
     fn take(&mut self, buf: &mut [u8]) -> usize
         ensures took { Took (view self.old) (view self.new) (take result buf.new) }
-        ensures count { result ≡ min ((view self.new).found - length (view self.old).got) (length buf.old) };
+        ensures count { result ≡ min ((view self.new).found - length (view self.old).got) (length buf.old) }
+        ensures behind { drop result buf.new ≡ drop result buf.old };
 }
 
 /// A ring whose two ends can go to two threads.

@@ -229,6 +229,7 @@ impl DownEnd for PlainRing {
     fn take(&mut self, buf: &mut [u8]) -> usize
         ensures took { Took (down_of self.old) (down_of self.new) (take result buf.new) }
         ensures count { result ≡ min ((down_of self.new).found - length (down_of self.old).got) (length buf.old) }
+        ensures behind { drop result buf.new ≡ drop result buf.old }
         ensures exact { (down_of self.new).found ≡ length (up_of self.old).sent }
         ensures bytes { take result buf.new ≡ take result (drop (length (down_of self.old).got) (up_of self.old).sent) }
         ensures up { up_of self.new ≡ up_of self.old }

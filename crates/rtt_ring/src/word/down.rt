@@ -1,5 +1,5 @@
 //! The lower end of a word ring.
-ghost use Rattle.std.specs.Prelude.{◌≡◌, ◌+◌, ◌-◌, ◌/◌, ◌%◌, ◌<◌, ◌≤◌, [], ◌++◌, ℕ, List, length, take};
+ghost use Rattle.std.specs.Prelude.{◌≡◌, ◌+◌, ◌-◌, ◌/◌, ◌%◌, ◌<◌, ◌≤◌, [], ◌++◌, ℕ, List, length, take, drop};
 ghost use Rattle.std.specs.Arc.{arc_value};
 ghost use Rattle.rtt_ring.specs.WordRule.{lower_of, took_bytes, next_bytes};
 ghost use Rattle.rtt_ring.specs.WordKept.{IsDown};
@@ -53,6 +53,7 @@ impl WordDown {
         requires found { length (lower_of self.old.seat.me.0).got + (to - from) ≤ (lower_of self.old.seat.me.0).found }
         ensures count { (0 < result) × (from + result ≤ to) }
         ensures seat { (self.new.seat.table_id ≡ self.old.seat.table_id) × ((bs : List ℕ) × (length bs ≡ result) × (lower_of self.new.seat.me.0 ≡ took_bytes (lower_of self.old.seat.me.0) bs) × (take (from + result) buf.new ≡ take from buf.old ++ bs)) }
+        ensures behind { drop (from + result) buf.new ≡ drop (from + result) buf.old }
         ensures rest { (self.new.table ≡ self.old.table) × (self.new.size ≡ self.old.size) }
     {
         let lane = self.at as usize % 8;
@@ -85,7 +86,11 @@ impl DownEnd for WordDown {
 
     ghost view = { down_of };
 
-    fn look(&mut self) -> u32 {
+    fn look(&mut self) -> u32
+        ensures looked { Took (down_of self.old) (down_of self.new) [] }
+        ensures found { result + length (down_of self.old).got ≡ (down_of self.new).found }
+        ensures released { released_of self.new ≡ released_of self.old }
+    {
         let shared = &self.table.shared;
         let at = shared.load::<LoadsWrOff>(&mut self.seat, 0) as u32;
         ahead(self.at, at, self.size)
@@ -94,7 +99,9 @@ impl DownEnd for WordDown {
     fn take(&mut self, buf: &mut [u8]) -> usize
         ensures took { Took (down_of self.old) (down_of self.new) (take result buf.new) }
         ensures count { result ≡ min ((down_of self.new).found - length (down_of self.old).got) (length buf.old) }
+        ensures behind { drop result buf.new ≡ drop result buf.old }
         ensures released { 0 < result → released_of self.new ≡ length (down_of self.new).got }
+        ensures idle { result ≡ 0 → released_of self.new ≡ released_of self.old }
     {
         let count = buf.len().min(self.look() as usize);
         let mut done = 0;

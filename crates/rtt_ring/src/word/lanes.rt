@@ -23,7 +23,8 @@ pub(crate) fn with_lanes(old: u64, lane: usize, bytes: &[u8]) -> u64
 // Puts the bytes of a word, from the lane on, at the index `from`.
 pub(crate) fn copy_lanes(word: u64, lane: usize, buf: &mut [u8], from: usize, count: usize)
     requires { (lane + count ≤ 8) × (from + count ≤ length buf.old) }
-    ensures { take (from + count) buf.new ≡ take from buf.old ++ take count (drop lane (lanes word)) }
+    ensures bytes { take (from + count) buf.new ≡ take from buf.old ++ take count (drop lane (lanes word)) }
+    ensures behind { drop (from + count) buf.new ≡ drop (from + count) buf.old }
 {
     let found = word.to_le_bytes();
     if count == 8 {

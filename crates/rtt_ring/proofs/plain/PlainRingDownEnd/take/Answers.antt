@@ -1,5 +1,5 @@
 use Rattle.std.proofs.Common.{◌≡◌, ◌∙◌, ◌++◌, ℕ, ap, length, take, drop, arith, length-take}
-use Rattle.std.proofs.lemmas.List.{length-take-le, take_at}
+use Rattle.std.proofs.lemmas.List.{length-take-le, take_at, drop_at}
 use Rattle.rtt_ring.specs.declared.journal.Traffic.{Traffic}
 use Rattle.rtt_ring.specs.Image.{part}
 use Rattle.rtt_ring.specs.JournalView.{traffic_of}
@@ -27,6 +27,12 @@ returns-clause-count c =
     let found = take_found _ _ _ _ _ _ _ _ _ c.args.self.now.kept _ _ _ _ _ c.look_down.ensures.name c.look_down.ensures.traffic c.release.ensures.down in
     let sent = length_sent _ _ _ _ _ _ _ _ _ c.args.self.now.kept in
     omega arith
+
+pub returns-clause-behind : goal.returns-clause-behind
+returns-clause-behind c =
+    let n = c.min-count.result in
+    let many : length (take n c.args.buf.now) ≡ n = length-take-le n c.args.buf.now (omega arith) in
+    drop_at c.copy_to.new.out (drop n c.args.buf.now) n (c.copy_to.auto.out ∙ many)
 
 pub returns-clause-exact : goal.returns-clause-exact
 returns-clause-exact c = take_found _ _ _ _ _ _ _ _ _ c.args.self.now.kept _ _ _ _ _ c.look_down.ensures.name c.look_down.ensures.traffic c.release.ensures.down

@@ -40,6 +40,9 @@ returns-clause-seat c =
         bs,
         long,
         ap (λ (m : Me (Unit {0}) View). lower_of m.0) b.1,
-        c.copy_lanes.ensures ∙ ap (λ (l : ℕ). take c.args.from c.args.buf.now ++ take c.min-count.result (drop l (lanes c.load_bytes-found.result))) (sym lane),
+        c.copy_lanes.ensures.bytes ∙ ap (λ (l : ℕ). take c.args.from c.args.buf.now ++ take c.min-count.result (drop l (lanes c.load_bytes-found.result))) (sym lane),
       ),
     )
+
+pub returns-clause-behind : goal.returns-clause-behind
+returns-clause-behind c = c.copy_lanes.ensures.behind

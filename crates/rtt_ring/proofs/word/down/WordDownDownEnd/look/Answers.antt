@@ -18,3 +18,6 @@ returns-clause-found c =
     let wait = look_found k f.0 _ _ f.2 f.3 f.4 c.ahead.ensures in
     let found = ap (λ x. (lower_of x.0).found) f.1 in
     omega arith
+
+pub returns-clause-released : goal.returns-clause-released
+returns-clause-released c = ap (λ x. (lower_of x.0).released) c.load-at.ensures.2.1
