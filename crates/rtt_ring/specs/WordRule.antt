@@ -100,12 +100,14 @@ lower_of (Both u d) = d
 lower_of (Up u) = new_down 0
 lower_of Spent = new_down 0
 
+-- a split parts a view into the two ends of a new ring of its size
 abbrev pub up_part : View → View
-up_part v = Up (upper_of v)
+up_part v = Up (new_up (upper_of v).size)
 
 abbrev pub down_part : View → View
-down_part v = Down (lower_of v)
+down_part v = Down (new_down (lower_of v).size)
 
+-- a join brings together what the two ends know, and no word is held then
 abbrev pub both : View → View → View
 both v w = Both (record (upper_of v) { held = None }) (lower_of w)
 
