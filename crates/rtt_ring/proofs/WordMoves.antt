@@ -72,38 +72,21 @@ longer_fronts ys xs (b ∷ bs) f at =
 -- what each step does to the facts
 module _ (z : ℕ) (ws : List ℕ) (u : UpView) (d : DownView) (f : Facts z ws u d) where
   pub facts_up_looked : Facts z ws (up_looked u d.released) d
-  facts_up_looked = record {
-    up_size = f.up_size;
-    down_size = f.down_size;
-    some_size = f.some_size;
-    wide = f.wide;
-    freed_first = omega arith;
-    released_next = f.released_next;
-    got_next = f.got_next;
-    found_last = f.found_last;
-    front = f.front;
-    room = omega arith;
-    wr_off = f.wr_off;
-    rd_off = f.rd_off;
-    bytes = f.bytes;
-    held = f.held;
-  }
+  facts_up_looked =
+      let o = f.order in record {
+        sizes = f.sizes;
+        order = record { freed_first = omega arith; released_next = o.released_next; got_next = o.got_next; found_last = o.found_last; room = omega arith };
+        front = f.front;
+        stored = f.stored;
+        held = f.held;
+      }
 
   pub facts_held : (k : ℕ) → Facts z ws (holds_word u k (slice_index ws (k + 2))) d
   facts_held k = record {
-    up_size = f.up_size;
-    down_size = f.down_size;
-    some_size = f.some_size;
-    wide = f.wide;
-    freed_first = f.freed_first;
-    released_next = f.released_next;
-    got_next = f.got_next;
-    found_last = f.found_last;
+    sizes = f.sizes;
+    order = f.order;
     front = f.front;
-    room = f.room;
-    wr_off = f.wr_off;
-    rd_off = f.rd_off;
-    bytes = f.bytes;
+    stored = f.stored;
     held = λ j v e. same j v e;
   }
     where
@@ -116,26 +99,25 @@ module _ (z : ℕ) (ws : List ℕ) (u : UpView) (d : DownView) (f : Facts z ws u
       let N : ℕ = length u.sent + length u.staged in
       let s : List ℕ = u.sent ++ u.staged in
       let as_long : length s ≡ N = length-append u.sent u.staged in
+      let o = f.order in
+      let some_size = f.sizes.2 in
+      let wide = f.stored.wide in
       let word_there : k + 2 < length ws = omega (arith, div-add-mod' (z + 7) 8) in
       let mi = mix.inside in
       record {
-        up_size = f.up_size;
-        down_size = f.down_size;
-        some_size = f.some_size;
-        wide = length-set ws (k + 2) n ∙ f.wide;
-        freed_first = f.freed_first;
-        released_next = f.released_next;
-        got_next = f.got_next;
-        found_last = f.found_last;
+        sizes = f.sizes;
+        order = record { freed_first = o.freed_first; released_next = o.released_next; got_next = o.got_next; found_last = o.found_last; room = omega (arith, length-append u.staged bs) };
         front = f.front;
-        room = omega (arith, length-append u.staged bs);
-        wr_off = get_or-set_other ws (k + 2) 0 n 0 (λ e. omega arith) ∙ f.wr_off;
-        rd_off = get_or-set_other ws (k + 2) 1 n 0 (λ e. omega arith) ∙ f.rd_off;
+        stored = record {
+          wide = length-set ws (k + 2) n ∙ wide;
+          wr_off = get_or-set_other ws (k + 2) 0 n 0 (λ e. omega arith) ∙ f.stored.wr_off;
+          rd_off = get_or-set_other ws (k + 2) 1 n 0 (λ e. omega arith) ∙ f.stored.rd_off;
+          bytes = λ i c le e. ⊎_elim
+              (λ (t : (i < length s) × (get_elem? s i ≡ some c)). old_byte i c le (subst (λ (x : ℕ). i < x) as_long t.0) (f.stored.bytes i c le t.1) (ℕ_discrete (i % z / 8) k))
+              (λ (t : (m : ℕ) × (i ≡ length s + m) × (get_elem? bs m ≡ some c)). new_byte i c t.0 (t.1 ∙ ap (λ (x : ℕ). x + t.0) as_long) t.2 (there bs t.0 c t.2) word_there)
+              (append_cases s bs c i (subst (λ (x : List ℕ). get_elem? x i ≡ some c) (sym (append_assoc u.sent u.staged bs)) e));
+        };
         held = λ j w e. absurd (none_held j w e);
-        bytes = λ i c le e. ⊎_elim
-            (λ (t : (i < length s) × (get_elem? s i ≡ some c)). old_byte i c le (subst (λ (x : ℕ). i < x) as_long t.0) (f.bytes i c le t.1) (ℕ_discrete (i % z / 8) k))
-            (λ (t : (m : ℕ) × (i ≡ length s + m) × (get_elem? bs m ≡ some c)). new_byte i c t.0 (t.1 ∙ ap (λ (x : ℕ). x + t.0) as_long) t.2 (there bs t.0 c t.2) word_there)
-            (append_cases s bs c i (subst (λ (x : List ℕ). get_elem? x i ≡ some c) (sym (append_assoc u.sent u.staged bs)) e));
       }
     where
       none_held : (j w : ℕ) → ◌≡◌ {A = Option (ℕ × ℕ)} None (Some (j, w)) → ⊥
@@ -146,6 +128,8 @@ module _ (z : ℕ) (ws : List ℕ) (u : UpView) (d : DownView) (f : Facts z ws u
       kept_lane i le lt same (yes h) _ = mix.after (i % z % 8) h
       kept_lane i le lt same (no h) (yes h') = mix.before (i % z % 8) h'
       kept_lane i le lt same (no h) (no h') =
+          let o = f.order in
+          let some_size = f.sizes.2 in
           let N : ℕ = length u.sent + length u.staged in
           let q : ℕ = i % z in
           let split : q / 8 * 8 + q % 8 ≡ q = div-add-mod' q 8 in
@@ -159,6 +143,8 @@ module _ (z : ℕ) (ws : List ℕ) (u : UpView) (d : DownView) (f : Facts z ws u
       old_byte i c le lt old (no apart) = (ap (λ (x : ℕ). lane x (i % z % 8)) (get_or-set_other ws (k + 2) (i % z / 8 + 2) n 0 (λ e. apart (omega arith))) ∙ old.0, old.1)
       old_byte i c le lt old (yes same) =
           let q : ℕ = i % z in
+          let some_size = f.sizes.2 in
+          let wide = f.stored.wide in
           let kept : lane n (q % 8) ≡ lane v (q % 8) = kept_lane i le lt same (dec_le (l + length bs) (i % z % 8)) (dec_le (suc (i % z % 8)) l) in (
             ap (λ (x : ℕ). lane (slice_index (set ws (k + 2) n) (x + 2)) (q % 8)) same ∙ ap (λ (x : ℕ). lane x (q % 8)) (get_or-set_same ws (k + 2) n 0 (omega (arith, div-add-mod' (z + 7) 8))) ∙ kept
                 ∙ ap (λ (x : ℕ). lane x (q % 8)) (sym (f.held k v is)) ∙ ap (λ (x : ℕ). lane (slice_index ws (x + 2)) (q % 8)) (sym same) ∙ old.0,
@@ -170,6 +156,7 @@ module _ (z : ℕ) (ws : List ℕ) (u : UpView) (d : DownView) (f : Facts z ws u
           let N : ℕ = length u.sent + length u.staged in
           let q : ℕ = i % z in
           let mi = mix.inside in
+          let some_size = f.sizes.2 in
           let here : q ≡ N % z + m = ap (λ (x : ℕ). x % z) at ∙ straight N m z (omega arith) in
           let word : q / 8 ≡ k = word_of q k (l + m) (omega arith) (omega arith) in
           let lane_is : q % 8 ≡ l + m = lane_of q k (l + m) (omega arith) (omega arith) in
@@ -182,67 +169,50 @@ module _ (z : ℕ) (ws : List ℕ) (u : UpView) (d : DownView) (f : Facts z ws u
   facts_published =
       let n : ℕ = length u.sent + length u.staged in
       let as_long : length (u.sent ++ u.staged) ≡ n = length-append u.sent u.staged in
+      let o = f.order in
+      let wide = f.stored.wide in
       record {
-        up_size = f.up_size;
-        down_size = f.down_size;
-        some_size = f.some_size;
-        wide = length-set ws 0 (n % z) ∙ f.wide;
-        freed_first = f.freed_first;
-        released_next = f.released_next;
-        got_next = f.got_next;
-        found_last = omega arith;
+        sizes = f.sizes;
+        order = record { freed_first = o.freed_first; released_next = o.released_next; got_next = o.got_next; found_last = omega arith; room = omega arith };
         front = (f.front.0 ++ u.staged, ap (λ (l : List ℕ). l ++ u.staged) f.front.1 ∙ append_assoc d.got f.front.0 u.staged);
-        room = omega arith;
-        wr_off = get_or-set_same ws 0 (n % z) 0 (omega arith) ∙ ap (λ (k : ℕ). k % z) (sym as_long);
-        rd_off = get_or-set_other ws 0 1 (n % z) 0 (λ e. omega arith) ∙ f.rd_off;
-        bytes = λ i c le e.
-            let old = f.bytes i c le (subst (λ (k : List ℕ). get_elem? k i ≡ some c) (append-nil (u.sent ++ u.staged)) e) in
-            (ap (λ (x : ℕ). lane x (i % z % 8)) (get_or-set_other ws 0 (i % z / 8 + 2) (n % z) 0 (λ e. omega arith)) ∙ old.0, old.1);
+        stored = record {
+          wide = length-set ws 0 (n % z) ∙ wide;
+          wr_off = get_or-set_same ws 0 (n % z) 0 (omega arith) ∙ ap (λ (k : ℕ). k % z) (sym as_long);
+          rd_off = get_or-set_other ws 0 1 (n % z) 0 (λ e. omega arith) ∙ f.stored.rd_off;
+          bytes = λ i c le e.
+              let old = f.stored.bytes i c le (subst (λ (k : List ℕ). get_elem? k i ≡ some c) (append-nil (u.sent ++ u.staged)) e) in
+              (ap (λ (x : ℕ). lane x (i % z % 8)) (get_or-set_other ws 0 (i % z / 8 + 2) (n % z) 0 (λ e. omega arith)) ∙ old.0, old.1);
+        };
         held = λ k v e. get_or-set_other ws 0 (k + 2) (n % z) 0 (λ e. omega arith) ∙ f.held k v e;
       }
 
   pub facts_down_looked : Facts z ws u (down_looked d (length u.sent))
-  facts_down_looked = record {
-    up_size = f.up_size;
-    down_size = f.down_size;
-    some_size = f.some_size;
-    wide = f.wide;
-    freed_first = f.freed_first;
-    released_next = f.released_next;
-    got_next = omega arith;
-    found_last = omega arith;
-    front = f.front;
-    room = f.room;
-    wr_off = f.wr_off;
-    rd_off = f.rd_off;
-    bytes = f.bytes;
-    held = f.held;
-  }
+  facts_down_looked =
+      let o = f.order in record {
+        sizes = f.sizes;
+        order = record { freed_first = o.freed_first; released_next = o.released_next; got_next = omega arith; found_last = omega arith; room = o.room };
+        front = f.front;
+        stored = f.stored;
+        held = f.held;
+      }
 
   -- the byte that the lower end takes next
   pub byte_at : (i : ℕ) → length d.got ≤ i → i < length u.sent → get_elem? u.sent i ≡ some (lane (slice_index ws (i % z / 8 + 2)) (i % z % 8))
   byte_at i from to =
       let t = front_at u.sent u.staged i to in
-      let w = f.bytes i t.0 (omega arith) t.2 in
+      let o = f.order in
+      let w = f.stored.bytes i t.0 (omega arith) t.2 in
       t.1 ∙ ap some (sym w.0)
 
   pub facts_took : (bs : List ℕ) → ((t : ℕ) → t < length bs → get_elem? u.sent (length d.got + t) ≡ some (slice_index bs t)) → length d.got + length bs ≤ d.found → Facts z ws u (took_bytes d bs)
   facts_took bs are some_found =
       let longer : length (d.got ++ bs) ≡ length d.got + length bs = length-append d.got bs in
+      let o = f.order in
       record {
-        up_size = f.up_size;
-        down_size = f.down_size;
-        some_size = f.some_size;
-        wide = f.wide;
-        freed_first = f.freed_first;
-        released_next = omega arith;
-        got_next = omega arith;
-        found_last = f.found_last;
+        sizes = f.sizes;
+        order = record { freed_first = o.freed_first; released_next = omega arith; got_next = omega arith; found_last = o.found_last; room = o.room };
         front = longer_fronts u.sent d.got bs f.front are;
-        room = f.room;
-        wr_off = f.wr_off;
-        rd_off = f.rd_off;
-        bytes = f.bytes;
+        stored = f.stored;
         held = f.held;
       }
 
@@ -250,6 +220,8 @@ module _ (z : ℕ) (ws : List ℕ) (u : UpView) (d : DownView) (f : Facts z ws u
   pub bytes_at : (count : ℕ) → d.size ≡ z → length d.got % z % 8 + count ≤ 8 → length d.got % z + count ≤ z → length d.got + count ≤ d.found
       → let bs = next_bytes d count (slice_index ws (length d.got % z / 8 + 2)) in (length bs ≡ count) × ((t : ℕ) → t < length bs → get_elem? u.sent (length d.got + t) ≡ some (slice_index bs t))
   bytes_at count sized inside flat found =
+      let o = f.order in
+      let some_size = f.sizes.2 in
       let w : ℕ = slice_index ws (length d.got % z / 8 + 2) in
       let l : ℕ = length d.got % d.size % 8 in
       let l_is : l ≡ length d.got % z % 8 = ap (λ (x : ℕ). length d.got % x % 8) sized in
@@ -269,40 +241,29 @@ module _ (z : ℕ) (ws : List ℕ) (u : UpView) (d : DownView) (f : Facts z ws u
   pub facts_gave_back : Facts z (set ws 1 (length d.got % z)) u (gave_back d)
   facts_gave_back =
       let n : ℕ = length d.got % z in
+      let o = f.order in
+      let wide = f.stored.wide in
       record {
-        up_size = f.up_size;
-        down_size = f.down_size;
-        some_size = f.some_size;
-        wide = length-set ws 1 n ∙ f.wide;
-        freed_first = omega arith;
-        released_next = omega arith;
-        got_next = f.got_next;
-        found_last = f.found_last;
+        sizes = f.sizes;
+        order = record { freed_first = omega arith; released_next = omega arith; got_next = o.got_next; found_last = o.found_last; room = o.room };
         front = f.front;
-        room = f.room;
-        wr_off = get_or-set_other ws 1 0 n 0 (λ e. omega arith) ∙ f.wr_off;
-        rd_off = get_or-set_same ws 1 n 0 (omega arith);
-        bytes = λ i c le e.
-            let old = f.bytes i c (omega arith) e in
-            (ap (λ (x : ℕ). lane x (i % z % 8)) (get_or-set_other ws 1 (i % z / 8 + 2) n 0 (λ e. omega arith)) ∙ old.0, old.1);
+        stored = record {
+          wide = length-set ws 1 n ∙ wide;
+          wr_off = get_or-set_other ws 1 0 n 0 (λ e. omega arith) ∙ f.stored.wr_off;
+          rd_off = get_or-set_same ws 1 n 0 (omega arith);
+          bytes = λ i c le e.
+              let old = f.stored.bytes i c (omega arith) e in
+              (ap (λ (x : ℕ). lane x (i % z % 8)) (get_or-set_other ws 1 (i % z / 8 + 2) n 0 (λ e. omega arith)) ∙ old.0, old.1);
+        };
         held = λ k v e. get_or-set_other ws 1 (k + 2) n 0 (λ e. omega arith) ∙ f.held k v e;
       }
 
   pub facts_joined : Facts z ws (record u { held = None }) d
   facts_joined = record {
-    up_size = f.up_size;
-    down_size = f.down_size;
-    some_size = f.some_size;
-    wide = f.wide;
-    freed_first = f.freed_first;
-    released_next = f.released_next;
-    got_next = f.got_next;
-    found_last = f.found_last;
+    sizes = f.sizes;
+    order = f.order;
     front = f.front;
-    room = f.room;
-    wr_off = f.wr_off;
-    rd_off = f.rd_off;
-    bytes = f.bytes;
+    stored = f.stored;
     held = λ j v e. absurd (no_word j v e);
   }
     where
@@ -310,7 +271,10 @@ module _ (z : ℕ) (ws : List ℕ) (u : UpView) (d : DownView) (f : Facts z ws u
       no_word j w e = cc
 
   pub is_whole : IsWhole u d
-  is_whole = (omega arith, f.front, omega arith)
+  is_whole =
+      let o = f.order in
+      let sized = f.sizes.0 in
+      (omega arith, f.front, omega arith)
 
 -- what each step does to the views
 module _ (views : List View) (u : UpView) (d : DownView) (st : Stand views u d) (id : ℕ) where
@@ -396,6 +360,7 @@ module _ {S : Type 0} (z slots id : ℕ) (c : List (ℕ × S)) where
       let a = at_up s k u at in
       let d = a.0 in
       let f = a.1 in
+      let o = f.order in
       let u' = up_looked u d.released in (
         Up u',
         keeps,
@@ -406,7 +371,7 @@ module _ {S : Type 0} (z slots id : ℕ) (c : List (ℕ × S)) where
           facts = subst (λ (ws : List ℕ). Facts z ws u' d) (sym (set-get_or s.words 1 0)) (facts_up_looked z s.words u d f);
           stand = stand_up s.views u d a.2 id u u' at;
         },
-        (d.released, refl, f.rd_off ∙ ap (λ (k : ℕ). d.released % k) (sym f.up_size), f.freed_first, omega arith),
+        (d.released, refl, f.stored.rd_off ∙ ap (λ (k : ℕ). d.released % k) (sym f.sizes.0), o.freed_first, omega arith),
       )
 
   pub may_load_own : (u : UpView) (k : ℕ) → Allows (Kept {S = S} z) slots id (Up u, c) (k + 2) (λ n. n) (loads_own (step slots (k + 2) 0 0 none) (Up u, c))
@@ -467,6 +432,8 @@ module _ {S : Type 0} (z slots id : ℕ) (c : List (ℕ × S)) where
       let a = at_down s k d at in
       let u = a.0 in
       let f = a.1 in
+      let o = f.order in
+      let sized = f.sizes.1 in
       let d' = down_looked d (length u.sent) in (
         Down d',
         keeps,
@@ -477,7 +444,7 @@ module _ {S : Type 0} (z slots id : ℕ) (c : List (ℕ × S)) where
           facts = subst (λ (ws : List ℕ). Facts z ws u d') (sym (set-get_or s.words 0 0)) (facts_down_looked z s.words u d f);
           stand = stand_down s.views u d a.2 id d d' at;
         },
-        (length u.sent, refl, f.wr_off ∙ ap (λ (k : ℕ). length u.sent % k) (sym f.down_size), f.found_last, omega arith),
+        (length u.sent, refl, f.stored.wr_off ∙ ap (λ (k : ℕ). length u.sent % k) (sym sized), o.found_last, omega arith),
       )
 
   pub may_load_bytes : (d : DownView) (i count : ℕ) → d.size ≡ z → i ≡ length d.got % z / 8 + 2 → length d.got % z % 8 + count ≤ 8 → length d.got % z + count ≤ z → length d.got + count ≤ d.found
@@ -537,8 +504,8 @@ module _ {S : Type 0} (z slots id : ℕ) (c : List (ℕ × S)) where
           is_whole z s.words u d f,
           λ j b le e w.
               let here = byte_at z s.words u d f j le (there u.sent j b e) in
-              let place : j % z / 8 + 2 ≡ i = ap (λ (k : ℕ). j % k / 8 + 2) (sym f.up_size) ∙ w in
-              ap (λ (k : ℕ). lane (slice_index s.words i) (j % k % 8)) f.up_size ∙ ap (λ (k : ℕ). lane (slice_index s.words k) (j % z % 8)) (sym place) ∙ some-injective (lane (slice_index s.words (j % z / 8 + 2)) (j % z % 8)) b (sym here ∙ e),
+              let place : j % z / 8 + 2 ≡ i = ap (λ (k : ℕ). j % k / 8 + 2) (sym f.sizes.0) ∙ w in
+              ap (λ (k : ℕ). lane (slice_index s.words i) (j % k % 8)) f.sizes.0 ∙ ap (λ (k : ℕ). lane (slice_index s.words k) (j % z % 8)) (sym place) ∙ some-injective (lane (slice_index s.words (j % z / 8 + 2)) (j % z % 8)) b (sym here ∙ e),
         ),
       )
 
@@ -608,19 +575,15 @@ opens z ws big wide blank = record {
   up = new_up z;
   down = new_down z;
   facts = record {
-    up_size = refl;
-    down_size = refl;
-    some_size = big;
-    wide = wide;
-    freed_first = omega arith;
-    released_next = omega arith;
-    got_next = omega arith;
-    found_last = omega arith;
+    sizes = (refl, refl, big);
+    order = record { freed_first = omega arith; released_next = omega arith; got_next = omega arith; found_last = omega arith; room = omega arith };
     front = ([], refl);
-    room = omega arith;
-    wr_off = blank 0 ∙ none_left;
-    rd_off = blank 1 ∙ none_left;
-    bytes = λ i b le e. absurd (some-ne-none b (sym e));
+    stored = record {
+      wide = wide;
+      wr_off = blank 0 ∙ none_left;
+      rd_off = blank 1 ∙ none_left;
+      bytes = λ i b le e. absurd (some-ne-none b (sym e));
+    };
     held = λ k v e. absurd (none_held k v e);
   };
   stand = record {

@@ -28,26 +28,30 @@ pub record Mixes (old new l : ℕ) (bs : List ℕ) : Type 0 where
 abbrev pub StartsWith : List ℕ → List ℕ → Type 0
 StartsWith ys xs = (rest : List ℕ) × (ys ≡ xs ++ rest)
 
+-- how many bytes: what was found released is released; that was got; that was found published; that was sent; and at
+-- most one byte fewer than the size is in use
+pub record InOrder (size freed released got found sent staged : ℕ) : Type 0 where
+  pub freed_first : freed ≤ released
+  pub released_next : released ≤ got
+  pub got_next : got ≤ found
+  pub found_last : found ≤ sent
+  pub room : sent + staged + 1 ≤ freed + size
+
+-- what the words hold: the two offsets, and behind them a word for each eight bytes of the buffer
+pub record AreStored (size : ℕ) (words sent staged : List ℕ) (released : ℕ) : Type 0 where
+  pub wide : length words ≡ (size + 7) / 8 + 2
+  -- WrOff and RdOff
+  pub wr_off : slice_index words 0 ≡ length sent % size
+  pub rd_off : slice_index words 1 ≡ released % size
+  -- each byte that isn't released stands at its number modulo the size
+  pub bytes : (i b : ℕ) → released ≤ i → get_elem? (sent ++ staged) i ≡ some b → (lane (slice_index words (i % size / 8 + 2)) (i % size % 8) ≡ b) × (b < 256)
+
 -- what holds between any two steps, of the words and of what the two ends know. Numbers of bytes are since the split
 pub record Facts (size : ℕ) (words : List ℕ) (u : UpView) (d : DownView) : Type 0 where
-  pub up_size : u.size ≡ size
-  pub down_size : d.size ≡ size
-  pub some_size : 1 < size
-  -- the two offsets, and a word for each eight bytes of the buffer
-  pub wide : length words ≡ (size + 7) / 8 + 2
-  -- what was found released is released; that was got; that was found published; that was sent
-  pub freed_first : u.freed ≤ d.released
-  pub released_next : d.released ≤ length d.got
-  pub got_next : length d.got ≤ d.found
-  pub found_last : d.found ≤ length u.sent
+  pub sizes : (u.size ≡ size) × (d.size ≡ size) × (1 < size)
+  pub order : InOrder size u.freed d.released (length d.got) d.found (length u.sent) (length u.staged)
   pub front : StartsWith u.sent d.got
-  -- at most one byte fewer than the size is in use
-  pub room : length u.sent + length u.staged + 1 ≤ u.freed + size
-  -- WrOff and RdOff
-  pub wr_off : slice_index words 0 ≡ length u.sent % size
-  pub rd_off : slice_index words 1 ≡ d.released % size
-  -- each byte that isn't released stands at its number modulo the size
-  pub bytes : (i b : ℕ) → d.released ≤ i → get_elem? (u.sent ++ u.staged) i ≡ some b → (lane (slice_index words (i % size / 8 + 2)) (i % size % 8) ≡ b) × (b < 256)
+  pub stored : AreStored size words u.sent u.staged d.released
   -- the word that the upper end holds has the value that it read
   pub held : (k v : ℕ) → u.held ≡ Some (k, v) → slice_index words (k + 2) ≡ v
 
