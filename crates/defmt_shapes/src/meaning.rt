@@ -1,8 +1,9 @@
 //! What stands inside a spelling, as text and bytes.
 
-ghost use Rattle.std.specs.Prelude.{◌≡◌, ◌<◌, ◌+◌, ◌*◌, List, ℕ, ◌∷◌, length, IfOk, MatchOption};
+ghost use Rattle.std.specs.Prelude.{◌≡◌, ◌<◌, ◌≤◌, List, ℕ, ◌∷◌, length, IfOk, MatchOption};
 ghost use Rattle.std.specs.Char.{digit_value};
 ghost use Rattle.defmt_shapes.specs.Shape.{SpellsQuoted, SpellsBytes};
+ghost use Rattle.defmt_shapes.specs.Meaning.{MeansText, MeansBytes, FirstByte, NoByte};
 
 use crate::escape::character_of;
 use defmt_grammar::Text;
@@ -10,12 +11,14 @@ use dl_io::{Bytes, Memory};
 use std::alloc::Global;
 
 /// The text that stands between double quotes, with each escape as the character that it stands for.
-/// Where `inside` isn't so spelled, what stands before the first fault.
+/// Where `inside` isn't so spelled, the text of the characters and escapes in front, up to the first place where none
+/// stands.
 ///
 /// # Errors
 /// `Memory` where memory runs out.
 pub fn unescape(alloc: Global, inside: &str) -> Result<Text, Memory>
-    ensures { (s : List ℕ) → SpellsQuoted inside.now s → IfOk result (λ text. text ≡ s) }
+    ensures means { IfOk result (λ text. MeansText inside.now text) }
+    ensures spelled { (s : List ℕ) → SpellsQuoted inside.now s → IfOk result (λ text. text ≡ s) }
 {
     let mut text = Text::new(alloc);
     let mut rest = inside;
@@ -29,14 +32,13 @@ pub fn unescape(alloc: Global, inside: &str) -> Result<Text, Memory>
     Ok(text)
 }
 
-/// The value of a hexadecimal digit, or 0 where it is none.
-fn digit_of(digit: u8) -> u8
-    ensures value { digit_value digit < 16 → result ≡ digit_value digit }
-    ensures small { result < 16 }
+/// The value of a hexadecimal digit.
+fn digit_of(digit: u8) -> Option<u8>
+    ensures { MatchOption result (16 ≤ digit_value digit) (λ value. (value ≡ digit_value digit) × (value < 16)) }
 {
     match char::from(digit).to_digit(16) {
-        Some(value) => value as u8,
-        None => 0,
+        Some(value) => Some(value as u8),
+        None => None,
     }
 }
 
@@ -53,17 +55,35 @@ fn split_pair(digits: &[u8]) -> Option<(u8, u8, &[u8])>
     Some((*high, *low, rest))
 }
 
-/// The bytes that pairs of hexadecimal digits stand for. A last digit without its second is left out.
+/// The byte that two hexadecimal digits in front stand for, and what follows them.
+fn first_byte(digits: &[u8]) -> Option<(u8, &[u8])>
+    ensures { MatchOption result (NoByte digits.now) (λ p. FirstByte digits.now p.0 p.1.now) }
+{
+    let Some((first, second, rest)) = split_pair(digits) else {
+        return None;
+    };
+    let Some(high) = digit_of(first) else {
+        return None;
+    };
+    let Some(low) = digit_of(second) else {
+        return None;
+    };
+    Some((16 * high + low, rest))
+}
+
+/// The bytes that pairs of hexadecimal digits stand for. Where `digits` isn't so spelled, the bytes of the pairs in
+/// front, up to the first place where none stands.
 ///
 /// # Errors
 /// `Memory` where memory runs out.
 pub fn bytes_of(alloc: Global, digits: &str) -> Result<Bytes, Memory>
-    ensures { (bs : List ℕ) → SpellsBytes digits.now bs → IfOk result (λ bytes. bytes.items ≡ bs) }
+    ensures means { IfOk result (λ bytes. MeansBytes digits.now bytes.items) }
+    ensures spelled { (bs : List ℕ) → SpellsBytes digits.now bs → IfOk result (λ bytes. bytes.items ≡ bs) }
 {
     let mut bytes = Bytes::new(alloc);
     let mut rest = digits.as_bytes();
-    'pairs: while let Some((high, low, after)) = split_pair(rest) {
-        bytes.push(16 * digit_of(high) + digit_of(low))?;
+    'pairs: while let Some((byte, after)) = first_byte(rest) {
+        bytes.push(byte)?;
         rest = after;
     }
     Ok(bytes)

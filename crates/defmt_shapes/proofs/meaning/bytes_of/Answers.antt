@@ -1,14 +1,22 @@
-use Rattle.std.proofs.Common.{List, ℕ, ◌+◌, ◌*◌, sym, ap, subst, ◌∙◌}
-use Rattle.std.specs.Char.{digit_value}
+use Rattle.std.proofs.Common.{List, [], ℕ, sym, subst}
 use Rattle.defmt_shapes.specs.Meaning.{BytesLeft}
-use Rattle.defmt_shapes.proofs.MeaningLaws.{next_bytes, whole_bytes}
+use Rattle.defmt_shapes.proofs.MeaningLaws.{begin_bytes, next_bytes, fewer_digits, whole_bytes, one_bytes}
 use Rattle.defmt_shapes.proofs.meaning.bytes_of.Goals as goal
+
+pub pairs-init : goal.pairs-init
+pairs-init c = subst (λ (t : List ℕ). BytesLeft c.args.digits.now t c.as_bytes-rest.result.now) (sym c.new-bytes.ensures.items) (subst (λ (t : List ℕ). BytesLeft c.args.digits.now [] t) (sym c.as_bytes-rest.ensures.value) (begin_bytes c.args.digits.now))
+
+pub pairs-smaller : goal.pairs-smaller
+pairs-smaller c = fewer_digits c.pairs.rest.now c.in-Some.after.now c.in-Some.byte c.in-Some.ensures
 
 pub pairs-preserved : goal.pairs-preserved
 pairs-preserved c =
     subst (λ (t : List ℕ). BytesLeft c.args.digits.now t c.in-Some.after.now) (sym c.in_ok-push.ensures.ok)
-    (next_bytes c.args.digits.now c.pairs.bytes.items c.pairs.rest.now c.in-Some.after.now c.in-Some.high c.in-Some.low (16 * c.digit_of.result + c.digit_of-in-Some.result) c.pairs.invariant c.in-Some.ensures
-    (λ h l. ap (λ (n : ℕ). 16 * n + c.digit_of-in-Some.result) (c.digit_of.ensures.value h) ∙ ap (λ (n : ℕ). 16 * digit_value c.in-Some.high + n) (c.digit_of-in-Some.ensures.value l)))
+    (next_bytes c.args.digits.now c.pairs.bytes.items c.pairs.rest.now c.in-Some.after.now c.in-Some.byte c.pairs.invariant c.in-Some.ensures)
 
-pub returns : goal.returns
-returns c = whole_bytes c.args.digits.now c.pairs.bytes.items c.pairs.rest.now c.pairs.invariant c.in_default.ensures
+pub returns-clause-means : goal.returns-clause-means
+returns-clause-means c = whole_bytes c.args.digits.now c.pairs.bytes.items c.pairs.rest.now c.pairs.invariant c.in_default.ensures
+
+pub returns-clause-spelled : goal.returns-clause-spelled
+returns-clause-spelled c = λ bs q.
+    one_bytes c.args.digits.now c.pairs.bytes.items bs (whole_bytes c.args.digits.now c.pairs.bytes.items c.pairs.rest.now c.pairs.invariant c.in_default.ensures) q
