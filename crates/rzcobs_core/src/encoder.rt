@@ -25,11 +25,11 @@ pub struct Encoder<'a> {
 }
 
 impl<'a> Encoder<'a> {
-    ghost use Rattle.rzcobs_core.specs.Encoder.{Holds, GoesOn, EndsWith, buffer_of};
+    ghost use Rattle.rzcobs_core.specs.Encoder.{Holds, GoesOn, EndsWith, WritesTo, SameBuffer, buffer_of, buffer_left};
 
     /// An encoder to which nothing was put. It will write to the front of the buffer.
     pub fn new(out: &'a mut [u8]) -> Self
-        ensures same_buffer { result.out.ghost_name ≡ out.entry.ghost_name }
+        ensures same_buffer { WritesTo result out.entry }
         ensures nothing { Holds result [] }
         ensures same { buffer_of result ≡ out.old }
     {
@@ -49,7 +49,7 @@ impl<'a> Encoder<'a> {
     pub fn put(&mut self, byte: u8)
         requires { (message : List ℕ) × Holds self.old message
             × (bound_of (length message + 1) ≤ length (buffer_of self.old)) }
-        ensures same_buffer { self.new.out.ghost_name ≡ self.old.out.ghost_name }
+        ensures same_buffer { SameBuffer self.old self.new }
         ensures one_more { (message : List ℕ) → Holds self.old message
             → Holds self.new (message ++ byte ∷ []) }
         ensures length { length (buffer_of self.new) ≡ length (buffer_of self.old) }
@@ -70,7 +70,7 @@ impl<'a> Encoder<'a> {
         requires long { 7 ≤ self.old.count }
         requires encodes { (message : List ℕ) × Holds self.old message }
         requires room { self.old.stored < length self.old.out.now }
-        ensures same_buffer { self.new.out.ghost_name ≡ self.old.out.ghost_name }
+        ensures same_buffer { SameBuffer self.old self.new }
         ensures one_more { (message : List ℕ) → Holds self.old message
             → Holds self.new (message ++ byte ∷ []) }
         ensures length { length self.new.out.now ≡ length self.old.out.now }
@@ -88,7 +88,7 @@ impl<'a> Encoder<'a> {
         requires short { byte ≡ 0 → self.old.count ≤ 6 }
         requires encodes { (message : List ℕ) × Holds self.old message }
         requires room { self.old.stored < length self.old.out.now }
-        ensures same_buffer { self.new.out.ghost_name ≡ self.old.out.ghost_name }
+        ensures same_buffer { SameBuffer self.old self.new }
         ensures one_more { (message : List ℕ) → Holds self.old message
             → Gathers self.new.out.now self.new.stored self.new.count self.new.zeros
             (message ++ byte ∷ []) }
@@ -113,7 +113,7 @@ impl<'a> Encoder<'a> {
         requires few { length bytes.now ≤ 7 }
         requires room { (message : List ℕ) × Holds self.old message
             × (bound_of (length message + length bytes.now) ≤ length self.old.out.now) }
-        ensures same_buffer { self.new.out.ghost_name ≡ self.old.out.ghost_name }
+        ensures same_buffer { SameBuffer self.old self.new }
         ensures more { (message : List ℕ) → Holds self.old message
             → Gathers self.new.out.now self.new.stored self.new.count self.new.zeros
             (message ++ bytes.now) }
@@ -133,7 +133,7 @@ impl<'a> Encoder<'a> {
         requires some { 0 < length bytes.now }
         requires room { (message : List ℕ) × Holds self.old message
             × (bound_of (length message + length bytes.now) ≤ length (buffer_of self.old)) }
-        ensures same_buffer { self.new.out.ghost_name ≡ self.old.out.ghost_name }
+        ensures same_buffer { SameBuffer self.old self.new }
         ensures some { 0 < result }
         ensures within { result ≤ length bytes.now }
         ensures more { (message : List ℕ) → Holds self.old message
@@ -160,7 +160,7 @@ impl<'a> Encoder<'a> {
         requires gathers { (message : List ℕ)
             × Gathers self.old.out.now self.old.stored self.old.count self.old.zeros message }
         requires room { self.old.stored < length self.old.out.now }
-        ensures same_buffer { self.new.out.ghost_name ≡ self.old.out.ghost_name }
+        ensures same_buffer { SameBuffer self.old self.new }
         ensures same { (message : List ℕ)
             → Gathers self.old.out.now self.old.stored self.old.count self.old.zeros message
             → Holds self.new message }
@@ -194,11 +194,11 @@ impl<'a> Encoder<'a> {
         requires { (message : List ℕ) × Holds self message
             × (bound_of (length message) ≤ length (buffer_of self)) }
         ensures code { (message : List ℕ) → Holds self.entry message
-            → take result self.exit.0.now ≡ canon message }
-        ensures within { result ≤ length self.exit.0.now }
+            → take result (buffer_left self.exit) ≡ canon message }
+        ensures within { result ≤ length (buffer_left self.exit) }
         ensures bound { (message : List ℕ) → Holds self.entry message
             → result ≤ bound_of (length message) }
-        ensures behind { EndsWith self.entry result self.exit.0.now }
+        ensures behind { EndsWith self.entry result (buffer_left self.exit) }
     {
         let Encoder {
             out,

@@ -1,6 +1,6 @@
 ghost use Rattle.std.specs.Prelude.{◌≡◌, ◌≤◌, [], List, ℕ, length, take, drop};
 ghost use Rattle.rzcobs_core.specs.Canon.{canon, bound_of};
-ghost use Rattle.rzcobs_core.specs.Encoder.{Holds, GoesOn, buffer_of};
+ghost use Rattle.rzcobs_core.specs.Encoder.{Holds, GoesOn, SameBuffer, buffer_of};
 
 use crate::encoder::Encoder;
 
@@ -24,7 +24,7 @@ pub fn encode(message: &[u8], out: &mut [u8]) -> usize
 fn put_all(encoder: &mut Encoder, message: &[u8])
     requires new { Holds encoder.old [] }
     requires room { bound_of (length message.now) ≤ length (buffer_of encoder.old) }
-    ensures same_buffer { encoder.new.out.ghost_name ≡ encoder.old.out.ghost_name }
+    ensures same_buffer { SameBuffer encoder.old encoder.new }
     ensures all { Holds encoder.new message.now }
     ensures length { length (buffer_of encoder.new) ≡ length (buffer_of encoder.old) }
     ensures behind { GoesOn encoder.old encoder.new }
