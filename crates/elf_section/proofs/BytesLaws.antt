@@ -1,22 +1,8 @@
--- Numbers and texts in bytes.
+-- Texts in bytes.
 use Rattle.std.proofs.Common.{◌≡◌, ◌≤◌, ◌+◌, ◌-◌, inl, inr, ℕ, zero, suc, true, false, List, [], ◌∷◌, ◌++◌, length, take, drop, get_or, Option, Some, None, MatchOption, Bor, bytes_eq, refl, sym, ap, ◌∙◌, arith, length-append}
-use Rattle.std.proofs.lemmas.List.{take_rest, get_or-drop, take_at, take-append-drop, get_or_at, same_from_push}
+use Rattle.std.proofs.lemmas.List.{take_rest, take_at, take-append-drop, get_or_at, same_from_push}
 use Rattle.std.proofs.lemmas.Slice.Eq.{bytes_eq-Decides}
-use Rattle.byteorder.specs.Endian.{little_from, little_number}
-use Rattle.elf_section.specs.Bytes.{number, IsUnquoted, IsBehind}
-
-pub little_from-drop : (i n at : ℕ) (bytes : List ℕ) → little_from i n (drop at bytes) ≡ little_from (at + i) n bytes
-little_from-drop i zero at bytes = refl
-little_from-drop i (suc n) at bytes =
-    let head : get_or (drop at bytes) i 0 ≡ get_or bytes (at + i) 0 = get_or-drop at bytes i 0 in
-    let ih = little_from-drop (suc i) n at bytes in
-    let moved : at + suc i ≡ suc (at + i) = omega arith in
-    rw (head, ih, moved) refl
-
-pub number_found : (at size r : ℕ) (bytes : List ℕ) → r ≡ little_number size (take (length bytes - at) (drop at bytes)) → r ≡ number at size bytes
-unfolding number
-number_found at size r bytes e =
-    e ∙ ap (little_number size) (take_rest bytes at) ∙ little_from-drop 0 size at bytes ∙ ap (λ (i : ℕ). little_from i size bytes) (let k : at + 0 ≡ at = omega arith in k)
+use Rattle.elf_section.specs.Bytes.{IsUnquoted, IsBehind}
 
 -- what strip_prefix gives
 pub behind_by_cases : (text front : List ℕ) (r : Option (Bor (List ℕ))) → MatchOption r (bytes_eq (take (length front) text) front ≡ false) (λ x. (bytes_eq (take (length front) text) front ≡ true) × (x.now ≡ drop (length front) text) × (length x.now + length front ≡ length text)) → IsBehind text front r

@@ -1,32 +1,15 @@
 -- Fields of what is written.
-use Rattle.std.proofs.Common.{◌≡◌, ◌≢◌, ◌≤◌, ◌<◌, ◌+◌, ◌^◌, ℕ, zero, suc, eqb, false, List, [], ◌∷◌, ◌++◌, length, take, drop, get_or, Some, refl, sym, ap, ◌∙◌, arith, length-append}
-use Rattle.std.proofs.lemmas.List.{take_at, drop_at, append-nil, get_or_append_left}
+use Rattle.std.proofs.Common.{◌≡◌, ◌≢◌, ◌≤◌, ◌<◌, ◌+◌, ◌^◌, ℕ, eqb, false, List, [], ◌∷◌, ◌++◌, length, take, drop, Some, refl, sym, ap, ◌∙◌, arith, length-append}
+use Rattle.std.proofs.lemmas.List.{take_at, drop_at, append-nil}
 use Rattle.std.proofs.lemmas.Bool.Decides.{nat_tests}
 use Rattle.std.specs.List.{AllByRecursion}
-use Rattle.byteorder.specs.Endian.{little_from}
-use Rattle.byteorder.specs.Numbers.{little_number-reads_back, length-bytes_low_first}
-use Rattle.elf_section.specs.Bytes.{number, to_zero, text_at}
+use Rattle.byteorder.specs.Numbers.{length-bytes_low_first}
+use Rattle.byte_images.specs.Fields.{number}
+use Rattle.byte_images.proofs.FieldLaws.{number_behind, number_front, number_back}
+use Rattle.elf_section.specs.Bytes.{to_zero, text_at}
 use Rattle.elf_section.specs.Written.{half, word, section_bytes, symbol_bytes}
 use Rattle.elf_section.specs.File.{section_in, symbol_in}
 use Rattle.elf_section.specs.declared.file.Class.TheVariants.{Elf32}
-use Rattle.elf_section.proofs.BytesLaws.{little_from-drop}
-
--- a number behind a front
-pub number_behind : (front back : List ℕ) (n at size : ℕ) → length front ≡ n → number (n + at) size (front ++ back) ≡ number at size back
-unfolding number
-number_behind front back n at size e = sym (little_from-drop at size n (front ++ back)) ∙ ap (little_from at size) (drop_at front back n e)
-
-little_from-front : (i n : ℕ) (front back : List ℕ) → i + n ≤ length front → little_from i n (front ++ back) ≡ little_from i n front
-little_from-front i zero front back h = refl
-little_from-front i (suc n) front back h =
-    let head : get_or (front ++ back) i 0 ≡ get_or front i 0 = get_or_append_left front back 0 i (omega arith) in
-    let rest = little_from-front (suc i) n front back (omega arith) in
-    rw (head, rest) refl
-
--- a number in the front
-pub number_front : (at size : ℕ) (front back : List ℕ) → at + size ≤ length front → number at size (front ++ back) ≡ number at size front
-unfolding number
-number_front at size front back h = little_from-front at size front back h
 
 pub length_word : (x : ℕ) → length (word x) ≡ 4
 unfolding word
@@ -37,12 +20,12 @@ unfolding half
 length_half x = length-bytes_low_first 0 2 x
 
 pub number_word : (x : ℕ) (rest : List ℕ) → x < 2 ^ 32 → number 0 4 (word x ++ rest) ≡ x
-unfolding number word
-number_word x rest h = little_number-reads_back 4 x rest h
+unfolding word
+number_word x rest h = number_back 4 x rest h
 
 pub number_half : (x : ℕ) (rest : List ℕ) → x < 2 ^ 16 → number 0 2 (half x ++ rest) ≡ x
-unfolding number half
-number_half x rest h = little_number-reads_back 2 x rest h
+unfolding half
+number_half x rest h = number_back 2 x rest h
 
 number_last : (x : ℕ) → x < 2 ^ 32 → number 0 4 (word x) ≡ x
 number_last x h = ap (number 0 4) (sym (append-nil (word x))) ∙ number_word x [] h

@@ -1,7 +1,8 @@
 -- What is written is read back: fields and sections.
 use Rattle.std.proofs.Common.{◌≡◌, ◌≤◌, ◌<◌, ◌+◌, ◌*◌, ◌^◌, ℕ, List, [], ◌∷◌, ◌++◌, length, replicate, refl, sym, ap, ◌∙◌, arith, append_assoc, length-append}
 use Rattle.std.proofs.lemmas.List.{length-replicate, append-nil}
-use Rattle.elf_section.specs.Bytes.{number}
+use Rattle.byte_images.specs.Fields.{number}
+use Rattle.byte_images.proofs.FieldLaws.{number_behind, number_front}
 use Rattle.elf_section.specs.File.{section_len, class_of, header_in, header, section, section_in}
 use Rattle.elf_section.specs.Written.{half, word, header_bytes, symbol_bytes, section_bytes, entries, symbol_table, string_table, section_names, padding_len, table_len, strings_len, names_at, sections_at, section_headers, written, IsWritable}
 use Rattle.elf_section.specs.declared.file.Class.{Class}
@@ -9,7 +10,7 @@ use Rattle.elf_section.specs.declared.file.Class.TheVariants.{Elf32}
 use Rattle.elf_section.specs.declared.file.Header.{Header}
 use Rattle.elf_section.specs.Symbol.{PlainSymbol}
 use Rattle.elf_section.proofs.WritingLaws.{regroup4, names_short}
-use Rattle.elf_section.proofs.FieldLaws.{number_behind, number_front, length_half, number_word, number_half, length_section, section_written, length_symbol, skip, skip_half, length_more, number_last_half}
+use Rattle.elf_section.proofs.FieldLaws.{length_half, number_word, number_half, length_section, section_written, length_symbol, skip, skip_half, length_more, number_last_half}
 
 half_more : (x : ℕ) (rest : List ℕ) (n : ℕ) → length rest ≡ n → length (half x ++ rest) ≡ 2 + n
 half_more x rest n e = let a = length-append (half x) rest in let b = length_half x in omega (arith, a, b, e)

@@ -1,7 +1,7 @@
 -- From row to row.
 use Rattle.std.proofs.Common.{◌≡◌, ◌≤◌, ◌<◌, ◌+◌, inl, inr, ℕ, zero, suc, List, refl, sym, ap, subst, ◌∙◌, arith}
 use Rattle.std.proofs.lemmas.Bool.{cases_lt}
-use Rattle.elf_section.specs.First.{Place, Before, FirstToFail}
+use Rattle.byte_images.proofs.FirstLaws.{one_first_check}
 use Rattle.elf_section.specs.Checks.{Check, is_elf, has_class, is_little, has_header, has_sections, has_entry_size, has_section_headers, has_names, has_section_name, has_defmt, has_symbols, has_table, has_plain_strings, has_strings, has_symbol_name, has_version, has_encoding, place, Holds, refusal, Refusal, Passes, Refused, Passed}
 
 -- ---- checks by their places
@@ -120,19 +120,6 @@ refuse_at file n i p row index before fails = record {
 }
 
 -- ---- exactly one answer
-
--- the first check that fails is one
-pub one_first_check : {C : Type 0} {spot : C → Place} {P : C → Type 0} → ((a b : C) → (spot a).row ≡ (spot b).row → (spot a).index ≡ (spot b).index → a ≡ b) → (a b : C) → FirstToFail spot P a → FirstToFail spot P b → a ≡ b
-one_first_check {spot = spot} same a b x y =
-    let not_before : Before (spot a) (spot b) → ⊥ = λ h. x.fails (y.earlier a h) in
-    let not_after : Before (spot b) (spot a) → ⊥ = λ h. y.fails (x.earlier b h) in
-    let row_le : (spot b).row ≤ (spot a).row = elim (cases_lt (spot a).row (spot b).row) [ inl l ↦ absurd (not_before (inl l)) | inr le ↦ le ] in
-    let row_ge : (spot a).row ≤ (spot b).row = elim (cases_lt (spot b).row (spot a).row) [ inl l ↦ absurd (not_after (inl l)) | inr le ↦ le ] in
-    let row : (spot a).row ≡ (spot b).row = omega arith in
-    let index_le : (spot b).index ≤ (spot a).index = elim (cases_lt (spot a).index (spot b).index) [ inl l ↦ absurd (not_before (inr (row, l))) | inr le ↦ le ] in
-    let index_ge : (spot a).index ≤ (spot b).index = elim (cases_lt (spot b).index (spot a).index) [ inl l ↦ absurd (not_after (inr (sym row, l))) | inr le ↦ le ] in
-    let index : (spot a).index ≡ (spot b).index = omega arith in
-    same a b row index
 
 pub one_refusal : (file : List ℕ) (f g : Refusal) → Refused file f → Refused file g → f ≡ g
 one_refusal file f g a b = a.is ∙ ap (refusal file) (one_first_check same_place a.check b.check a.first b.first) ∙ sym b.is

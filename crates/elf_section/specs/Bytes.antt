@@ -1,11 +1,6 @@
--- Numbers and texts in bytes (ELF gABI, "Data Representation" and "String Table").
+-- Texts in bytes (ELF gABI, "String Table").
 use Rattle.std.specs.Prelude.{◌≡◌, ℕ, suc, List, [], ◌∷◌, ◌++◌, ◌==◌, ◌+◌, ◌*◌, ◌/◌, ◌<◌, ◌^◌, length, drop, slice_index, Option, Some, None, option_map, ◌⊎◌, if◌then◌else◌}
 use Rattle.std.specs.Borrow.{Bor}
-use Rattle.byteorder.specs.Endian.{little_from}
-
--- the number in `size` bytes from place `at`, the lowest byte first; past the end stand zeros
-unfoldable pub number : ℕ → ℕ → List ℕ → ℕ
-number at size bytes = little_from at size bytes
 
 -- what stands before the first zero
 unfoldable pub to_zero : List ℕ → Option (List ℕ)

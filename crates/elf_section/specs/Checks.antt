@@ -2,8 +2,8 @@
 -- Fields and types are those of the ELF gABI; the two marker symbols are defmt's (defmt book, "Interning").
 use Rattle.std.specs.Prelude.{◌≡◌, ◌≤◌, ◌<◌, ◌+◌, ◌*◌, ◌%◌, ◌⊎◌, ℕ, List, [], ◌∷◌, ◌++◌, length, take, slice_index, Option, Some, None, IsSome, codes, Result, Ok, Err, ⊤, Bool, true, false}
 use Rattle.std.specs.Borrow.{Bor}
+use Rattle.byte_images.specs.First.{Place, FirstToFail}
 use Rattle.elf_section.specs.Bytes.{IsUnquoted}
-use Rattle.elf_section.specs.First.{Place, FirstToFail}
 use Rattle.elf_section.specs.File.{header_len, section_len, symbol_len, class_of, header, section, Fits, section_name, IsPlain, IsDefmt, IsSymbols, strings, count, symbol_name}
 use Rattle.elf_section.specs.declared.fault.Part.{Part}
 use Rattle.elf_section.specs.declared.fault.Part.TheVariants as parts

@@ -1,6 +1,7 @@
 -- The fields of an ELF file, as numbers at places (ELF gABI, "ELF Header", "Sections", "String Table", "Symbol Table").
 use Rattle.std.specs.Prelude.{◌≡◌, ◌≤◌, ◌<◌, ◌+◌, ◌*◌, ◌/◌, ℕ, List, ◌==◌, length, take, drop, slice_index, Option, Some, if◌then◌else◌, codes, bit_and}
-use Rattle.elf_section.specs.Bytes.{number, text_at}
+use Rattle.byte_images.specs.Fields.{number}
+use Rattle.elf_section.specs.Bytes.{text_at}
 use Rattle.elf_section.specs.declared.file.Class.{Class}
 use Rattle.elf_section.specs.declared.file.Class.TheVariants.{Elf32, Elf64}
 use Rattle.elf_section.specs.declared.file.Header.{Header}

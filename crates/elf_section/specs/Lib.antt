@@ -1,5 +1,4 @@
 pub mod Bytes
-pub mod First
 pub mod File
 pub mod Checks
 pub mod Symbol

@@ -3,7 +3,7 @@
 ghost use Rattle.std.specs.Prelude.{◌≡◌, ◌≤◌, ◌<◌, ◌+◌, ◌*◌, ◌^◌, length};
 ghost use Rattle.elf_section.specs.File.{class_of, header_len, section_len, symbol_len, header_in, section_in, symbol_in};
 
-use crate::bytes::{half_at, long_at, word_at};
+use byte_images::{half_at, long_at, word_at};
 
 /// The type of a symbol table.
 pub const SHT_SYMTAB: u64 = 2;

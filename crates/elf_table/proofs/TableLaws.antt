@@ -6,16 +6,16 @@ use Rattle.std.proofs.lemmas.Option.{slice_get_within, slice_get-map}
 use Rattle.std.specs.Cmp.{nat_cmp_total}
 use Rattle.std.specs.FinMap.{nat_cmp-IsAntisymmetric, get-empty, same_map}
 use Rattle.std.specs.FinMap as map
+use Rattle.byte_images.specs.First.{FirstToFail}
+use Rattle.byte_images.proofs.FirstLaws.{one_first_check}
 use Rattle.defmt_intern.specs.declared.entry.Entry.{Entry}
 use Rattle.defmt_intern.specs.declared.entry.Tag.TheVariants.{Timestamp}
 use Rattle.defmt_intern.specs.Name.{Names}
 use Rattle.defmt_intern.specs.Table.{Map, InsertRefused, EntryRefused, IsStamp}
 use Rattle.defmt_intern.proofs.NameLaws.{one_name}
 use Rattle.defmt_intern.proofs.TableLaws.{here, apart}
-use Rattle.elf_section.specs.First.{Place, Before, FirstToFail}
 use Rattle.elf_section.specs.Symbol.{PlainSymbol, plain, plain_all}
 use Rattle.elf_section.specs.declared.symbols.Symbol.{Symbol}
-use Rattle.elf_section.proofs.Stages.{one_first_check}
 use Rattle.elf_table.specs.Names.{At, NameCheck, has_entry, is_small, is_single, is_short, is_one_stamp, place, cause_of, Holds, IsTableOf, NamesRefused, Made, IsUnread, StepRefused, Puts}
 
 pub same_there : {X : Type 0} (o : Option X) (a b : X) → o ≡ Some a → o ≡ Some b → a ≡ b

@@ -1,11 +1,11 @@
 -- The table that symbols name (defmt book, "Interning": a symbol of `.defmt` has the entry as its name and the index as its value).
 use Rattle.std.specs.Prelude.{◌≡◌, ◌≢◌, ◌≤◌, ◌<◌, ◌⊎◌, ℕ, List, length, Option, Some, None, slice_get, Result, Ok, Err, ⊤}
 use Rattle.std.specs.FinMap as map
+use Rattle.byte_images.specs.First.{Place, FirstToFail}
 use Rattle.defmt_intern.specs.declared.entry.Entry.{Entry}
 use Rattle.defmt_intern.specs.declared.entry.Tag.TheVariants.{Timestamp}
 use Rattle.defmt_intern.specs.Name.{Names}
 use Rattle.defmt_intern.specs.Table.{Map, InsertRefused}
-use Rattle.elf_section.specs.First.{Place, FirstToFail}
 use Rattle.elf_section.specs.Checks.{Refused}
 use Rattle.elf_section.specs.Listed.{Lists}
 use Rattle.elf_section.specs.Symbol.{PlainSymbol}

@@ -4,8 +4,8 @@ use Rattle.std.specs.Prelude.{Ok, None}
 use Rattle.std.specs.List.{All, flat_map}
 use Rattle.std.proofs.lemmas.List.{drop_at, length-take-le}
 use Rattle.std.proofs.lemmas.Bool.{le-ltb}
-use Rattle.byteorder.specs.Endian.{little_number, little_bytes}
-use Rattle.byteorder.specs.Numbers.{little_number-reads_back}
+use Rattle.byte_images.specs.Fields.{number}
+use Rattle.byte_images.proofs.FieldLaws.{number_behind, number_back}
 use Rattle.rtt_control.specs.declared.block.Block.{Block}
 use Rattle.rtt_control.specs.declared.block.Descriptor.{Descriptor}
 use Rattle.rtt_control.specs.Layout.{word, word_bytes, descriptor_at, descriptors_at, descriptor_bytes, id, block_bytes, block_len, lists_at, with_bytes, starts_with_id, IsWords}
@@ -14,8 +14,11 @@ use Rattle.rtt_control.proofs.PartLemmas.{length_with, length_word, length_descr
 
 -- the word at the end of some bytes
 pub word_back : (xs ys : List ℕ) (n at : ℕ) → n < 4294967296 → length xs ≡ at → word (xs ++ (word_bytes n ++ ys)) at ≡ n
-unfolding word word_bytes
-word_back xs ys n at small e = ap (little_number 4) (drop_at xs (little_bytes 4 n ++ ys) at e) ∙ little_number-reads_back 4 n ys small
+unfolding word_bytes
+word_back xs ys n at small e =
+    let bytes : List ℕ = xs ++ (word_bytes n ++ ys) in
+    let behind : number (at + 0) 4 bytes ≡ number 0 4 (word_bytes n ++ ys) = number_behind xs (word_bytes n ++ ys) at 0 4 e in
+    ap (λ (k : ℕ). number k 4 bytes) (let k : at ≡ at + 0 = omega arith in k) ∙ behind ∙ number_back 4 n ys small
 
 pub descriptor_back : (image xs ys : List ℕ) (d : Descriptor) (at : ℕ) → IsWords d → length xs ≡ at → image ≡ xs ++ (descriptor_bytes d ++ ys) → descriptor_at image at ≡ d
 descriptor_back image xs ys d at w e is =

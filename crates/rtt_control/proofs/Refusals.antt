@@ -2,6 +2,7 @@
 use Rattle.std.proofs.Common.{◌≡◌, ◌∙◌, ℕ, ◌+◌, ◌<◌, List, [], ◌∷◌, ◌++◌, length, drop, refl, sym, ap, subst, arith, inl, inr}
 use Rattle.std.specs.Prelude.{Option, Some, None, Result, Ok, Err, IfSome, slice_get}
 use Rattle.std.proofs.lemmas.Bool.{cases_Bool, cases_lt, both_ways, lt-ltb, le-ltb}
+use Rattle.byte_images.specs.First.{Before}
 use Rattle.rtt_control.specs.declared.block.Block.{Block}
 use Rattle.rtt_control.specs.declared.block.Descriptor.{Descriptor}
 use Rattle.rtt_control.specs.declared.fault.Cause.{Cause}
@@ -9,7 +10,7 @@ use Rattle.rtt_control.specs.declared.fault.Cause.TheVariants.{NoId, Bounds, Off
 use Rattle.rtt_control.specs.declared.fault.ControlFault.{ControlFault}
 use Rattle.rtt_control.specs.declared.fault.ControlFault.TheVariants.{Refused, Memory}
 use Rattle.rtt_control.specs.Layout.{block_bytes, block_len, block_of, downs_at, starts_with_id, ups_at, waiting, with_bytes}
-use Rattle.rtt_control.specs.Checks.{Before, Check, HasBlock, HasId, HasMode, HasOffsets, HasSpace, Holds, IsFirstRefusal, IsRefusal, LiesIn, Passes, Subject, place, read_subject, refused, unread_subject, write_subject, has_id, has_room, lies_in, has_offsets, has_mode}
+use Rattle.rtt_control.specs.Checks.{Check, HasBlock, HasId, HasMode, HasOffsets, HasSpace, Holds, IsFirstRefusal, IsRefusal, LiesIn, Passes, Subject, place, read_subject, refused, unread_subject, write_subject, has_id, has_room, lies_in, has_offsets, has_mode}
 use Rattle.rtt_control.specs.Control.{IsAnswer, block_at, first_refusal, unless, unread_of, written}
 use Rattle.rtt_control.proofs.CheckLemmas.{FailsWith, IsGood, all_good, first_bad}
 use Rattle.rtt_control.proofs.IdLemmas.{starts_with_id-Decides}

@@ -1,5 +1,6 @@
 -- The checks of a control block in their order, and the refusal of each.
-use Rattle.std.specs.Prelude.{◌≡◌, ◌⊎◌, ◌+◌, ◌-◌, ◌%◌, ◌<◌, ◌≤◌, ℕ, List, ◌∷◌, [], ◌++◌, length, take, drop, IfSome, slice_get}
+use Rattle.std.specs.Prelude.{◌≡◌, ◌+◌, ◌-◌, ◌%◌, ◌<◌, ◌≤◌, ℕ, List, ◌∷◌, [], ◌++◌, length, take, drop, IfSome, slice_get}
+use Rattle.byte_images.specs.First.{Place, FirstToFail}
 use Rattle.rtt_control.specs.declared.block.Block.{Block}
 use Rattle.rtt_control.specs.declared.block.Descriptor.{Descriptor}
 use Rattle.rtt_control.specs.declared.fault.Cause.{Cause}
@@ -18,20 +19,6 @@ number_of TwoIds = 5
 
 abbrev pub refused : Cause → ℕ → ControlFault
 refused cause place = Refused (number_of cause) place
-
--- ---- checks in an order: by a row, and in a row by an index
-
-pub record Place : Type 0 where
-  pub row : ℕ
-  pub index : ℕ
-
-abbrev pub Before : Place → Place → Type 0
-Before p q = (p.row < q.row) ⊎ ((p.row ≡ q.row) × (p.index < q.index))
-
--- the first check that doesn't hold
-pub record FirstToFail {C : Type 0} (place : C → Place) (Holds : C → Type 0) (check : C) : Type 0 where
-  pub fails : Holds check → ⊥
-  pub earlier : (other : C) → Before (place other) (place check) → Holds other
 
 -- ---- the checks
 

@@ -1,7 +1,8 @@
 -- What a control block and its bytes are, after `SEGGER_RTT_CB` and `SEGGER_RTT_BUFFER_UP` of SEGGER RTT for targets of 32 bits.
 use Rattle.std.specs.Prelude.{◌+◌, ◌-◌, ◌*◌, ◌%◌, ◌<◌, ◌==◌, if◌then◌else◌, ℕ, zero, suc, Bool, List, [], ◌∷◌, ◌++◌, length, take, drop, slice_index, nat_eq}
 use Rattle.std.specs.List.{flat_map, starts_with}
-use Rattle.byteorder.specs.Endian.{little_number, little_bytes}
+use Rattle.byteorder.specs.Endian.{little_bytes}
+use Rattle.byte_images.specs.Fields.{number}
 use Rattle.rtt_control.specs.declared.block.Block.{Block}
 use Rattle.rtt_control.specs.declared.block.Descriptor.{Descriptor}
 
@@ -13,9 +14,9 @@ id = 83 ∷ 69 ∷ 71 ∷ 71 ∷ 69 ∷ 82 ∷ 32 ∷ 82 ∷ 84 ∷ 84 ∷ 0 ∷
 unfoldable pub starts_with_id : List ℕ → Bool
 starts_with_id image = starts_with nat_eq image id
 
--- the number of the four bytes at a place, the lowest first
-unfoldable pub word : List ℕ → ℕ → ℕ
-word image at = little_number 4 (drop at image)
+-- the number in the four bytes at a place
+abbrev pub word : List ℕ → ℕ → ℕ
+word image at = number at 4 image
 
 -- the descriptor of the 24 bytes at a place
 abbrev pub descriptor_at : List ℕ → ℕ → Descriptor

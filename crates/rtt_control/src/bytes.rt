@@ -1,9 +1,10 @@
 //! Numbers and parts of an image.
 ghost use Rattle.std.specs.Prelude.{◌≡◌, ◌+◌, ◌*◌, ◌^◌, ◌<◌, ◌≤◌, length, All};
 ghost use Rattle.std.specs.List.{flat_map};
-ghost use Rattle.rtt_control.specs.Layout.{IsWords, descriptor_at, descriptor_bytes, id, starts_with_id, with_bytes, word, word_bytes};
+ghost use Rattle.rtt_control.specs.Layout.{IsWords, descriptor_at, descriptor_bytes, id, starts_with_id, with_bytes, word_bytes};
 
 use crate::block::Descriptor;
+use byte_images::word_at;
 use byteorder::{ByteOrder, LittleEndian};
 
 /// The 16 bytes at the head of a control block, `acID` of SEGGER RTT: `SEGGER RTT` and six zeros.
@@ -17,27 +18,18 @@ pub(crate) fn has_id(image: &[u8]) -> bool
     image.starts_with(&ID)
 }
 
-// The number at a place.
-#[tactic(auto, unfolding(crate::specs::Layout::word))]
-pub(crate) fn word_at(image: &[u8], at: usize) -> u32
-    requires { at + 4 ≤ length image.now }
-    ensures { result ≡ word image.now at }
-{
-    LittleEndian::read_u32(&image[at..])
-}
-
 // The descriptor at a place.
 pub(crate) fn read_descriptor(image: &[u8], at: usize) -> Descriptor
     requires { at + 24 ≤ length image.now }
     ensures { result ≡ descriptor_at image.now at }
 {
     Descriptor {
-        name: word_at(image, at),
-        start: word_at(image, at + 4),
-        size: word_at(image, at + 8),
-        wr: word_at(image, at + 12),
-        rd: word_at(image, at + 16),
-        flags: word_at(image, at + 20),
+        name: word_at(image, at) as u32,
+        start: word_at(image, at + 4) as u32,
+        size: word_at(image, at + 8) as u32,
+        wr: word_at(image, at + 12) as u32,
+        rd: word_at(image, at + 16) as u32,
+        flags: word_at(image, at + 20) as u32,
     }
 }
 

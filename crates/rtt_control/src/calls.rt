@@ -5,9 +5,10 @@ ghost use Rattle.rtt_control.specs.Ids.{IsFindFault, IsOnly};
 ghost use Rattle.rtt_control.specs.Control.{IsAnswer, block_at, found, unread_of, written};
 
 use crate::block::{Block, Descriptor, Descriptors};
-use crate::bytes::{ID, has_id, put, put_descriptors, put_words, read_descriptor, word_at};
+use crate::bytes::{ID, has_id, put, put_descriptors, put_words, read_descriptor};
 use crate::checks::{cause, check_all, has_space};
 use crate::fault::{Cause, ControlFault};
+use byte_images::word_at;
 use dl_io::{Bytes, Memory};
 use std::alloc::Global;
 

@@ -1,5 +1,0 @@
-use Rattle.elf_section.proofs.BytesLaws.{number_found}
-use Rattle.elf_section.proofs.bytes.long_at.Goals as goal
-
-pub returns : goal.returns
-returns c = number_found c.args.at 8 _ c.args.bytes.now c.read_u64.ensures
