@@ -66,7 +66,7 @@ class_of_bytes : (so : ℕ) (back : List ℕ) → class_of (header_bytes so ++ b
 unfolding class_of
 class_of_bytes so back = refl
 
-regroup3 : (a b c d : List ℕ) → a ++ (b ++ (c ++ d)) ≡ (a ++ (b ++ c)) ++ d
+pub regroup3 : (a b c d : List ℕ) → a ++ (b ++ (c ++ d)) ≡ (a ++ (b ++ c)) ++ d
 regroup3 a b c d = simp append_assoc
 
 last4 : (a b c d e : List ℕ) → a ++ (b ++ (c ++ (d ++ e))) ≡ (a ++ (b ++ (c ++ d))) ++ (e ++ [])

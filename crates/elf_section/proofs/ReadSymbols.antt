@@ -17,12 +17,9 @@ use Rattle.elf_section.specs.declared.file.Section.{Section}
 use Rattle.elf_section.specs.declared.file.RawSymbol.{RawSymbol}
 use Rattle.elf_section.specs.Symbol.{PlainSymbol}
 use Rattle.elf_section.proofs.FieldLaws.{length_symbol, symbol_written, NoZero, text_there, part_there}
-use Rattle.elf_section.proofs.ReadBack.{F, H, Z, length_header, length_table, length_strings, class_is, header_is, section_0, section_1, section_2, section_3, section_4, length_F as length_of, whole}
+use Rattle.elf_section.proofs.ReadBack.{F, H, Z, regroup3, length_header, length_table, length_strings, class_is, header_is, section_0, section_1, section_2, section_3, section_4, length_F as length_of, whole}
 use Rattle.elf_section.proofs.SectionLaws.{for_symbols}
 use Rattle.elf_section.proofs.WritingLaws.{names_short, all_at}
-
-two_front : (a b c d : List ℕ) → a ++ (b ++ (c ++ d)) ≡ (a ++ (b ++ c)) ++ d
-two_front a b c d = simp append_assoc
 
 -- ---- symbol p of the list
 
@@ -147,7 +144,7 @@ module _ (xs : List PlainSymbol) (w : IsWritable xs) (keeps : KeepsMarkers xs) w
   names_are : contents (F xs w) (section (F xs w) 4) ≡ section_names
   names_are =
       ap (contents (F xs w)) (section_4 xs w)
-      ∙ ap (λ (t : List ℕ). take 34 (drop (names_at xs) t)) (two_front (H xs w) (symbol_table xs) (string_table xs) (section_names ++ (Z xs w ++ section_headers xs)))
+      ∙ ap (λ (t : List ℕ). take 34 (drop (names_at xs) t)) (regroup3 (H xs w) (symbol_table xs) (string_table xs) (section_names ++ (Z xs w ++ section_headers xs)))
       ∙ part_there (H xs w ++ (symbol_table xs ++ string_table xs)) section_names (Z xs w ++ section_headers xs) (names_at xs) 34
       (let a = length-append (H xs w) (symbol_table xs ++ string_table xs) in let d = length-append (symbol_table xs) (string_table xs) in let b = length_header (sections_at xs) in let c = length_table xs in let e = length_strings xs in omega (arith, a, b, c, d, e)) refl
 

@@ -38,7 +38,31 @@ pub enum Cause {
     Encoding,
 }
 
+impl Part {
+    // The refusal of a file in which this part isn't where it ought to be.
+    pub(crate) fn outside(self, place: u32) -> Fault
+        ensures { result ≡ record { cause = Cause.Bounds; part = self; place = place } }
+    {
+        Fault {
+            cause: Cause::Bounds,
+            part: self,
+            place,
+        }
+    }
+}
+
 impl Cause {
+    // The refusal with this cause, which has no place.
+    pub(crate) fn alone(self) -> Fault
+        ensures { result ≡ record { cause = self; part = Part.Nothing; place = 0 } }
+    {
+        Fault {
+            cause: self,
+            part: Part::Nothing,
+            place: 0,
+        }
+    }
+
     pub fn number(self) -> u8
         ensures { result ≡ number_of self }
     {

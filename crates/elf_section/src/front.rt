@@ -74,53 +74,25 @@ pub fn check_front(file: &[u8]) -> Result<(), Fault>
     ensures { Goes file.now 7 result }
 {
     if !is_elf(file) {
-        return Err(Fault {
-            cause: Cause::Magic,
-            part: Part::Nothing,
-            place: 0,
-        });
+        return Err(Cause::Magic.alone());
     }
     if !has_class(file) {
-        return Err(Fault {
-            cause: Cause::Class,
-            part: Part::Nothing,
-            place: 0,
-        });
+        return Err(Cause::Class.alone());
     }
     if !is_little(file) {
-        return Err(Fault {
-            cause: Cause::Order,
-            part: Part::Nothing,
-            place: 0,
-        });
+        return Err(Cause::Order.alone());
     }
     if !has_header(file) {
-        return Err(Fault {
-            cause: Cause::Bounds,
-            part: Part::Header,
-            place: 0,
-        });
+        return Err(Part::Header.outside(0));
     }
     if !has_sections(file) {
-        return Err(Fault {
-            cause: Cause::NoSection,
-            part: Part::Nothing,
-            place: 0,
-        });
+        return Err(Cause::NoSection.alone());
     }
     if !has_entry_size(file) {
-        return Err(Fault {
-            cause: Cause::Bounds,
-            part: Part::Header,
-            place: 1,
-        });
+        return Err(Part::Header.outside(1));
     }
     if !has_section_headers(file) {
-        return Err(Fault {
-            cause: Cause::Bounds,
-            part: Part::Sections,
-            place: 0,
-        });
+        return Err(Part::Sections.outside(0));
     }
     Ok(())
 }

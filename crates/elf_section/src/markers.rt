@@ -5,7 +5,7 @@ ghost use Rattle.elf_section.specs.Checks.{Passed, Goes, SaysIn, HasMarker};
 ghost use Rattle.elf_section.specs.Table.{IsOpen};
 
 use crate::bytes::{behind, unquoted};
-use crate::fault::{Cause, Fault, Part};
+use crate::fault::{Cause, Fault};
 use crate::table::{SymbolTable, symbol_name};
 
 /// What a symbol says behind a front.
@@ -45,18 +45,10 @@ pub fn check_markers(file: &[u8], table: &SymbolTable<'_>) -> Result<(), Fault>
     ensures { Goes file.now 17 result }
 {
     if !has_marker(file, table, b"_defmt_version_ = ", b"4") {
-        return Err(Fault {
-            cause: Cause::Version,
-            part: Part::Nothing,
-            place: 0,
-        });
+        return Err(Cause::Version.alone());
     }
     if !has_marker(file, table, b"_defmt_encoding_ = ", b"rzcobs") {
-        return Err(Fault {
-            cause: Cause::Encoding,
-            part: Part::Nothing,
-            place: 0,
-        });
+        return Err(Cause::Encoding.alone());
     }
     Ok(())
 }

@@ -57,11 +57,7 @@ pub fn check_names(file: &[u8]) -> Result<(), Fault>
     if has_names(file) {
         Ok(())
     } else {
-        Err(Fault {
-            cause: Cause::Bounds,
-            part: Part::Names,
-            place: header_of(file).shstrndx as u32,
-        })
+        Err(Part::Names.outside(header_of(file).shstrndx as u32))
     }
 }
 
@@ -93,11 +89,7 @@ pub fn check_section_names(file: &[u8], names: &StringTable<'_>) -> Result<(), F
 {
     for i in 0..header_of(file).shnum {
         if section_name(file, names, i).is_none() {
-            return Err(Fault {
-                cause: Cause::Bounds,
-                part: Part::SectionName,
-                place: i as u32,
-            });
+            return Err(Part::SectionName.outside(i as u32));
         }
     }
     Ok(())
@@ -126,11 +118,7 @@ pub fn find_defmt(file: &[u8], names: &StringTable<'_>) -> Result<u64, Fault>
             return Ok(i);
         }
     }
-    Err(Fault {
-        cause: Cause::NoSection,
-        part: Part::Nothing,
-        place: 0,
-    })
+    Err(Cause::NoSection.alone())
 }
 
 fn is_symbols(file: &[u8], i: u64) -> bool
@@ -153,9 +141,5 @@ pub fn find_symbols(file: &[u8]) -> Result<u64, Fault>
             return Ok(i);
         }
     }
-    Err(Fault {
-        cause: Cause::NoSymbols,
-        part: Part::Nothing,
-        place: 0,
-    })
+    Err(Cause::NoSymbols.alone())
 }

@@ -49,27 +49,15 @@ pub fn check_table(file: &[u8], i: u64) -> Result<(), Fault>
     ensures { Goes file.now 14 result }
 {
     if !is_table(file, i) {
-        return Err(Fault {
-            cause: Cause::Bounds,
-            part: Part::Symbols,
-            place: i as u32,
-        });
+        return Err(Part::Symbols.outside(i as u32));
     }
     let link = section(file, i).link;
     let strings = section(file, link);
     if strings.flags & SHF_COMPRESSED != 0 {
-        return Err(Fault {
-            cause: Cause::NoSymbols,
-            part: Part::Nothing,
-            place: 0,
-        });
+        return Err(Cause::NoSymbols.alone());
     }
     if !fits(file, &strings) {
-        return Err(Fault {
-            cause: Cause::Bounds,
-            part: Part::Strings,
-            place: link as u32,
-        });
+        return Err(Part::Strings.outside(link as u32));
     }
     Ok(())
 }
@@ -127,11 +115,7 @@ pub fn check_symbol_names(file: &[u8], table: &SymbolTable<'_>) -> Result<(), Fa
 {
     for k in 1..table.count {
         if symbol_name(file, table, k).is_none() {
-            return Err(Fault {
-                cause: Cause::Bounds,
-                part: Part::SymbolName,
-                place: k as u32,
-            });
+            return Err(Part::SymbolName.outside(k as u32));
         }
     }
     Ok(())
