@@ -9,5 +9,5 @@ mod table;
 
 pub use entry::{Entry, Tag};
 pub use name::{NameFault, NameKey, read_name, symbol_name};
-pub use parsed::{Forms, Parsed, pieces_are_spelled};
+pub use parsed::{Forms, Parsed, count_bars, cut_variant, pieces_are_spelled};
 pub use table::{Entries, Table, TableFault};

@@ -88,8 +88,8 @@ fn pieces_of(alloc: Global, text: &str) -> Result<Option<Pieces>, Memory>
     }
 }
 
-/// What stands before and after the first `|`.
-fn cut(text: &str) -> Option<(&str, &str)>
+/// The first variant of a text that `|` cuts, and the text behind its `|`. Takes no memory.
+pub fn cut_variant(text: &str) -> Option<(&str, &str)>
     ensures parts { StartsWith text.now result }
     ensures utf8 { IfSome result (λ parts. IsUtf8 parts.1.now) }
 {
@@ -103,7 +103,7 @@ fn forms_of(alloc: Global, text: &str) -> Result<Option<Forms>, Memory>
 {
     let mut forms = Forms::new(alloc);
     let mut rest = text;
-    'variants: while let Some((variant, after)) = cut(rest) {
+    'variants: while let Some((variant, after)) = cut_variant(rest) {
         let Some(pieces) = pieces_of(alloc, variant)? else {
             return Ok(None);
         };
@@ -117,8 +117,8 @@ fn forms_of(alloc: Global, text: &str) -> Result<Option<Forms>, Memory>
     Ok(Some(forms))
 }
 
-/// How many `|` a text has.
-fn count_bars(text: &str) -> usize
+/// How many `|` a text has. Takes no memory.
+pub fn count_bars(text: &str) -> usize
     ensures { result ≡ count_by (λ c. c == 124) text.now }
 {
     text.as_bytes().iter().filter(|c| **c == b'|').count()

@@ -1,13 +1,12 @@
 //! Whether a text may stand in an `s` line.
 
-ghost use Rattle.std.specs.Prelude.{◌≡◌, ◌<◌, ◌^◌, ◌==◌, ◌∷◌, [], ℕ, List, Option, length, count_by, IfOk, IfSome};
-ghost use Rattle.std.specs.Str.{IsUtf8};
-ghost use Rattle.defmt_intern.specs.Body.{StartsWith, variants};
+ghost use Rattle.std.specs.Prelude.{◌≡◌, ◌<◌, ◌^◌, ◌∷◌, [], ℕ, List, Option, length, IfOk};
+ghost use Rattle.defmt_intern.specs.Body.{variants};
 ghost use Rattle.defmt_intern.specs.declared.entry.Tag.{Tag as AnyTag};
 ghost use Rattle.defmt_lines.specs.Verdict.{Judges, JudgesForms, JudgesVariants};
 
 use defmt_grammar::{GrammarFault, Mode, one_answer, parse};
-use defmt_intern::Tag;
+use defmt_intern::{Tag, count_bars, cut_variant};
 use dl_io::Memory;
 use std::alloc::Global;
 
@@ -50,21 +49,6 @@ fn judge_form(alloc: Global, text: &str) -> Result<Option<u8>, Memory>
     }
 }
 
-// How many `|` a text has.
-fn count_bars(text: &str) -> usize
-    ensures { result ≡ count_by (λ c. c == 124) text.now }
-{
-    text.as_bytes().iter().filter(|c| **c == b'|').count()
-}
-
-// What stands before and after the first `|`.
-fn cut(text: &str) -> Option<(&str, &str)>
-    ensures parts { StartsWith text.now result }
-    ensures utf8 { IfSome result (λ parts. IsUtf8 parts.1.now) }
-{
-    text.split_once('|')
-}
-
 fn judge_variants(alloc: Global, text: &str) -> Result<Option<u8>, Memory>
     requires { length text.now < 2 ^ 32 }
     ensures { IfOk result (λ verdict. JudgesVariants (variants text.now) verdict) }
@@ -81,7 +65,7 @@ fn judge_forms(alloc: Global, text: &str) -> Result<Option<u8>, Memory>
     ensures { IfOk result (λ verdict. JudgesForms (variants text.now) verdict) }
 {
     let mut rest = text;
-    'variants: while let Some((variant, after)) = cut(rest) {
+    'variants: while let Some((variant, after)) = cut_variant(rest) {
         let verdict = judge_form(alloc, variant)?;
         if verdict.is_some() {
             return Ok(verdict);
