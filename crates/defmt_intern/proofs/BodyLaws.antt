@@ -5,6 +5,7 @@ use Rattle.std.specs.Prelude.{count_by}
 use Rattle.std.proofs.lemmas.Bool.Decides.{nat_tests}
 use Rattle.std.proofs.lemmas.List.Recursion.{is_count_by}
 use Rattle.std.proofs.lemmas.Str.Pattern.{IsSplitOnceResult, split_parts}
+use Rattle.std.proofs.lemmas.Bool.{ne_eqb}
 use Rattle.defmt_grammar.specs.declared.fault.Mode.{Mode}
 use Rattle.defmt_grammar.specs.declared.fault.Mode.TheVariants.{Lenient}
 use Rattle.defmt_grammar.specs.declared.piece.Piece.{Piece}
@@ -43,18 +44,15 @@ pieces_none mode text n = none_in mode text (decided mode text) n
 
 -- ---- variants
 
-unequal : (c d : ℕ) → c ≢ d → eqb c d ≡ false
-unequal c d n = grind (arith, nat_tests)
-
 pub variants_one : (text : List ℕ) → HasNoBar text → variants text ≡ text ∷ []
 unfolding variants
 variants_one [] h = refl
-variants_one (c ∷ cs) h = rw (unequal c 124 h.0, variants_one cs h.1) refl
+variants_one (c ∷ cs) h = rw (ne_eqb c 124 h.0, variants_one cs h.1) refl
 
 pub variants_more : (variant after : List ℕ) → HasNoBar variant → variants (variant ++ 124 ∷ after) ≡ variant ∷ variants after
 unfolding variants
 variants_more [] after h = refl
-variants_more (c ∷ cs) after h = rw (unequal c 124 h.0, variants_more cs after h.1) refl
+variants_more (c ∷ cs) after h = rw (ne_eqb c 124 h.0, variants_more cs after h.1) refl
 
 some_variant : (c : ℕ) (vs : List (List ℕ)) → 0 < length (with_char c vs)
 some_variant c [] = omega arith

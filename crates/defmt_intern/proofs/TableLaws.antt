@@ -266,7 +266,7 @@ no_refusal table v short one cause (inr x) = one x.2
 abbrev FreeNext : Map → ℕ → Type 0
 FreeNext table n = IsNext table n × (IsSome (map.get table n) → ⊥) × (IsGreatest table 65535 → ⊥)
 
-nowhere : (q : ℕ) → IsSome (map.get {X = Entry} {R = nat_cmp} map.empty q) → ⊥
+pub nowhere : (q : ℕ) → IsSome (map.get {X = Entry} {R = nat_cmp} map.empty q) → ⊥
 nowhere q h = let k : map.get {X = Entry} {R = nat_cmp} map.empty q ≡ None = get-empty nat_cmp q in let g : is_some (map.get {X = Entry} {R = nat_cmp} map.empty q) ≡ false = ap is_some k in absurd cc
 
 empty_next : FreeNext map.empty 1

@@ -1,23 +1,18 @@
 -- Numbers of digits.
-use Rattle.std.proofs.Common.{◌≡◌, [], ◌∷◌, get_or, ◌<◌, ◌≤◌, ◌^◌, ◌-◌, ◌&&◌, inl, inr, ℕ, Bool, true, false, ltb, leb, min, List, length, Result, Ok, Err, refl, arith}
+use Rattle.std.proofs.Common.{◌≡◌, [], ◌∷◌, get_or, ◌<◌, ◌≤◌, ◌^◌, ◌-◌, ◌&&◌, inl, inr, ℕ, true, ltb, leb, min, List, length, Result, Ok, Err, refl, arith}
 use Rattle.std.specs.Result.{OkIff, result_unwrap_or}
 use Rattle.std.specs.Char.{digit_value}
 use Rattle.std.specs.Str.{all_ascii_digits}
 use Rattle.std.specs.Str.Parse.{digits_value, ParsesUnsigned}
-use Rattle.std.proofs.lemmas.Bool.{cases_lt, le-ltb, leb-true, lt-ltb, ltb-true}
+use Rattle.std.proofs.lemmas.Bool.{cases_lt, le-ltb, leb-true, lt-ltb, ltb-true, and_parts}
 use Rattle.std.proofs.lemmas.Str.Parse.{parse_digits}
 use Rattle.defmt_grammar.proofs.Cuts.{own}
 use Rattle.defmt_lines.specs.Number.{is_digits}
 
-both : (a b : Bool) → (a && b) ≡ true → (a ≡ true) × (b ≡ true)
-both true true e = (refl, refl)
-both true false e = absurd cc
-both false b e = absurd cc
-
 -- one digit at least, and nothing else
 pub digits_parts : (text : List ℕ) → is_digits text ≡ true → (0 < length text) × (all_ascii_digits text ≡ true)
 unfolding is_digits
-digits_parts text e = let p = both (ltb 0 (length text)) (all_ascii_digits text) e in (ltb-true 0 (length text) p.0, p.1)
+digits_parts text e = let p = and_parts (ltb 0 (length text)) (all_ascii_digits text) e in (ltb-true 0 (length text) p.0, p.1)
 
 narrow : {E : Type 0} (r : Result ℕ E) (v m : ℕ) → 0 < m → OkIff r ((0 < m) × (v < 2 ^ 64)) v → OkIff r (v < 2 ^ 64) v
 narrow (Ok x) v m some h = (h.0.1, h.1)
@@ -46,8 +41,8 @@ one_digit [] digits one = absurd (omega arith)
 one_digit (d ∷ e ∷ text) digits one = absurd (omega arith)
 one_digit (d ∷ []) digits one =
     let all = digits_parts (d ∷ []) digits in
-    let is = both (leb 48 d && leb d 57) true all.1 in
-    let range = both (leb 48 d) (leb d 57) is.0 in
+    let is = and_parts (leb 48 d && leb d 57) true all.1 in
+    let range = and_parts (leb 48 d) (leb d 57) is.0 in
     let low : 48 ≤ d = leb-true 48 d range.0 in
     let high : d ≤ 57 = leb-true d 57 range.1 in
     record { digit = low; value = omega (arith, one_value d low (omega arith)) }

@@ -1,6 +1,6 @@
 -- What a scan passes fits, and what fits is passed, with the sum of the weights.
 use Rattle.std.proofs.Common.{◌≡◌, ◌<◌, ◌≤◌, inl, inr, ◌^◌, ◌+◌, ◌-◌, ◌*◌, ◌%◌, ◌==◌, ◌&&◌, nat_lt, nat_le, ℕ, ℤ, pos, negsuc, Bool, true, false, List, [], ◌∷◌, length, Option, Some, None, Result, Ok, Err, refl, sym, ap, ◌∙◌, subst, arith, add-zero, cond}
-use Rattle.std.proofs.lemmas.Bool.{ltb-true, leb-true, eqb-true}
+use Rattle.std.proofs.lemmas.Bool.{ltb-true, leb-true, eqb-true, and_parts}
 use Rattle.defmt_values.specs.Plain.{Val, uint, int, flag, char, str, istr, bytes, bits, format, seq, Vals, no_vals, val, Elems, no_elems, elem, elems_len, elems_empty}
 use Rattle.defmt_values.specs.Fits.{IsUint, IsInt, IsBytes, IsBits, IsInterned, IsForm, HasPieces, IsList, FitsVal, FitsVals, FitsElems, weigh_val, weigh_vals, weigh_elems}
 use Rattle.defmt_values.specs.Scan.{◌>>=◌, test, uint_cause, int_cause, flag_cause, char_cause, str_cause, istr_cause, bytes_cause, bits_cause, node_cause, list_cause, count_cause, interned_of, form_in, form_of, form_at, pick, there, add, list_form, no_index, node_places, index_or, end_of, scan_val, scan_vals, scan_elems}
@@ -35,14 +35,6 @@ tested false e h = absurd (cc)
 
 pub positive : (n : ℕ) (b : Bool) → nat_lt 0 n ≡ b → b ≡ true → 0 < n
 positive n b e h = ltb-true 0 n (e ∙ h)
-
-both_left : (a b : Bool) → (a && b) ≡ true → a ≡ true
-both_left true b h = refl
-both_left false b h = absurd (cc)
-
-both_right : (a b : Bool) → (a && b) ≡ true → b ≡ true
-both_right true b h = h
-both_right false b h = absurd (cc)
 
 abbrev done_form : Parsed → Result Parsed ℕ
 done_form f = Ok f
@@ -211,8 +203,8 @@ bits_found (slots.Bits first width) n h =
       first = first;
       width = width;
       slot_is = refl;
-      below = ltb-true n (256 ^ (first + width)) (both_left (nat_lt n (256 ^ (first + width))) (n % 256 ^ first == 0) all);
-      above = is_zero (n % 256 ^ first) (both_right (nat_lt n (256 ^ (first + width))) (n % 256 ^ first == 0) all);
+      below = ltb-true n (256 ^ (first + width)) (and_parts (nat_lt n (256 ^ (first + width))) (n % 256 ^ first == 0) all).0;
+      above = is_zero (n % 256 ^ first) (and_parts (nat_lt n (256 ^ (first + width))) (n % 256 ^ first == 0) all).1;
     }
 
 list_found : (slot : Slot) (count : ℕ) → list_cause slot ≡ Ok tt → count_cause slot count ≡ Ok tt → IsList slot count

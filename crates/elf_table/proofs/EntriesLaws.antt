@@ -1,10 +1,11 @@
 -- The entries of a map, in the order of their keys.
-use Rattle.std.proofs.Common.{◌≡◌, ◌≢◌, ◌≤◌, ◌<◌, ◌+◌, ℕ, zero, suc, Bool, true, false, cond, ◌&&◌, List, [], ◌∷◌, length, Option, Some, None, refl, sym, ap, subst, ◌∙◌, arith, nat_cmp, is_eq, is_lt, T}
+use Rattle.std.proofs.Common.{◌≡◌, ◌≢◌, ◌≤◌, ◌<◌, ◌+◌, ℕ, zero, suc, Bool, true, false, cond, List, [], ◌∷◌, length, Option, Some, None, refl, sym, ap, subst, ◌∙◌, arith, nat_cmp, is_eq, is_lt, T}
 use Rattle.std.specs.Prelude.{slice_get}
 use Rattle.std.proofs.lemmas.Bool.Decides.{nat_tests}
 use Rattle.std.specs.FinMap as map
 use Rattle.std.specs.FinMap.{find, is_sorted, entries_sorted, get-entries}
 use Rattle.std.specs.FinMap.Entries.{below_all}
+use Rattle.std.proofs.lemmas.Bool.{and_parts}
 use Rattle.defmt_intern.specs.declared.entry.Entry.{Entry}
 use Rattle.defmt_intern.specs.Table.{Map}
 
@@ -15,24 +16,20 @@ is_true : (b : Bool) → T b → b ≡ true
 is_true true h = refl
 is_true false h = absurd h
 
-parts : (a b : Bool) → (a && b) ≡ true → (a ≡ true) × (b ≡ true)
-parts true b e = (refl, e)
-parts false b e = absurd cc
-
 -- a key below all is below each
 below_at : (k : ℕ) (es : Pairs) (p : ℕ) (x : ℕ × Entry) → below_all nat_cmp k es ≡ true → slice_get es p ≡ Some x → k < x.0
 below_at k [] p x h at = absurd cc
-below_at k (e ∷ es) zero x h at = let l = (parts (is_lt (nat_cmp k e.0)) (below_all nat_cmp k es) h).0 in let same : e ≡ x = cc in subst (λ (y : ℕ × Entry). k < y.0) same (grind (arith, nat_tests))
-below_at k (e ∷ es) (suc p) x h at = below_at k es p x (parts (is_lt (nat_cmp k e.0)) (below_all nat_cmp k es) h).1 at
+below_at k (e ∷ es) zero x h at = let l = (and_parts (is_lt (nat_cmp k e.0)) (below_all nat_cmp k es) h).0 in let same : e ≡ x = cc in subst (λ (y : ℕ × Entry). k < y.0) same (grind (arith, nat_tests))
+below_at k (e ∷ es) (suc p) x h at = below_at k es p x (and_parts (is_lt (nat_cmp k e.0)) (below_all nat_cmp k es) h).1 at
 
 rises_at : (es : Pairs) (p q : ℕ) (x y : ℕ × Entry) → is_sorted nat_cmp es ≡ true → p < q → slice_get es p ≡ Some x → slice_get es q ≡ Some y → x.0 < y.0
 rises_at [] p q x y h l a b = absurd cc
 rises_at (e ∷ es) zero zero x y h l a b = absurd (omega arith)
 rises_at (e ∷ es) zero (suc q) x y h l a b =
     let same : e ≡ x = cc in
-    subst (λ (z : ℕ × Entry). z.0 < y.0) same (below_at e.0 es q y (parts (below_all nat_cmp e.0 es) (is_sorted nat_cmp es) h).0 b)
+    subst (λ (z : ℕ × Entry). z.0 < y.0) same (below_at e.0 es q y (and_parts (below_all nat_cmp e.0 es) (is_sorted nat_cmp es) h).0 b)
 rises_at (e ∷ es) (suc p) zero x y h l a b = absurd (omega arith)
-rises_at (e ∷ es) (suc p) (suc q) x y h l a b = rises_at es p q x y (parts (below_all nat_cmp e.0 es) (is_sorted nat_cmp es) h).1 (omega arith) a b
+rises_at (e ∷ es) (suc p) (suc q) x y h l a b = rises_at es p q x y (and_parts (below_all nat_cmp e.0 es) (is_sorted nat_cmp es) h).1 (omega arith) a b
 
 found_at : (es : Pairs) (p : ℕ) (x : ℕ × Entry) → is_sorted nat_cmp es ≡ true → slice_get es p ≡ Some x → find nat_cmp x.0 es ≡ Some x.1
 found_at [] p x h at = absurd cc
@@ -42,7 +39,7 @@ found_at (e ∷ es) zero x h at =
     let here : find nat_cmp e.0 (e ∷ es) ≡ Some e.1 = rw t refl in
     subst (λ (y : ℕ × Entry). find nat_cmp y.0 (e ∷ es) ≡ Some y.1) same here
 found_at (e ∷ es) (suc p) x h at =
-    let k = parts (below_all nat_cmp e.0 es) (is_sorted nat_cmp es) h in
+    let k = and_parts (below_all nat_cmp e.0 es) (is_sorted nat_cmp es) h in
     let less : e.0 < x.0 = below_at e.0 es p x k.0 at in
     let f : is_eq (nat_cmp x.0 e.0) ≡ false = grind (arith, nat_tests) in
     rw f (found_at es p x k.1 at)

@@ -1,5 +1,5 @@
 -- Symbol after symbol.
-use Rattle.std.proofs.Common.{◌≡◌, ◌≢◌, ◌≤◌, ◌<◌, ◌+◌, ◌⊎◌, inl, inr, ℕ, List, [], ◌∷◌, length, Option, Some, None, refl, sym, ap, subst, ◌∙◌, arith, nat_cmp, option_map}
+use Rattle.std.proofs.Common.{◌≡◌, ◌≢◌, ◌≤◌, ◌<◌, ◌+◌, ◌⊎◌, inl, inr, ℕ, List, length, Option, Some, None, refl, sym, ap, subst, ◌∙◌, arith, nat_cmp, option_map}
 use Rattle.std.specs.Prelude.{IsSome, is_some, slice_get}
 use Rattle.std.proofs.lemmas.Bool.{cases_lt, cases_eq}
 use Rattle.std.proofs.lemmas.Option.{slice_get_within, slice_get-map}
@@ -245,7 +245,3 @@ one_check symbols a b x y = one_first_check same_check a b x y
 
 pub symbol_at : (symbols : List Symbol) (p : ℕ) (s : Symbol) → slice_get symbols p ≡ Some s → At (plain_all symbols) p (plain s)
 symbol_at symbols p s at = slice_get-map plain symbols p ∙ ap (option_map plain) at
-
-pub length-plain_all : (symbols : List Symbol) → length (plain_all symbols) ≡ length symbols
-length-plain_all [] = refl
-length-plain_all (s ∷ symbols) = omega (arith, length-plain_all symbols)

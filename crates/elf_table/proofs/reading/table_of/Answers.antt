@@ -2,7 +2,8 @@ use Rattle.std.proofs.Common.{◌≡◌, ◌<◌, refl, sym, ap, ◌∙◌, arit
 use Rattle.std.proofs.lemmas.Option.{slice_get_read, slice_get-map}
 use Rattle.elf_section.specs.Symbol.{plain, plain_all}
 use Rattle.elf_table.specs.Names.{At, Made, Makes, StepRefused, cause_number}
-use Rattle.elf_table.proofs.TableLaws.{made_none, made_more, refuse_step, symbol_at, length-plain_all}
+use Rattle.elf_section.proofs.WritingLaws.{items}
+use Rattle.elf_table.proofs.TableLaws.{made_none, made_more, refuse_step, symbol_at}
 use Rattle.elf_table.proofs.reading.table_of.Goals as goal
 
 pub loop-p-init : goal.loop-p-init
@@ -22,5 +23,5 @@ returns-in-Err-Refused c =
 
 pub returns : goal.returns
 returns c =
-    let all : c.loop-p.p ≡ length (plain_all c.args.symbols.now) = omega (arith, length-plain_all c.args.symbols.now) in
+    let all : c.loop-p.p ≡ length (plain_all c.args.symbols.now) = omega (arith, items c.args.symbols.now) in
     subst (λ (n : ℕ). Made (plain_all c.args.symbols.now) n c.loop-p.table) all c.loop-p.invariant
