@@ -16,7 +16,9 @@ use crate::names::Names;
 use defmt_grammar::{Kind, Slot};
 use defmt_intern::{Table, Tag};
 use defmt_shapes::{Number, bytes_of, unescape};
-use defmt_values::{Items, Seq, Value, is_signed, look_up, power, size_bits};
+use defmt_values::{
+    Items, Seq, Value, is_below, is_multiple, is_of_bits, is_signed, look_up, size_bits,
+};
 use std::alloc::Global;
 
 /// The index of a name; 5 where the name isn't there.
@@ -27,12 +29,6 @@ pub fn index_of(names: &Names, name: &str) -> Result<u16, ArgFault>
         Some(index) => Ok(index),
         None => Err(Cause::NoEntry.into()),
     }
-}
-
-fn is_of_bits(n: u128, bits: u32) -> bool
-    ensures { result ≡ nat_lt n (2 ^ bits) }
-{
-    if bits < 128 { n < 1u128 << bits } else { true }
 }
 
 /// A number of an unsigned kind.
@@ -97,24 +93,6 @@ fn is_within(n: u128, first: u8, width: u8) -> bool
     ensures { result ≡ (nat_lt n (256 ^ (first + width)) && (n % 256 ^ first == 0)) }
 {
     is_below(n, u32::from(first) + u32::from(width)) && is_multiple(n, u32::from(first))
-}
-
-fn is_below(n: u128, bytes: u32) -> bool
-    ensures { result ≡ nat_lt n (256 ^ bytes) }
-{
-    match power(bytes) {
-        Some(p) => n < p,
-        None => true,
-    }
-}
-
-fn is_multiple(n: u128, bytes: u32) -> bool
-    ensures { result ≡ (n % 256 ^ bytes == 0) }
-{
-    match power(bytes) {
-        Some(p) => n % p == 0,
-        None => n == 0,
-    }
 }
 
 /// A number of bit fields.

@@ -73,8 +73,8 @@ fn check_uint(slot: Slot, n: u128) -> Result<(), u8>
     }
 }
 
-// Whether a number has at most so many bits.
-fn is_of_bits(n: u128, bits: u32) -> bool
+/// Whether a number has at most so many bits. Takes no memory.
+pub fn is_of_bits(n: u128, bits: u32) -> bool
     ensures { result ≡ nat_lt n (2 ^ bits) }
 {
     if bits < 128 { n < 1u128 << bits } else { true }
@@ -158,7 +158,8 @@ pub fn power(bytes: u32) -> Option<u128>
     }
 }
 
-fn is_below(n: u128, bytes: u32) -> bool
+/// Whether a number has at most so many bytes. Takes no memory.
+pub fn is_below(n: u128, bytes: u32) -> bool
     ensures { result ≡ nat_lt n (256 ^ bytes) }
 {
     match power(bytes) {
@@ -167,7 +168,8 @@ fn is_below(n: u128, bytes: u32) -> bool
     }
 }
 
-fn is_multiple(n: u128, bytes: u32) -> bool
+/// Whether the lowest bytes of a number, so many, are zero. Takes no memory.
+pub fn is_multiple(n: u128, bytes: u32) -> bool
     ensures { result ≡ (n % 256 ^ bytes == 0) }
 {
     match power(bytes) {

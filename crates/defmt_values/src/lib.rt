@@ -4,5 +4,8 @@
 mod fitting;
 mod value;
 
-pub use fitting::{check, cut, form_of, is_signed, look_up, own_form, pick, power, size_bits};
+pub use fitting::{
+    check, cut, form_of, is_below, is_multiple, is_of_bits, is_signed, look_up, own_form, pick,
+    power, size_bits,
+};
 pub use value::{Args, Item, Items, Node, Seq, Statement, Value};
