@@ -6,19 +6,12 @@ use Rattle.defmt_grammar.specs.declared.slot.Slot.{Slot}
 use Rattle.defmt_intern.specs.Table.{Map}
 use Rattle.defmt_intern.specs.declared.parsed.Parsed.{Parsed}
 use Rattle.defmt_values.specs.Entries.{places_from}
-use Rattle.defmt_values.specs.Plain.{Val, Vals, no_vals, val, Elems, no_elems, elem, snoc, snoc_elem}
+use Rattle.defmt_values.specs.Plain.{Val, Vals, val, Elems, elem, snoc, snoc_elem}
+use Rattle.defmt_values.proofs.Joins.{join_vals, join_snoc, join_none, join_elems, join_snoc_elem, join_no_elems}
 use Rattle.defmt_encode.specs.Read.{Read, ◌⇒◌, slot_at, value_at, below, each_at, elem_at, elems_at}
 use Rattle.defmt_encode.specs.Reads.{ReadsVal, ReadsVals, ReadsElem, ReadsElems}
 use Rattle.defmt_encode.specs.declared.cause.Fault.{Fault}
 use Rattle.defmt_encode.specs.declared.cause.Fault.TheVariants.{Bad, Memory}
-
-abbrev pub join_vals : Vals → Vals → Vals
-join_vals no_vals ws = ws
-join_vals (val v vs) ws = val v (join_vals vs ws)
-
-abbrev pub join_elems : Elems → Elems → Elems
-join_elems no_elems fs = fs
-join_elems (elem o vs es) fs = elem o vs (join_elems es fs)
 
 abbrev pub before_vals : Vals → Read (Vals × ℕ × List ℕ) → Read (Vals × ℕ × List ℕ)
 before_vals vs (Ok r) = Ok (join_vals vs r.0, r.1, r.2)
@@ -27,22 +20,6 @@ before_vals vs (Err e) = Err e
 abbrev pub before_elems : Elems → Read (Elems × ℕ × List ℕ) → Read (Elems × ℕ × List ℕ)
 before_elems es (Ok r) = Ok (join_elems es r.0, r.1, r.2)
 before_elems es (Err e) = Err e
-
-join_snoc : (vs : Vals) (v : Val) (ws : Vals) → join_vals (snoc vs v) ws ≡ join_vals vs (val v ws)
-join_snoc no_vals v ws = refl
-join_snoc (val u vs) v ws = ap (λ us. val u us) (join_snoc vs v ws)
-
-join_none : (vs : Vals) → vs ≡ join_vals vs no_vals
-join_none no_vals = refl
-join_none (val u vs) = ap (λ us. val u us) (join_none vs)
-
-join_snoc_elem : (es : Elems) (o : Option ℕ) (vs : Vals) (fs : Elems) → join_elems (snoc_elem es o vs) fs ≡ join_elems es (elem o vs fs)
-join_snoc_elem no_elems o vs fs = refl
-join_snoc_elem (elem p us es) o vs fs = ap (λ gs. elem p us gs) (join_snoc_elem es o vs fs)
-
-join_no_elems : (es : Elems) → es ≡ join_elems es no_elems
-join_no_elems no_elems = refl
-join_no_elems (elem p us es) = ap (λ gs. elem p us gs) (join_no_elems es)
 
 before_more : (vs : Vals) (v : Val) (q : Read (Vals × ℕ × List ℕ)) → before_vals (snoc vs v) q ≡ before_vals vs (q ⇒ λ r. Ok (val v r.0, r.1, r.2))
 before_more vs v (Ok r) = ap (λ us. Ok (us, r.1, r.2)) (join_snoc vs v r.0)
@@ -61,7 +38,7 @@ module _ (t : Map) (left w : ℕ) where
   module _ (ps : List Piece) (position : ℕ) (slots : List Slot) (args : Vals) (s : ℕ) (rest : List ℕ) where
     pub ended : slots ≡ [] → Ok (args, s, rest) ≡ before_vals args (each_at (value_at t left) (places_from ps position slots) w s rest)
     unfolding each_at
-    ended p = rw p (ap (λ us. Ok (us, s, rest)) (join_none args))
+    ended p = rw p (ap (λ us. Ok (us, s, rest)) (sym (join_none args)))
 
     module _ (x : Slot) (others : List Slot) (u : ℕ) (p : slots ≡ x ∷ others) (q : u ≡ uses_at position ps * w) where
       pub passed : (v : Val) (r : ℕ) (after : List ℕ) → Ok (v, r, after) ≡ slot_at t (below t left) x u s rest → before_vals (snoc args v) (each_at (value_at t left) (places_from ps (position + 1) others) w r after) ≡ before_vals args (each_at (value_at t left) (places_from ps position slots) w s rest)
@@ -80,7 +57,7 @@ module _ (t : Map) (left w : ℕ) where
   module _ (form : Parsed) (count i : ℕ) (items : Elems) (s : ℕ) (rest : List ℕ) where
     pub elems_ended : count - i ≡ 0 → Ok (items, s, rest) ≡ before_elems items (elems_at (value_at t left) form (count - i) w s rest)
     unfolding elems_at
-    elems_ended p = rw p (ap (λ us. Ok (us, s, rest)) (join_no_elems items))
+    elems_ended p = rw p (ap (λ us. Ok (us, s, rest)) (sym (join_no_elems items)))
 
     module _ (lt : i < count) where
       pub elem_passed : (o : Option ℕ) (vs : Vals) (r : ℕ) (after : List ℕ) → Ok ((o, vs), r, after) ≡ elem_at (value_at t left) form w s rest → before_elems (snoc_elem items o vs) (elems_at (value_at t left) form (count - (i + 1)) w r after) ≡ before_elems items (elems_at (value_at t left) form (count - i) w s rest)

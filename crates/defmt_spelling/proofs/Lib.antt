@@ -2,7 +2,6 @@ mod Arms
 mod Backs
 mod Exits
 mod Firsts
-mod Joins
 mod LeafLaws
 mod Loops
 mod NameLaws

@@ -14,7 +14,6 @@ use Rattle.defmt_shapes.specs.declared.spelling.Item.{Item}
 use Rattle.defmt_shapes.specs.declared.number.Number.{Number}
 use Rattle.defmt_spelling.proofs.Arms.{elem_is, places_there}
 use Rattle.defmt_spelling.proofs.Heads.{nothing_left, all_spaces, skipped, empty_starts, head_starts, split, join, item_starts, split_item, item_shorter}
-use Rattle.defmt_spelling.proofs.Joins.{join_vals, join_snoc, join_none, join_elems, join_snoc_elem, join_no_elems}
 use Rattle.defmt_spelling.specs.Meaning.{meant_val, meant_vals, meant_elems}
 use Rattle.defmt_spelling.specs.Names.{NameMap}
 use Rattle.defmt_spelling.specs.Reading.{Means, Front, FrontFault, ReadsFront, ReadsValues, GivesValues, GivesElems, GivesItem, item_scan, meant_inside}
@@ -25,6 +24,7 @@ use Rattle.defmt_values.proofs.Scans.{same, IsCapped}
 use Rattle.defmt_values.specs.Entries.{Place, places_from}
 use Rattle.defmt_values.specs.Plain.{Val, Vals, no_vals, val, snoc, Elems, no_elems, elem, snoc_elem}
 use Rattle.defmt_values.specs.Scan.{◌>>=◌, form_at, scan_val, scan_vals, scan_elems}
+use Rattle.defmt_values.proofs.Joins.{join_vals, join_snoc, join_none, join_elems, join_snoc_elem, join_no_elems}
 
 pub empty_is : (text : List ℕ) → eqb (length text) 0 ≡ true → text ≡ []
 empty_is [] h = refl
