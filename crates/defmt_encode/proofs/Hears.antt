@@ -1,6 +1,6 @@
 -- What is heard is what is read.
-use Rattle.std.proofs.Common.{◌≡◌, ◌<◌, ◌≤◌, ◌^◌, ◌+◌, ◌&&◌, ℕ, Bool, true, false, nat_le, List, [], ◌++◌, length, Option, Some, None, Ok, refl, sym, ap, ◌∙◌, subst, arith, append_assoc, length-append}
-use Rattle.std.proofs.lemmas.Bool.{le-leb, leb-true}
+use Rattle.std.proofs.Common.{◌≡◌, ◌<◌, ◌≤◌, ◌^◌, ◌+◌, ℕ, true, nat_le, List, [], ◌++◌, length, Option, Some, None, Ok, refl, sym, ap, ◌∙◌, subst, arith, append_assoc, length-append}
+use Rattle.std.proofs.lemmas.Bool.{le-leb, leb-true, and_parts}
 use Rattle.byteorder.specs.Endian.{little_bytes}
 use Rattle.defmt_grammar.specs.declared.piece.Piece.{Piece}
 use Rattle.defmt_grammar.specs.declared.slot.Slot.{Slot}
@@ -84,14 +84,6 @@ heard_again t bytes stamp index vs short h =
 
 -- ---- what is read is heard
 
-both_left : (a b : Bool) → (a && b) ≡ true → a ≡ true
-both_left true b h = refl
-both_left false b h = absurd (cc)
-
-both_right : (a b : Bool) → (a && b) ≡ true → b ≡ true
-both_right true b h = h
-both_right false b h = absurd (cc)
-
 abbrev Stamp2 : Type 0
 Stamp2 = Vals × List ℕ
 
@@ -164,8 +156,8 @@ heard_found t bytes y h e =
       stamp_sound = s.sound;
       sound = f.sound;
       padding = rest;
-      few = leb-true (length rest) 6 (both_left (nat_le (length rest) 6) (all_zero rest) p);
-      zeros = both_right (nat_le (length rest) 6) (all_zero rest) p;
+      few = leb-true (length rest) 6 (and_parts (nat_le (length rest) 6) (all_zero rest) p).0;
+      zeros = (and_parts (nat_le (length rest) 6) (all_zero rest) p).1;
       message = carries;
     } in
     subst (λ (z : Message3). IsHeard t bytes z.0 z.1 z.2) (same (stamp, i, vs) y b4.2) all

@@ -1,12 +1,12 @@
 -- What is written reads back.
-use Rattle.std.proofs.Common.{◌≡◌, inl, inr, ◌<◌, ◌-◌, ◌==◌, ◌&&◌, ◌++◌, ℕ, suc, pos, negsuc, Bool, true, false, cond, List, [], ◌∷◌, Option, Some, None, T, is_eq, is_lt, Ordering, Less, Equal, Greater, nat_cmp, refl, sym, ap, subst, ◌∙◌, arith, append_assoc}
+use Rattle.std.proofs.Common.{◌≡◌, inl, inr, ◌<◌, ◌-◌, ◌==◌, ◌++◌, ℕ, suc, pos, negsuc, Bool, true, false, cond, List, [], ◌∷◌, Option, Some, None, T, is_eq, is_lt, Ordering, Less, Equal, Greater, nat_cmp, refl, sym, ap, subst, ◌∙◌, arith, append_assoc}
 use Rattle.std.specs.Prelude.{unwrap_or}
 use Rattle.std.specs.Cmp.{eq_by_cmp_equiv}
 use Rattle.std.specs.Cmp.Lexicographic.{slice_cmp, nat_list_cmp_total}
 use Rattle.std.specs.FinMap as map
 use Rattle.std.specs.FinMap.{find, is_sorted, get-entries}
 use Rattle.std.specs.FinMap.Entries.{below_all}
-use Rattle.std.proofs.lemmas.Bool.{eqb-true}
+use Rattle.std.proofs.lemmas.Bool.{eqb-true, and_parts}
 use Rattle.defmt_grammar.specs.Cut.{AreSpaces}
 use Rattle.defmt_grammar.specs.declared.slot.Slot.{Slot}
 use Rattle.defmt_intern.specs.Table.{Map}
@@ -35,10 +35,6 @@ before x y = slice_cmp nat_cmp x y
 same_name : (x y : List ℕ) → Some x ≡ Some y → x ≡ y
 same_name x y e = ap (λ (o : Option (List ℕ)). unwrap_or o []) e
 
-both : (a b : Bool) → (a && b) ≡ true → (a ≡ true) × (b ≡ true)
-both true b h = (refl, h)
-both false b h = absurd (cc)
-
 less_by : (b : Bool) (e : List ℕ × ℕ) (k name : List ℕ) (o : Option (List ℕ)) → is_lt (before k e.0) ≡ true → (o ≡ Some name → is_lt (before k name) ≡ true) → cond {A = Option (List ℕ)} b (Some e.0) o ≡ Some name → is_lt (before k name) ≡ true
 less_by true e k name o less later h = subst (λ (x : List ℕ). is_lt (before k x) ≡ true) (same_name e.0 name h) less
 less_by false e k name o less later h = later h
@@ -46,7 +42,7 @@ less_by false e k name o less later h = later h
 key_less : (k : List ℕ) (es : List (List ℕ × ℕ)) (index : ℕ) (name : List ℕ) → below_all (slice_cmp nat_cmp) k es ≡ true → first_named es index ≡ Some name → is_lt (before k name) ≡ true
 key_less k [] index name b h = absurd (cc)
 key_less k (e ∷ es) index name b h =
-    let p = both (is_lt (before k e.0)) (below_all (slice_cmp nat_cmp) k es) b in
+    let p = and_parts (is_lt (before k e.0)) (below_all (slice_cmp nat_cmp) k es) b in
     less_by (e.1 == index) e k name (first_named es index) p.0 (key_less k es index name p.1) h
 
 less_apart : (o : Ordering) → is_lt o ≡ true → is_eq o ≡ false
@@ -67,7 +63,7 @@ found_by false e es index name t below later h =
 found_back : (es : List (List ℕ × ℕ)) (index : ℕ) (name : List ℕ) → is_sorted (slice_cmp nat_cmp) es ≡ true → first_named es index ≡ Some name → find (slice_cmp nat_cmp) name es ≡ Some index
 found_back [] index name s h = absurd (cc)
 found_back (e ∷ es) index name s h =
-    let p = both (below_all (slice_cmp nat_cmp) e.0 es) (is_sorted (slice_cmp nat_cmp) es) s in
+    let p = and_parts (below_all (slice_cmp nat_cmp) e.0 es) (is_sorted (slice_cmp nat_cmp) es) s in
     found_by (e.1 == index) e es index name refl p.0 (found_back es index name p.1) h
 
 from_T : (b : Bool) → T b → b ≡ true

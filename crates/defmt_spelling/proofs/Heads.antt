@@ -3,6 +3,7 @@ use Rattle.std.proofs.Common.{◌≡◌, ◌≢◌, ◌<◌, ◌≤◌, ◌+◌,
 use Rattle.std.proofs.lemmas.Bool.{cases_eq}
 use Rattle.std.proofs.lemmas.Bool.Decides.{nat_tests}
 use Rattle.std.specs.Char.{digit_value, is_ascii_alphabetic}
+use Rattle.std.proofs.lemmas.List.{append-nil}
 use Rattle.defmt_grammar.proofs.Cuts.{skip_found, skip_again}
 use Rattle.defmt_grammar.specs.Cut.{skip_spaces, AreSpaces}
 use Rattle.defmt_shapes.specs.Shape.{Shape, decimal, hexadecimal, negative, flag, character, quoted, interned, bytes, call, empty, sequence, Shapes, shape, Items, item, SpellsShape, SpellsShapes, SpellsItems, HeadShape, StartsThere, IsNumber, IsName, IsItemMark}
@@ -57,12 +58,8 @@ unfolding skip_spaces
 nothing_left [] h = refl
 nothing_left (c ∷ cs) h = rw h.0 (nothing_left cs h.1)
 
-append_nil : (xs : List ℕ) → xs ++ [] ≡ xs
-append_nil [] = refl
-append_nil (x ∷ xs) = ap (λ (ys : List ℕ). x ∷ ys) (append_nil xs)
-
 pub all_spaces : (text : List ℕ) → skip_spaces text ≡ [] → AreSpaces text
-all_spaces text h = let f = skip_found text in subst AreSpaces (sym (f.2 ∙ ap (λ (x : List ℕ). f.0 ++ x) h ∙ append_nil f.0)) f.1
+all_spaces text h = let f = skip_found text in subst AreSpaces (sym (f.2 ∙ ap (λ (x : List ℕ). f.0 ++ x) h ∙ append-nil f.0)) f.1
 
 skipped_by : (c : ℕ) (cs : List ℕ) → (skip_spaces cs ≡ []) ⊎ StartsThere (skip_spaces cs) → (c ≡ 32) ⊎ (c ≢ 32) → (skip_spaces (c ∷ cs) ≡ []) ⊎ StartsThere (skip_spaces (c ∷ cs))
 unfolding skip_spaces

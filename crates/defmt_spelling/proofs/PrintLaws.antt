@@ -1,5 +1,6 @@
 -- What is written, one piece after another.
-use Rattle.std.proofs.Common.{◌≡◌, ◌≤◌, ◌+◌, ℕ, Bool, false, List, [], ◌∷◌, ◌++◌, map, refl, sym, ap, subst, ◌∙◌, arith, append_assoc}
+use Rattle.std.proofs.Common.{◌≡◌, ◌≤◌, ◌+◌, ℕ, Bool, false, List, [], ◌∷◌, ◌++◌, map, sym, ap, subst, ◌∙◌, arith, append_assoc}
+use Rattle.std.proofs.lemmas.List.{append-nil}
 use Rattle.defmt_grammar.specs.declared.hint.Base.TheVariants.{Hex}
 use Rattle.defmt_grammar.specs.declared.hint.Hint.TheVariants.{Radix}
 use Rattle.defmt_hints.specs.Printed.{printed_uint}
@@ -9,10 +10,6 @@ use Rattle.defmt_values.specs.Plain.{val_size, vals_size, elems_size}
 use Rattle.defmt_values.specs.View.{plain, vals_of, elems_of}
 use Rattle.defmt_values.specs.declared.value.Item.{Item}
 use Rattle.defmt_values.specs.declared.value.Value.{Value}
-
-append_nil : (xs : List ℕ) → xs ++ [] ≡ xs
-append_nil [] = refl
-append_nil (x ∷ xs) = ap (λ (ys : List ℕ). x ∷ ys) (append_nil xs)
 
 -- a piece was written, and the rest follows
 one_piece : (old new piece later total : List ℕ) → new ≡ old ++ piece → old ++ (piece ++ later) ≡ total → new ++ later ≡ total
@@ -27,7 +24,7 @@ hex_more bytes more old new total b e f h = one_piece old new (printed_uint b (R
 
 pub hex_end : (bytes old total : List ℕ) → bytes ≡ [] → old ++ hex_text bytes ≡ total → old ≡ total
 unfolding hex_text
-hex_end bytes old total e h = sym (append_nil old) ∙ subst (λ (x : List ℕ). old ++ hex_text x ≡ total) e h
+hex_end bytes old total e h = sym (append-nil old) ∙ subst (λ (x : List ℕ). old ++ hex_text x ≡ total) e h
 
 module _ (names : NameMap) where
   pub vals_more : (values more : List Value) (v : Value) (first : Bool) (old one two total : List ℕ) → values ≡ v ∷ more → one ≡ old ++ gap first → two ≡ one ++ printed_val names (plain v)
@@ -38,7 +35,7 @@ module _ (names : NameMap) where
 
   pub vals_end : (values : List Value) (first : Bool) (old total : List ℕ) → values ≡ [] → old ++ vals_text names first (vals_of (map plain values)) ≡ total → old ≡ total
   unfolding printed_val
-  vals_end values first old total e h = sym (append_nil old) ∙ subst (λ (x : List Value). old ++ vals_text names first (vals_of (map plain x)) ≡ total) e h
+  vals_end values first old total e h = sym (append-nil old) ∙ subst (λ (x : List Value). old ++ vals_text names first (vals_of (map plain x)) ≡ total) e h
 
   pub elems_more : (items more : List Item) (i : Item) (first : Bool) (old one two total : List ℕ) → items ≡ i ∷ more → one ≡ old ++ gap first → two ≡ one ++ (item_mark i.variant ++ inside_text names i.args)
       → old ++ elems_text names first (elems_of items) ≡ total → two ++ elems_text names false (elems_of more) ≡ total
@@ -48,7 +45,7 @@ module _ (names : NameMap) where
 
   pub elems_end : (items : List Item) (first : Bool) (old total : List ℕ) → items ≡ [] → old ++ elems_text names first (elems_of items) ≡ total → old ≡ total
   unfolding printed_val
-  elems_end items first old total e h = sym (append_nil old) ∙ subst (λ (x : List Item). old ++ elems_text names first (elems_of x) ≡ total) e h
+  elems_end items first old total e h = sym (append-nil old) ∙ subst (λ (x : List Item). old ++ elems_text names first (elems_of x) ≡ total) e h
 
 -- what is left is no larger, and neither is its first
 pub others_smaller : (values more : List Value) (v : Value) (n : ℕ) → values ≡ v ∷ more → vals_size (vals_of (map plain values)) ≤ n → vals_size (vals_of (map plain more)) ≤ n

@@ -1,7 +1,6 @@
 -- What is written spells what it was written for: numbers, characters, texts and bytes.
-use Rattle.std.proofs.Common.{◌≡◌, ◌≢◌, ◌⊎◌, inl, inr, ◌<◌, ◌≤◌, ◌+◌, ◌*◌, ◌-◌, ◌&&◌, ◌++◌, ℕ, zero, suc, pos, negsuc, Bool, true, false, cond, eqb, List, [], ◌∷◌, length, map, replicate, get_or, Option, Some, None, refl, sym, ap, subst, ◌∙◌, arith, nat_lt}
-use Rattle.std.proofs.lemmas.Bool.{cases_eq, cases_lt}
-use Rattle.std.proofs.lemmas.Bool.Decides.{nat_tests}
+use Rattle.std.proofs.Common.{◌≡◌, ◌≢◌, ◌⊎◌, inl, inr, ◌<◌, ◌≤◌, ◌+◌, ◌*◌, ◌-◌, ◌&&◌, ◌++◌, ℕ, zero, suc, pos, negsuc, Bool, true, false, cond, List, [], ◌∷◌, length, map, replicate, get_or, Option, Some, None, refl, sym, ap, subst, ◌∙◌, arith, nat_lt}
+use Rattle.std.proofs.lemmas.Bool.{cases_eq, cases_lt, ne_eqb}
 use Rattle.std.proofs.lemmas.Int.Digits.{digits_value_is}
 use Rattle.std.proofs.lemmas.List.Concat.{flat_map-append}
 use Rattle.std.proofs.lemmas.Str.{encode_ascii, inside_one}
@@ -11,6 +10,7 @@ use Rattle.std.specs.Int.Digits.{AllBelowBase, number_from_digits}
 use Rattle.std.specs.List.{AllByRecursion, flat_map}
 use Rattle.std.specs.Str.{IsUtf8, encode_utf8_all, all_scalars}
 use Rattle.std.specs.Str.Parse.{AllDigits, digits_value}
+use Rattle.std.proofs.lemmas.List.{append-nil}
 use Rattle.defmt_grammar.specs.Param.{HasLeadingZero}
 use Rattle.defmt_grammar.specs.declared.hint.Base.TheVariants.{Hex}
 use Rattle.defmt_grammar.specs.declared.hint.Hint.TheVariants.{Plain, Debug, Radix}
@@ -22,10 +22,6 @@ use Rattle.defmt_hints.specs.Printed.{printed_uint, printed_int, printed_bool, p
 use Rattle.defmt_shapes.specs.Shape as shapes
 use Rattle.defmt_shapes.specs.Shape.{SpellsShape, SpellsCharacter, SpellsCharacters, SpellsBytes, IsNumber, IsVariant, IsItemMark, IsCallMark, escaped}
 use Rattle.defmt_spelling.specs.Printed.{hex_text, item_mark, call_mark}
-
-append_nil : (xs : List ℕ) → xs ++ [] ≡ xs
-append_nil [] = refl
-append_nil (x ∷ xs) = ap (λ (ys : List ℕ). x ∷ ys) (append_nil xs)
 
 -- ---- numbers
 
@@ -138,12 +134,9 @@ single : QuoteFacts 39
 unfolding escape_of
 single = record { small = omega arith; letter = refl; own = refl; slash = refl; line = refl; return = refl; tab = refl }
 
-differs : (x c : ℕ) → x ≢ c → eqb x c ≡ false
-differs x c n = grind (arith, nat_tests)
-
 bare : (quote c : ℕ) → c ≢ 92 → c ≢ quote → c ≢ 10 → c ≢ 13 → c ≢ 9 → written quote c ≡ c ∷ []
 unfolding escape_of
-bare quote c a b d e f = rw (differs c 92 a, differs c quote b, differs c 10 d, differs c 13 e, differs c 9 f) refl
+bare quote c a b d e f = rw (ne_eqb c 92 a, ne_eqb c quote b, ne_eqb c 10 d, ne_eqb c 13 e, ne_eqb c 9 f) refl
 
 all_bare : (f : ℕ → List ℕ) (xs : List ℕ) → ((k : ℕ) → k < length xs → f (get_or xs k 0) ≡ get_or xs k 0 ∷ []) → flat_map f xs ≡ xs
 all_bare f [] h = refl
@@ -154,7 +147,7 @@ module _ (quote : ℕ) (facts : QuoteFacts quote) where
   escape_case c letter small e stands = inr (inl (record {
     letter = letter;
     stands_for = stands;
-    text_is = ap (flat_map (written quote)) (encode_ascii c small) ∙ append_nil (written quote c) ∙ e;
+    text_is = ap (flat_map (written quote)) (encode_ascii c small) ∙ append-nil (written quote c) ∙ e;
   }))
 
   -- a byte of a character without an escape has none either
@@ -164,7 +157,7 @@ module _ (quote : ℕ) (facts : QuoteFacts quote) where
 
   byte_of : (c k : ℕ) → k < length (encode_utf8 c) → (128 ≤ get_or (encode_utf8 c) k 0) ⊎ (c ≡ get_or (encode_utf8 c) k 0)
   byte_of c k l = elim (cases_lt (get_or (encode_utf8 c) k 0) 128) [
-    | inl low ↦ inr (inside_one c [] (encode_utf8 c) k (sym (append_nil (encode_utf8 c))) l low)
+    | inl low ↦ inr (inside_one c [] (encode_utf8 c) k (sym (append-nil (encode_utf8 c))) l low)
     | inr high ↦ inl high
   ]
 
