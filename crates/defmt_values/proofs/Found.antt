@@ -311,7 +311,7 @@ pub record Sums (s n r : ℕ) : Type 0 where
 leaf : (s r : ℕ) → done s ≡ done r → Sums s 0 r
 leaf s r h = let e : s ≡ r = same_sum s r h in record { sum = add-zero s ∙ e; kept = λ k. omega arith }
 
-none_index : (index : Option ℕ) → no_index index ≡ Ok tt → index ≡ None
+pub none_index : (index : Option ℕ) → no_index index ≡ Ok tt → index ≡ None
 none_index None h = refl
 none_index (Some i) h = absurd (cc)
 

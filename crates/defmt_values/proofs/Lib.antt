@@ -1,7 +1,9 @@
 pub mod Again
+pub mod Faults
 pub mod Forms
 pub mod Found
 pub mod Joins
 pub mod Powers
 pub mod Pushes
 pub mod Scans
+pub mod Sounds

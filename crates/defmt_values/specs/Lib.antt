@@ -1,8 +1,10 @@
 pub mod Codes
 pub mod Entries
 pub mod Falls
+pub mod Faults
 pub mod Fits
 pub mod Now
 pub mod Plain
 pub mod Scan
+pub mod Sound
 pub mod View

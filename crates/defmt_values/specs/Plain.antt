@@ -32,6 +32,15 @@ abbrev pub snoc_elem : Elems → Option ℕ → Vals → Elems
 snoc_elem no_elems o vs = elem o vs no_elems
 snoc_elem (elem p us es) o vs = elem p us (snoc_elem es o vs)
 
+-- one list behind the other
+abbrev pub join_vals : Vals → Vals → Vals
+join_vals no_vals ws = ws
+join_vals (val v vs) ws = val v (join_vals vs ws)
+
+abbrev pub join_elems : Elems → Elems → Elems
+join_elems no_elems fs = fs
+join_elems (elem o vs es) fs = elem o vs (join_elems es fs)
+
 -- how many lists and elements stand in it
 abbrev mutual
   pub val_size : Val → ℕ

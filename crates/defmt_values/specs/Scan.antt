@@ -1,4 +1,5 @@
--- The first cause for which values don't fit, from left to right, or the sum of the weights.
+-- The tests of one value, of an entry and of a variant, each with its cause; and all tests of values from left to right,
+-- with the sum of the weights taken along. `Faults` says which cause is the first without these sums.
 use Rattle.std.specs.Prelude.{◌+◌, ◌-◌, ◌*◌, ◌%◌, ◌^◌, ◌==◌, ◌&&◌, ℕ, ℤ, Bool, true, false, nat_lt, nat_le, List, [], ◌∷◌, length, Option, Some, None, Result, Ok, Err, if◌then◌else◌}
 use Rattle.defmt_grammar.specs.declared.kind.Kind.TheVariants as kinds
 use Rattle.defmt_grammar.specs.declared.piece.Piece.{Piece}

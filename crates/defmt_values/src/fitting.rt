@@ -1,10 +1,11 @@
 //! The test that statements fit a table.
-ghost use Rattle.std.specs.Prelude.{◌≡◌, ◌+◌, ◌*◌, ◌==◌, ◌%◌, nat_lt, ◌∷◌, [], ◌<◌, ◌≤◌, ◌^◌, None, Some, IfOk, IfSome, IsOk, OnOk, MatchOption};
+ghost use Rattle.std.specs.Prelude.{◌≡◌, ◌+◌, ◌*◌, ◌==◌, ◌%◌, ℕ, nat_lt, ◌∷◌, [], ◌<◌, ◌≤◌, ◌^◌, None, Some, Err, IfOk, IfErr, IfSome, IsOk, OnOk, MatchOption};
 ghost use Rattle.defmt_intern.specs.Body.{body_of};
 ghost use Rattle.defmt_values.specs.Entries.{look, is_format, is_interned};
 ghost use Rattle.defmt_values.specs.Scan.{test, uint_cause, int_cause, flag_cause, char_cause, str_cause, istr_cause, bytes_cause, bits_cause, node_cause, list_cause, count_cause, form_at, pick, add, list_form, no_index, scan_val, scan_vals, scan_elems, own_form, own_cause, leaf_cause, opened, started};
 ghost use Rattle.defmt_grammar.specs.Slots.{slots_of};
 ghost use Rattle.defmt_values.specs.Entries.{places_of, places_from};
+ghost use Rattle.defmt_values.specs.Faults.{StatementFault};
 ghost use Rattle.defmt_values.specs.Fits.{Fits};
 ghost use Rattle.defmt_values.specs.Now.{now_of, pair_now, option_now};
 ghost use Rattle.defmt_grammar.specs.Sizes.{size_bits, is_signed};
@@ -461,8 +462,9 @@ fn first_cause(table: &Table, stm: &Statement) -> Result<(), u8>
 /// is given to no enum; 5 an index that isn't in the table or whose tag doesn't suit; 6 a Format value at depth 17;
 /// 7 the weights pass 8,192; 8 an entry whose text was refused.
 pub fn check(table: &Table, stm: &Statement) -> Result<(), u8>
-    // The first cause from left to right.
-    ensures cause { result ≡ own_cause table.now stm.now.index stm.now.args }
+    // The cause is the first from left to right, and the first is answered.
+    ensures refused { IfErr result (λ cause. StatementFault table.now stm.now.index stm.now.args cause) }
+    ensures first { (cause : ℕ) → StatementFault table.now stm.now.index stm.now.args cause → result ≡ Err cause }
     // None stands exactly where the statement fits.
     ensures passed { OnOk result (Fits table.now stm.now.index stm.now.args) }
     ensures fits { Fits table.now stm.now.index stm.now.args → IsOk result }
