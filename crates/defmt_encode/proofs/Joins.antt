@@ -6,8 +6,8 @@ use Rattle.defmt_grammar.specs.declared.slot.Slot.{Slot}
 use Rattle.defmt_intern.specs.Table.{Map}
 use Rattle.defmt_intern.specs.declared.parsed.Parsed.{Parsed}
 use Rattle.defmt_values.specs.Entries.{places_from}
-use Rattle.defmt_values.specs.Plain.{Val, Vals, val, Elems, elem, snoc, snoc_elem}
-use Rattle.defmt_values.proofs.Joins.{join_vals, join_snoc, join_none, join_elems, join_snoc_elem, join_no_elems}
+use Rattle.defmt_values.specs.Plain.{Val, Vals, val, Elems, elem, snoc, snoc_elem, join_vals, join_elems}
+use Rattle.defmt_values.proofs.Joins.{join_snoc, join_none, join_snoc_elem, join_no_elems}
 use Rattle.defmt_encode.specs.Read.{Read, ◌⇒◌, slot_at, value_at, below, each_at, elem_at, elems_at}
 use Rattle.defmt_encode.specs.Reads.{ReadsVal, ReadsVals, ReadsElem, ReadsElems}
 use Rattle.defmt_encode.specs.declared.cause.Fault.{Fault}

@@ -1,6 +1,6 @@
 -- What is written reads back.
-use Rattle.std.proofs.Common.{◌≡◌, inl, inr, ◌<◌, ◌-◌, ◌==◌, ◌++◌, ℕ, suc, pos, negsuc, Bool, true, false, cond, List, [], ◌∷◌, Option, Some, None, T, is_eq, is_lt, Ordering, Less, Equal, Greater, nat_cmp, refl, sym, ap, subst, ◌∙◌, arith, append_assoc}
-use Rattle.std.specs.Prelude.{unwrap_or}
+use Rattle.std.proofs.Common.{◌≡◌, inl, inr, ◌<◌, ◌-◌, ◌==◌, ◌++◌, ℕ, suc, pos, negsuc, Bool, true, false, cond, List, [], ◌∷◌, Option, Some, None, T, is_eq, is_lt, Ordering, Less, Equal, Greater, nat_cmp, refl, sym, ap, subst, ◌∙◌, arith, append_assoc, ◌&&◌, Result, Ok, Err}
+use Rattle.std.specs.Prelude.{unwrap_or, IfOk}
 use Rattle.std.specs.Cmp.{eq_by_cmp_equiv}
 use Rattle.std.specs.Cmp.Lexicographic.{slice_cmp, nat_list_cmp_total}
 use Rattle.std.specs.FinMap as map
@@ -15,17 +15,19 @@ use Rattle.defmt_shapes.specs.Shape as shapes
 use Rattle.defmt_shapes.specs.Shape.{Shape, Shapes, no_shapes, shape, Items, no_items, item, SpellsShape, SpellsShapes, SpellsItems, EndsThere, StartsThere, IsName}
 use Rattle.defmt_spelling.proofs.Heads.{mark_starts, starts_longer}
 use Rattle.defmt_spelling.proofs.NameLaws.{turned}
+use Rattle.defmt_spelling.proofs.Writable.{IsWritable, AreWritable, ElemsWritable, vals_writable}
 use Rattle.defmt_spelling.proofs.Written.{uint_spelled, item_mark_spelled, call_mark_spelled, positive_spelled, negative_spelled, flag_spelled, char_spelled, str_spelled, hex_spelled}
 use Rattle.defmt_spelling.specs.Meaning.{index_of, meant_val, meant_vals, meant_elems}
+use Rattle.defmt_spelling.specs.Named.{HasName, ListNamed, AreNamed}
 use Rattle.defmt_spelling.specs.Names.{NameMap, first_named}
 use Rattle.defmt_spelling.specs.Printed.{name_text, hex_text, gap, call_mark, item_mark, printed_val, vals_text, elems_text, printed_list, printed_arguments}
-use Rattle.defmt_spelling.specs.Spelling.{Spelled}
-use Rattle.defmt_spelling.specs.Writable.{HasName, ListNamed, IsWritable, AreWritable, ElemsWritable}
+use Rattle.defmt_spelling.specs.Spelling.{Spelled, ReadsArguments}
 use Rattle.defmt_values.proofs.Forms.{places_are}
 use Rattle.defmt_values.specs.Entries.{Place, places_of}
 use Rattle.defmt_values.specs.Fits.{FitsVal, FitsVals, FitsElems, Fits, IsForm}
 use Rattle.defmt_values.specs.Plain.{Val, uint, int, flag, char, str, istr, bytes, bits, format, seq, Vals, no_vals, val, Elems, no_elems, elem}
 use Rattle.defmt_values.specs.Scan.{index_or, node_places}
+use Rattle.defmt_values.specs.Sound.{AreSound}
 
 -- ---- the index of a name that an index has
 
@@ -229,5 +231,12 @@ module _ (names : NameMap) where
           ∙ ap (λ (x : Vals). elem variant x (meant_elems names t index (items_of es))) (vals_meant left (places_of f.0) vs f.2 w.0)
           ∙ ap (elem variant vs) (elems_meant left index form es h f.3 w.1)
 
-    pub reads_back : (index : ℕ) (vs : Vals) → Fits t index vs → AreWritable names vs → Spelled names t index (printed_arguments names vs) vs
-    reads_back index vs f w = record { fits = f; shapes = shapes_of vs; spelled = vals_spelled true vs w; meant = vals_meant 16 (places_of f.pieces) vs f.values w }
+    pub reads_back : (index : ℕ) (vs : Vals) → Fits t index vs → AreNamed names vs → AreSound vs → Spelled names t index (printed_arguments names vs) vs
+    reads_back index vs f n s =
+        let w : AreWritable names vs = vals_writable names vs n s in
+        record { fits = f; shapes = shapes_of vs; spelled = vals_spelled true vs w; meant = vals_meant 16 (places_of f.pieces) vs f.values w }
+
+    pub text_back : {E : Type 0} (index : ℕ) (vs : Vals) (result : Result (List ℕ) E) → IfOk result (λ text. text ≡ printed_arguments names vs) → AreSound vs → Fits t index vs → AreNamed names vs
+        → IfOk result (λ text. ReadsArguments names t index text (Ok vs))
+    text_back index vs (Ok text) e s f n = subst (λ (x : List ℕ). Spelled names t index x vs) (sym e) (reads_back index vs f n s)
+    text_back index vs (Err fault) e s f n = tt

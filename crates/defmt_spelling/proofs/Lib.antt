@@ -2,10 +2,12 @@ mod Arms
 mod Backs
 mod Exits
 mod Firsts
+mod Fronts
 mod LeafLaws
 mod Loops
 mod NameLaws
 mod PrintLaws
 mod Wholes
+mod Writable
 mod Written
 pub mod Heads

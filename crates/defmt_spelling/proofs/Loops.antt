@@ -16,15 +16,15 @@ use Rattle.defmt_spelling.proofs.Arms.{elem_is, places_there}
 use Rattle.defmt_spelling.proofs.Heads.{nothing_left, all_spaces, skipped, empty_starts, head_starts, split, join, item_starts, split_item, item_shorter}
 use Rattle.defmt_spelling.specs.Meaning.{meant_val, meant_vals, meant_elems}
 use Rattle.defmt_spelling.specs.Names.{NameMap}
-use Rattle.defmt_spelling.specs.Reading.{Means, Front, FrontFault, ReadsFront, ReadsValues, GivesValues, GivesElems, GivesItem, item_scan, meant_inside}
-use Rattle.defmt_spelling.specs.Spelling.{NoValue, FirstFault, judged}
+use Rattle.defmt_spelling.specs.Reading.{Means, judged, ScannedFault, Front, FrontFault, ReadsFront, ReadsValues, GivesValues, GivesElems, GivesItem, item_scan, meant_inside}
+use Rattle.defmt_spelling.specs.Spelling.{NoValue}
 use Rattle.defmt_spelling.specs.declared.fault.ArgFault.{ArgFault}
 use Rattle.defmt_spelling.specs.declared.fault.ArgFault.TheVariants as faults
 use Rattle.defmt_values.proofs.Scans.{same, IsCapped}
 use Rattle.defmt_values.specs.Entries.{Place, places_from}
-use Rattle.defmt_values.specs.Plain.{Val, Vals, no_vals, val, snoc, Elems, no_elems, elem, snoc_elem}
+use Rattle.defmt_values.specs.Plain.{Val, Vals, no_vals, val, snoc, Elems, no_elems, elem, snoc_elem, join_vals, join_elems}
 use Rattle.defmt_values.specs.Scan.{◌>>=◌, form_at, scan_val, scan_vals, scan_elems}
-use Rattle.defmt_values.proofs.Joins.{join_vals, join_snoc, join_none, join_elems, join_snoc_elem, join_no_elems}
+use Rattle.defmt_values.proofs.Joins.{join_snoc, join_none, join_snoc_elem, join_no_elems}
 
 pub empty_is : (text : List ℕ) → eqb (length text) 0 ≡ true → text ≡ []
 empty_is [] h = refl
@@ -69,12 +69,12 @@ module _ (names : NameMap) (t : Map) (left weight : ℕ) where
         fits = rw one m.fits;
       }
 
-  pub more_fault : (p : Place) (ps : List Place) (sum u : ℕ) (text rest : List ℕ) (v : Val) (next c : ℕ) → IsCapped u (p.uses * weight) → Front names t left p.slot u sum text v next rest → FirstFault names t left weight ps next rest c → FirstFault names t left weight (p ∷ ps) sum text c
+  pub more_fault : (p : Place) (ps : List Place) (sum u : ℕ) (text rest : List ℕ) (v : Val) (next c : ℕ) → IsCapped u (p.uses * weight) → Front names t left p.slot u sum text v next rest → ScannedFault names t left weight ps next rest c → ScannedFault names t left weight (p ∷ ps) sum text c
   more_fault p ps sum u text rest v next c cap f h =
       let one : judged names t left weight p sum f.shape ≡ Ok next = sym (same t left p.slot (p.uses * weight) u sum (meant_val names t p.slot f.shape) cap) ∙ ap (scan_val t left p.slot u sum) f.meant ∙ f.fits in
       inr (inr (f.shape, rest, f.head, inr (next, one, h)))
 
-  pub front_fault : (p : Place) (ps : List Place) (sum u : ℕ) (text : List ℕ) (c : ℕ) → IsCapped u (p.uses * weight) → FrontFault names t left p.slot u sum text c → FirstFault names t left weight (p ∷ ps) sum text c
+  pub front_fault : (p : Place) (ps : List Place) (sum u : ℕ) (text : List ℕ) (c : ℕ) → IsCapped u (p.uses * weight) → FrontFault names t left p.slot u sum text c → ScannedFault names t left weight (p ∷ ps) sum text c
   front_fault p ps sum u text c cap (inl none) = inl none
   front_fault p ps sum u text c cap (inr (inl other)) = inr (inl other)
   front_fault p ps sum u text c cap (inr (inr h)) = inr (inr (h.0, h.1, h.2, inl (sym (same t left p.slot (p.uses * weight) u sum (meant_val names t p.slot h.0) cap) ∙ h.3)))
@@ -84,7 +84,7 @@ module _ (names : NameMap) (t : Map) (left weight : ℕ) where
   -- whatever the rest of the text reads as, with the values so far the whole reads so
   pub record Follows (places : List Place) (sum : ℕ) (text : List ℕ) (done : Vals) (others : List Place) (total : ℕ) (rest : List ℕ) : Type 0 where
     pub means : (vs : Vals) (last : ℕ) → Means names t left weight others total rest vs last → Means names t left weight places sum text (join_vals done vs) last
-    pub fault : (c : ℕ) → FirstFault names t left weight others total rest c → FirstFault names t left weight places sum text c
+    pub fault : (c : ℕ) → ScannedFault names t left weight others total rest c → ScannedFault names t left weight places sum text c
 
   pub nothing_done : (places : List Place) (sum : ℕ) (text : List ℕ) → Follows places sum text no_vals places sum text
   nothing_done places sum text = record { means = λ vs last m. m; fault = λ c h. h }
@@ -101,13 +101,13 @@ module _ (names : NameMap) (t : Map) (left weight : ℕ) where
           (f.means (val v vs) last (subst (λ (x : List Place). Means names t left weight x total rest (val v vs) last) (sym (first_place slot others e))
           (more_means (record { slot = slot; uses = uses_at position ps }) (places_from ps (position + 1) others) total u rest after v next last vs cap front m)));
       fault = λ c h.
-          f.fault c (subst (λ (x : List Place). FirstFault names t left weight x total rest c) (sym (first_place slot others e))
+          f.fault c (subst (λ (x : List Place). ScannedFault names t left weight x total rest c) (sym (first_place slot others e))
           (more_fault (record { slot = slot; uses = uses_at position ps }) (places_from ps (position + 1) others) total u rest after v next c cap front h));
     }
 
-    pub one_refused : (slot : Slot) (others : List Slot) (u c : ℕ) → slots ≡ slot ∷ others → IsCapped u (uses_at position ps * weight) → FrontFault names t left slot u total rest c → FirstFault names t left weight places sum text c
+    pub one_refused : (slot : Slot) (others : List Slot) (u c : ℕ) → slots ≡ slot ∷ others → IsCapped u (uses_at position ps * weight) → FrontFault names t left slot u total rest c → ScannedFault names t left weight places sum text c
     one_refused slot others u c e cap h =
-        f.fault c (subst (λ (x : List Place). FirstFault names t left weight x total rest c) (sym (first_place slot others e))
+        f.fault c (subst (λ (x : List Place). ScannedFault names t left weight x total rest c) (sym (first_place slot others e))
         (front_fault (record { slot = slot; uses = uses_at position ps }) (places_from ps (position + 1) others) total u rest c cap h))
 
     pub one_exit : (slot : Slot) (others : List Slot) (u : ℕ) (fault : ArgFault) → slots ≡ slot ∷ others → IsCapped u (uses_at position ps * weight) → ReadsFront names t left slot u total rest (Err fault) → ReadsValues names t left weight places sum text (Err fault)
@@ -119,8 +119,8 @@ module _ (names : NameMap) (t : Map) (left weight : ℕ) where
         subst (λ (x : Vals). Means names t left weight places sum text x total) (join_none done)
         (f.means no_vals total (subst (λ (x : List Slot). Means names t left weight (places_from ps position x) total rest no_vals total) (sym e) (no_more total rest n)))
 
-    pub one_too_many : slots ≡ [] → StartsThere (skip_spaces rest) → FirstFault names t left weight places sum text 2
-    one_too_many e s = f.fault 2 (subst (λ (x : List Slot). FirstFault names t left weight (places_from ps position x) total rest 2) (sym e) (s, refl))
+    pub one_too_many : slots ≡ [] → StartsThere (skip_spaces rest) → ScannedFault names t left weight places sum text 2
+    one_too_many e s = f.fault 2 (subst (λ (x : List Slot). ScannedFault names t left weight (places_from ps position x) total rest 2) (sym e) (s, refl))
 
   -- ---- a text that is known to be spelled
 
@@ -136,7 +136,7 @@ module _ (names : NameMap) (t : Map) (left weight : ℕ) where
         let o = one_shapes k.rest ss rs (subst (λ (x : List ℕ). SpellsShapes x ss) e.1 h.others) k.others in
         ap (λ (x : Shape). shape x ss) e.0 ∙ ap (shape r) o
 
-    pub fault_scan : (places : List Place) (sum : ℕ) (text : List ℕ) (c : ℕ) (ss : Shapes) → FirstFault names t left weight places sum text c → SpellsShapes text ss → scan_vals t left places weight sum (meant_vals names t places ss) ≡ Err c
+    pub fault_scan : (places : List Place) (sum : ℕ) (text : List ℕ) (c : ℕ) (ss : Shapes) → ScannedFault names t left weight places sum text c → SpellsShapes text ss → scan_vals t left places weight sum (meant_vals names t places ss) ≡ Err c
     unfolding scan_val meant_val
     fault_scan [] sum text c no_shapes h s = absurd (empty_starts (skip_spaces text) (nothing_left text s) h.0)
     fault_scan [] sum text c (shape r rs) h s = ap Err (sym h.1)
@@ -152,7 +152,7 @@ module _ (names : NameMap) (t : Map) (left weight : ℕ) where
           | inl a ↦ (let refused : judged names t left weight p sum r ≡ Err c = subst (λ (x : Shape). judged names t left weight p sum x ≡ Err c) e.0 a in rw refused refl)
           | inr b ↦ (
               let passes : judged names t left weight p sum r ≡ Ok b.0 = subst (λ (x : Shape). judged names t left weight p sum x ≡ Ok b.0) e.0 b.1 in
-              let later : scan_vals t left ps weight b.0 (meant_vals names t ps rs) ≡ Err c = fault_scan ps b.0 k.rest c rs (subst (λ (x : List ℕ). FirstFault names t left weight ps b.0 x c) e.1 b.2) k.others in
+              let later : scan_vals t left ps weight b.0 (meant_vals names t ps rs) ≡ Err c = fault_scan ps b.0 k.rest c rs (subst (λ (x : List ℕ). ScannedFault names t left weight ps b.0 x c) e.1 b.2) k.others in
               rw passes later)
         ]
 
@@ -164,7 +164,7 @@ module _ (names : NameMap) (t : Map) (left weight : ℕ) where
     inside_gives places sum text (Err faults.Memory) h ss s = tt
 
     -- one first fault
-    pub one_fault : (places : List Place) (sum : ℕ) (text : List ℕ) (c d : ℕ) → FirstFault names t left weight places sum text c → FirstFault names t left weight places sum text d → c ≡ d
+    pub one_fault : (places : List Place) (sum : ℕ) (text : List ℕ) (c d : ℕ) → ScannedFault names t left weight places sum text c → ScannedFault names t left weight places sum text d → c ≡ d
     one_fault [] sum text c d h k = h.1 ∙ sym k.1
     one_fault (p ∷ ps) sum text c d (inl h) (inl k) = h.1 ∙ sym k.1
     one_fault (p ∷ ps) sum text c d (inl h) (inr (inl k)) = absurd (empty_starts (skip_spaces text) h.0 k.0)
@@ -185,7 +185,7 @@ module _ (names : NameMap) (t : Map) (left weight : ℕ) where
             | inl b ↦ absurd (never_both (judged names t left weight p sum k.0) a.0 d (moved p sum h.0 k.0 (Ok a.0) e.0 a.1) b)
             | inr b ↦ (
                 let n : a.0 ≡ b.0 = same_passed (judged names t left weight p sum k.0) a.0 b.0 (moved p sum h.0 k.0 (Ok a.0) e.0 a.1) b.1 in
-                one_fault ps b.0 k.1 c d (subst (λ (x : List ℕ). FirstFault names t left weight ps b.0 x c) e.1 (subst (λ (x : ℕ). FirstFault names t left weight ps x h.1 c) n a.2)) b.2)
+                one_fault ps b.0 k.1 c d (subst (λ (x : List ℕ). ScannedFault names t left weight ps b.0 x c) e.1 (subst (λ (x : ℕ). ScannedFault names t left weight ps x h.1 c) n a.2)) b.2)
           ]
         ]
 

@@ -1,13 +1,14 @@
 -- All arguments of a statement.
-use Rattle.std.proofs.Common.{◌≡◌, inl, inr, ℕ, List, Result, Ok, Err, refl, sym, ap, subst, ◌∙◌}
+use Rattle.std.proofs.Common.{◌≡◌, inl, inr, ℕ, List, Result, Ok, Err, refl, sym, ap, subst, ◌∙◌, arith}
 use Rattle.std.specs.Prelude.{IfOk}
 use Rattle.defmt_grammar.specs.declared.piece.Piece.{Piece}
 use Rattle.defmt_intern.specs.Table.{Map}
 use Rattle.defmt_shapes.specs.Shape.{Shape, HeadShape}
+use Rattle.defmt_spelling.proofs.Fronts.{first_found, first_scanned}
 use Rattle.defmt_spelling.proofs.Loops.{one_shapes, fault_scan, one_fault}
 use Rattle.defmt_spelling.specs.Meaning.{meant_vals}
 use Rattle.defmt_spelling.specs.Names.{NameMap}
-use Rattle.defmt_spelling.specs.Reading.{Means, Reads, GivesOnly}
+use Rattle.defmt_spelling.specs.Reading.{Means, ReadsValues, Reads, GivesOnly}
 use Rattle.defmt_spelling.specs.Spelling.{Spelled, FirstFault, ArgumentFault, ReadsArguments}
 use Rattle.defmt_spelling.specs.declared.fault.ArgFault.{ArgFault}
 use Rattle.defmt_spelling.specs.declared.fault.ArgFault.TheVariants.{Refused, Memory}
@@ -52,6 +53,11 @@ spelled_of names t index text ps vs next own m =
     let same : fits.pieces ≡ ps = same_pieces (own_form (look t index)) fits.pieces ps (own_is t index vs fits) own in
     record { fits = fits; shapes = m.shapes; spelled = m.spelled; meant = ap (λ (qs : List Piece). meant_vals names t (places_of qs) m.shapes) same ∙ m.meant }
 
+-- why the arguments of a statement aren't read
+pub whole_refused : (names : NameMap) (t : Map) (index : ℕ) (text : List ℕ) (ps : List Piece) (fault : ArgFault) → own_form (look t index) ≡ Ok ps → ReadsValues names t 16 1 (places_of ps) 0 text (Err fault) → Reads names t index text (Err fault)
+whole_refused names t index text ps (Refused c) own h = inr (ps, own, first_found names t 16 1 (places_of ps) 0 text c (omega arith) h)
+whole_refused names t index text ps Memory own h = tt
+
 -- the sum of the weights
 record Summed (t : Map) (index : ℕ) (vs : Vals) (ps : List Piece) : Type 0 where
   sum : ℕ
@@ -76,7 +82,7 @@ module _ (one : (text : List ℕ) (s r : Shape) (rest after : List ℕ) → Head
   never_refused vs c a (inr h) =
       let pieces : h.0 ≡ a.fits.pieces = same_pieces (own_form (look t index)) h.0 a.fits.pieces h.1 (own_is t index vs a.fits) in
       let fault : FirstFault names t 16 1 (places_of a.fits.pieces) 0 text c = subst (λ (ps : List Piece). FirstFault names t 16 1 (places_of ps) 0 text c) pieces h.2 in
-      let refused : scan_vals t 16 (places_of a.fits.pieces) 1 0 (meant_vals names t (places_of a.fits.pieces) a.shapes) ≡ Err c = fault_scan names t 16 1 one (places_of a.fits.pieces) 0 text c a.shapes fault a.spelled in
+      let refused : scan_vals t 16 (places_of a.fits.pieces) 1 0 (meant_vals names t (places_of a.fits.pieces) a.shapes) ≡ Err c = fault_scan names t 16 1 one (places_of a.fits.pieces) 0 text c a.shapes (first_scanned names t 16 1 (places_of a.fits.pieces) 0 text c fault) a.spelled in
       let s = summed t index vs a.fits in
       never_sum (scan_vals t 16 (places_of a.fits.pieces) 1 0 vs) s.sum c s.is (ap (scan_vals t 16 (places_of a.fits.pieces) 1 0) (sym a.meant) ∙ refused)
 
@@ -86,7 +92,8 @@ module _ (one : (text : List ℕ) (s r : Shape) (rest after : List ℕ) → Head
   one_cause c d (inr a) (inl b) = absurd (never_both (own_form (look t index)) a.0 d a.1 b)
   one_cause c d (inr a) (inr b) =
       let pieces : a.0 ≡ b.0 = same_pieces (own_form (look t index)) a.0 b.0 a.1 b.1 in
-      one_fault names t 16 1 one (places_of b.0) 0 text c d (subst (λ (ps : List Piece). FirstFault names t 16 1 (places_of ps) 0 text c) pieces a.2) b.2
+      let first : FirstFault names t 16 1 (places_of b.0) 0 text c = subst (λ (ps : List Piece). FirstFault names t 16 1 (places_of ps) 0 text c) pieces a.2 in
+      one_fault names t 16 1 one (places_of b.0) 0 text c d (first_scanned names t 16 1 (places_of b.0) 0 text c first) (first_scanned names t 16 1 (places_of b.0) 0 text d b.2)
 
   pub one_reading : (a b : Result Vals ℕ) → ReadsArguments names t index text a → ReadsArguments names t index text b → a ≡ b
   one_reading (Ok vs) (Ok ws) a b = ap Ok (one_spelled vs ws a b)

@@ -1,5 +1,5 @@
 -- What the functions that read values answer.
-use Rattle.std.specs.Prelude.{◌≡◌, ◌⊎◌, ◌≤◌, ℕ, nat_lt, List, [], Option, Result, Ok, Err}
+use Rattle.std.specs.Prelude.{◌≡◌, ◌⊎◌, ◌≤◌, ◌*◌, ℕ, nat_lt, List, [], ◌∷◌, Option, Result, Ok, Err}
 use Rattle.std.specs.Borrow.{Bor}
 use Rattle.defmt_grammar.specs.Cut.{skip_spaces}
 use Rattle.defmt_grammar.specs.declared.piece.Piece.{Piece}
@@ -10,7 +10,7 @@ use Rattle.defmt_shapes.specs.declared.spelling.Spelling.TheVariants.{Call, Sequ
 use Rattle.defmt_shapes.specs.Shape.{Shape, Shapes, SpellsShapes, HeadShape, StartsThere}
 use Rattle.defmt_spelling.specs.Meaning.{index_of, meant_val, meant_vals}
 use Rattle.defmt_spelling.specs.Names.{NameMap}
-use Rattle.defmt_spelling.specs.Spelling.{NoValue, FirstFault, ReadsArguments}
+use Rattle.defmt_spelling.specs.Spelling.{NoValue, ReadsArguments}
 use Rattle.defmt_spelling.specs.declared.fault.ArgFault.{ArgFault}
 use Rattle.defmt_spelling.specs.declared.fault.ArgFault.TheVariants.{Refused, Memory}
 use Rattle.defmt_spelling.specs.declared.fault.Cause.{Cause}
@@ -89,9 +89,23 @@ pub record Means (names : NameMap) (t : Map) (left weight : ℕ) (places : List 
   pub meant : meant_vals names t places shapes ≡ vs
   pub fits : scan_vals t left places weight sum vs ≡ Ok next
 
+-- the sum of the weights with that of a value of a place, or the first cause for which the value doesn't fit there
+abbrev pub judged : NameMap → Map → ℕ → ℕ → Place → ℕ → Shape → Result ℕ ℕ
+judged names t left weight p sum s = scan_val t left p.slot (p.uses * weight) sum (meant_val names t p.slot s)
+
+-- the first fault, with the sum of the weights taken along from value to value
+abbrev pub ScannedFault : NameMap → Map → ℕ → ℕ → List Place → ℕ → List ℕ → ℕ → Type 0
+ScannedFault names t left weight [] sum text cause = StartsThere (skip_spaces text) × (cause ≡ 2)
+ScannedFault names t left weight (p ∷ ps) sum text cause =
+    ((skip_spaces text ≡ []) × (cause ≡ 2))
+    ⊎ ((StartsThere (skip_spaces text) × NoValue (skip_spaces text) × (cause ≡ 1))
+    ⊎ ((s : Shape) × (rest : List ℕ) × HeadShape (skip_spaces text) s rest
+    × ((judged names t left weight p sum s ≡ Err cause)
+    ⊎ ((next : ℕ) × (judged names t left weight p sum s ≡ Ok next) × ScannedFault names t left weight ps next rest cause))))
+
 abbrev pub ReadsValues : NameMap → Map → ℕ → ℕ → List Place → ℕ → List ℕ → Result (Vals × ℕ) ArgFault → Type 0
 ReadsValues names t left weight places sum text (Ok r) = Means names t left weight places sum text r.0 r.1
-ReadsValues names t left weight places sum text (Err (Refused c)) = FirstFault names t left weight places sum text c
+ReadsValues names t left weight places sum text (Err (Refused c)) = ScannedFault names t left weight places sum text c
 ReadsValues names t left weight places sum text (Err Memory) = Unit {0}
 
 -- the first value of a text, what follows it, and the sum behind it

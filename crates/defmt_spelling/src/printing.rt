@@ -1,11 +1,12 @@
 //! Writing the arguments of a statement as text.
 ghost use Rattle.std.specs.Prelude.{◌≡◌, ◌++◌, ℕ, OnOk, IfOk, Ok, true, codes};
 ghost use Rattle.defmt_intern.specs.Table.{Map as AnyTable};
+ghost use Rattle.defmt_spelling.specs.Named.{AreNamed};
 ghost use Rattle.defmt_spelling.specs.Names.{NameMap};
 ghost use Rattle.defmt_spelling.specs.Spelling.{ReadsArguments};
-ghost use Rattle.defmt_spelling.specs.Writable.{AreWritable};
 ghost use Rattle.defmt_values.specs.Fits.{Fits};
 ghost use Rattle.defmt_values.specs.Plain.{Vals};
+ghost use Rattle.defmt_values.specs.Sound.{AreSound};
 ghost use Rattle.defmt_spelling.specs.Printed.{name_text, hex_text, gap, call_mark, item_mark, printed_val, inside_text, vals_text, printed_list, elems_text, printed_arguments};
 ghost use Rattle.defmt_values.specs.View.{plain};
 
@@ -13,7 +14,7 @@ use crate::names::Names;
 use defmt_grammar::{Base, Hint, IntSize, Memory, Text};
 use defmt_hints::{show_bool, show_char, show_int, show_str, show_uint};
 use defmt_intern::Table;
-use defmt_values::{Args, Item, Items, Node, Seq, Statement, Value, cut};
+use defmt_values::{Args, Item, Items, Node, Seq, Statement, Value, args_are_sound, cut};
 use std::alloc::Global;
 
 fn push_name(out: &mut Text, names: &Names, index: u16) -> Result<(), Memory>
@@ -174,6 +175,17 @@ fn push_item(out: &mut Text, names: &Names, item: &Item) -> Result<(), Memory>
     push_inside(out, names, &item.args)
 }
 
+// The arguments in their canonical spelling.
+fn printed(alloc: Global, names: &Names, args: &Args) -> Result<Text, dl_io::Memory>
+    ensures { IfOk result (λ text. text ≡ printed_arguments names.now args.now) }
+{
+    let mut out = Text::new(alloc);
+    match push_values(&mut out, names, args) {
+        Ok(()) => Ok(out),
+        Err(_) => Err(dl_io::Memory),
+    }
+}
+
 /// Writes the arguments of a statement in their canonical spelling: one space between values, numbers in decimal
 /// digits, bytes in lower-case hexadecimal digits, and of escapes only those of newline, carriage return, tab, the
 /// backslash and the own quote. Of several names of one index the least in the order of bytes is written; an index
@@ -181,20 +193,20 @@ fn push_item(out: &mut Text, names: &Names, item: &Item) -> Result<(), Memory>
 pub fn print_args(
     alloc: Global,
     names: &Names,
-    _table: &Table,
+    table: &Table,
     stm: &Statement,
 ) -> Result<Text, dl_io::Memory>
-    ensures { IfOk result (λ text. text ≡ printed_arguments names.now stm.now.args) }
+    ensures text { IfOk result (λ text. text ≡ printed_arguments names.now stm.now.args) }
+    // Where the statement fits and its indexes have names, the text reads back as the arguments.
+    ensures back { Fits table.now stm.now.index stm.now.args → AreNamed names.now stm.now.args → IfOk result (λ text. ReadsArguments names.now table.now stm.now.index text (Ok stm.now.args)) }
 {
-    let mut out = Text::new(alloc);
-    match push_values(&mut out, names, &stm.args) {
-        Ok(()) => Ok(out),
-        Err(_) => Err(dl_io::Memory),
-    }
+    let _ = table;
+    args_are_sound(&stm.args);
+    printed(alloc, names, &stm.args)
 }
 
 /// What is written reads back as the same arguments, where they fit the table, each index in them has a name that is
-/// spelled as names are, and their texts and characters are those of Unicode.
+/// spelled as names are, and they are what the types of values say.
 pub fn reads_back()
-    ensures { (names : NameMap) (table : AnyTable) (index : ℕ) (vs : Vals) → Fits table index vs → AreWritable names vs → ReadsArguments names table index (printed_arguments names vs) (Ok vs) }
+    ensures { (names : NameMap) (table : AnyTable) (index : ℕ) (vs : Vals) → Fits table index vs → AreNamed names vs → AreSound vs → ReadsArguments names table index (printed_arguments names vs) (Ok vs) }
 {}

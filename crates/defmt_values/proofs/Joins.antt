@@ -1,10 +1,6 @@
 -- Lists of values and of elements, put together.
 use Rattle.std.proofs.Common.{◌≡◌, ℕ, Option, refl, ap}
-use Rattle.defmt_values.specs.Plain.{Val, Vals, no_vals, val, Elems, no_elems, elem, snoc, snoc_elem}
-
-abbrev pub join_vals : Vals → Vals → Vals
-join_vals no_vals ws = ws
-join_vals (val v vs) ws = val v (join_vals vs ws)
+use Rattle.defmt_values.specs.Plain.{Val, Vals, no_vals, val, Elems, no_elems, elem, snoc, snoc_elem, join_vals, join_elems}
 
 pub join_snoc : (vs : Vals) (v : Val) (ws : Vals) → join_vals (snoc vs v) ws ≡ join_vals vs (val v ws)
 join_snoc no_vals v ws = refl
@@ -13,10 +9,6 @@ join_snoc (val u vs) v ws = ap (val u) (join_snoc vs v ws)
 pub join_none : (vs : Vals) → join_vals vs no_vals ≡ vs
 join_none no_vals = refl
 join_none (val v vs) = ap (val v) (join_none vs)
-
-abbrev pub join_elems : Elems → Elems → Elems
-join_elems no_elems fs = fs
-join_elems (elem o vs es) fs = elem o vs (join_elems es fs)
 
 pub join_snoc_elem : (es : Elems) (o : Option ℕ) (vs : Vals) (fs : Elems) → join_elems (snoc_elem es o vs) fs ≡ join_elems es (elem o vs fs)
 join_snoc_elem no_elems o vs fs = refl
