@@ -8,7 +8,7 @@ use Rattle.defmt_values.specs.Fits.{Fits, FitsStamp, IsLogged}
 use Rattle.defmt_values.specs.Plain.{Vals}
 use Rattle.defmt_eager.specs.Line.{eager_line, IsWide}
 use Rattle.defmt_encode.specs.Carry.{message_of}
-use Rattle.defmt_encode.specs.Sound.{AreSound}
+use Rattle.defmt_values.specs.Sound.{AreSound}
 use Rattle.defmt_encode.specs.Stamp.{stamp_of}
 use Rattle.defmt_decode.specs.declared.event.Event.{Event}
 use Rattle.defmt_decode.specs.declared.event.Event.TheVariants.{Line, CutFront, CutTail}

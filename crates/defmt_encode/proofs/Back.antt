@@ -14,7 +14,7 @@ use Rattle.defmt_values.specs.Scan.{node_places, index_or}
 use Rattle.defmt_values.proofs.Forms.{index_small, places_are}
 use Rattle.defmt_encode.specs.Carry.{variant_byte, count_bytes, index_bytes, node_slots, slots_at, bytes_val, bytes_vals, bytes_elems}
 use Rattle.defmt_encode.specs.Read.{Read, ◌⇒◌, OneAt, number_at, form_of, each_at, elem_at, elems_at, node_at, some_at, slot_at, value_at, below}
-use Rattle.defmt_encode.specs.Sound.{IsSound, AreSound, ElemsSound}
+use Rattle.defmt_values.specs.Sound.{IsSound, AreSound, ElemsSound}
 use Rattle.defmt_encode.proofs.Chains.{done}
 use Rattle.defmt_encode.proofs.Entries.{form_back, node_slots_are}
 use Rattle.defmt_encode.proofs.Joins.{value_is}

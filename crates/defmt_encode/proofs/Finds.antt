@@ -22,7 +22,7 @@ use Rattle.defmt_encode.specs.Read.{◌⇒◌, number_at, signed_at, chunk_at, f
 use Rattle.defmt_encode.specs.declared.cause.Cause.TheVariants as causes
 use Rattle.defmt_encode.proofs.Chains.{done, same, bound, chosen}
 use Rattle.defmt_encode.proofs.Entries.{interned_found}
-use Rattle.defmt_encode.proofs.Numbers.{AreBytes, number_found, chunk_found}
+use Rattle.defmt_encode.proofs.Numbers.{AreBytes, part_sound, number_found, chunk_found}
 use Rattle.defmt_encode.proofs.Signed.{twos}
 
 abbrev pub Val3 : Type 0
@@ -159,7 +159,7 @@ module _ (t : Map) (left w s : ℕ) (from : List ℕ) (y : Val3) (are : AreBytes
   slice_found e =
       let a = bound (bytes_at from) (λ r. Ok (bytes r.0, s, r.1)) y e in
       val_to t left (slots.One kinds.Bytes) w s from (bytes a.0.0, s, a.0.1) y
-      (record { fits = inl refl; sound = tt; sums = leaf s; carries = counted a.0 a.1 }) a.2
+      (record { fits = inl refl; sound = part_sound (little_bytes 4 (length a.0.0)) a.0.0 a.0.1 from are (counted a.0 a.1); sums = leaf s; carries = counted a.0 a.1 }) a.2
 
   pub array_found : (count : ℕ) → array_at count s from ≡ done y → FoundVal t left (slots.One (kinds.ByteArray count)) w s y.1 y.0 from y.2
   unfolding bytes_val
@@ -167,7 +167,7 @@ module _ (t : Map) (left w s : ℕ) (from : List ℕ) (y : Val3) (are : AreBytes
       let a = bound (chunk_at count from) (λ r. Ok (bytes r.0, s, r.1)) y e in
       let c = chunk_found count from a.0 a.1 in
       val_to t left (slots.One (kinds.ByteArray count)) w s from (bytes a.0.0, s, a.0.1) y
-      (record { fits = inr (ap (λ (m : ℕ). slots.One (kinds.ByteArray m)) (sym c.size)); sound = tt; sums = leaf s; carries = c.carries }) a.2
+      (record { fits = inr (ap (λ (m : ℕ). slots.One (kinds.ByteArray m)) (sym c.size)); sound = part_sound [] a.0.0 a.0.1 from are c.carries; sums = leaf s; carries = c.carries }) a.2
 
   pub window_found : (first width : ℕ) → window_at first width s from ≡ done y → FoundVal t left (slots.Bits first width) w s y.1 y.0 from y.2
   unfolding bytes_val

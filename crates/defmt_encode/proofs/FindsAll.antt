@@ -16,7 +16,7 @@ use Rattle.defmt_values.proofs.Forms.{places_are, variant_small}
 use Rattle.defmt_encode.specs.Carry.{variant_byte, count_bytes, index_bytes, node_slots, slots_at, bytes_val, bytes_vals, bytes_elems}
 use Rattle.defmt_encode.specs.Fields.{Sums, FoundVal, FoundVals, FoundElems}
 use Rattle.defmt_encode.specs.Read.{Read, ◌⇒◌, OneAt, number_at, there, variant_of, add, form_of, each_at, elem_at, elems_at, node_at, list_at, some_at, slot_at, value_at}
-use Rattle.defmt_encode.specs.Sound.{AreSound, ElemsSound}
+use Rattle.defmt_values.specs.Sound.{AreSound, ElemsSound}
 use Rattle.defmt_encode.proofs.Chains.{done, same, bound, add_found}
 use Rattle.defmt_encode.proofs.Entries.{form_found, node_slots_are}
 use Rattle.defmt_encode.proofs.Finds.{Val3, val_to, leaf, uint_found, int_found, flag_found, char_found, str_found, istr_found, slice_found, array_found, window_found}

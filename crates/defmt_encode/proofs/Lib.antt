@@ -16,6 +16,5 @@ pub mod Own
 pub mod Puts
 pub mod ReadsBack
 pub mod Signed
-pub mod Sounds
 pub mod Stamps
 pub mod Uses

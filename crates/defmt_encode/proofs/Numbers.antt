@@ -8,6 +8,7 @@ use Rattle.std.proofs.Math.Seq.{take-append_seam, drop-append_seam}
 use Rattle.std.specs.Str.{is_utf8, IsUtf8}
 use Rattle.std.proofs.lemmas.Str.{IsUtf8-from_is_utf8, is_utf8-from_IsUtf8}
 use Rattle.std.specs.Int.{byte_at, bytes_low_first}
+use Rattle.std.specs.List.{AllByRecursion}
 use Rattle.byteorder.specs.Endian.{little_bytes, little_number}
 use Rattle.byteorder.specs.Numbers.{little_from-cons, little_number-reads_back, length-bytes_low_first, little_from-lt}
 use Rattle.defmt_values.proofs.Powers.{some}
@@ -79,6 +80,18 @@ AreBytes (b ∷ bytes) = (b < 256) × AreBytes bytes
 pub bytes_after : (a b : List ℕ) → AreBytes (a ++ b) → AreBytes b
 bytes_after [] b h = h
 bytes_after (x ∷ a) b h = bytes_after a b h.1
+
+bytes_before : (a b : List ℕ) → AreBytes (a ++ b) → AreBytes a
+bytes_before [] b h = tt
+bytes_before (x ∷ a) b h = (h.0, bytes_before a b h.1)
+
+all_bytes : (bytes : List ℕ) → AreBytes bytes → AllByRecursion (λ b. b < 256) bytes
+all_bytes [] h = tt
+all_bytes (b ∷ bytes) h = (h.0, all_bytes bytes h.1)
+
+-- a part of bytes is bytes
+pub part_sound : (front part rest bytes : List ℕ) → AreBytes bytes → bytes ≡ (front ++ part) ++ rest → AllByRecursion (λ b. b < 256) part
+part_sound front part rest bytes h e = all_bytes part (bytes_after front part (bytes_before (front ++ part) rest (subst (λ (x : List ℕ). AreBytes x) e h)))
 
 pub bytes_rest : (bytes front rest : List ℕ) → AreBytes bytes → bytes ≡ front ++ rest → AreBytes rest
 bytes_rest bytes front rest h e = bytes_after front rest (subst (λ (x : List ℕ). AreBytes x) e h)

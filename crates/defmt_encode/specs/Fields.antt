@@ -11,7 +11,7 @@ use Rattle.defmt_values.specs.Entries.{look, is_logged, Place}
 use Rattle.defmt_values.specs.Fits.{FitsVal, FitsVals, FitsElems, FitsStamp, weigh_val, weigh_vals, weigh_elems}
 use Rattle.defmt_values.specs.Plain.{Val, Vals, Elems}
 use Rattle.defmt_encode.specs.Carry.{bytes_val, bytes_vals, bytes_elems, slots_at, stamp_slots}
-use Rattle.defmt_encode.specs.Sound.{IsSound, AreSound, ElemsSound}
+use Rattle.defmt_values.specs.Sound.{IsSound, AreSound, ElemsSound}
 use Rattle.defmt_encode.specs.Stamp.{stamp_of}
 use Rattle.defmt_grammar.specs.declared.slot.Slot.{Slot}
 

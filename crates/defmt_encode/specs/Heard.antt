@@ -5,7 +5,7 @@ use Rattle.defmt_values.specs.Fits.{Fits, FitsStamp, IsLogged}
 use Rattle.defmt_values.specs.Plain.{Vals}
 use Rattle.defmt_encode.specs.Carry.{message_of}
 use Rattle.defmt_encode.specs.Read.{all_zero}
-use Rattle.defmt_encode.specs.Sound.{AreSound}
+use Rattle.defmt_values.specs.Sound.{AreSound}
 use Rattle.defmt_encode.specs.Stamp.{stamp_of}
 
 -- The stamp and the statement fit, the statement is logged, and the bytes are their message and at

@@ -6,5 +6,4 @@ pub mod Met
 pub mod Out
 pub mod Read
 pub mod Reads
-pub mod Sound
 pub mod Stamp

@@ -8,7 +8,7 @@ ghost use Rattle.defmt_values.specs.Plain.{Vals};
 ghost use Rattle.defmt_encode.specs.Carry.{message_of, stamp_args};
 ghost use Rattle.defmt_encode.specs.Heard.{IsHeard, SameStatement};
 ghost use Rattle.defmt_encode.specs.Met.{IsMet};
-ghost use Rattle.defmt_encode.specs.Sound.{AreSound};
+ghost use Rattle.defmt_values.specs.Sound.{AreSound};
 ghost use Rattle.defmt_encode.specs.Stamp.{stamp_of};
 
 /// In given bytes, fewer than 4,294,967,296, at most one stamp and statement is heard, and at most

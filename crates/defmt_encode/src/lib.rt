@@ -8,14 +8,12 @@ mod heard;
 mod law;
 mod put;
 mod read;
-mod sound;
 mod writing;
 
 pub use framing::frame;
 pub use heard::{Heard, ReadCause, read_message};
 pub use law::{one_answer, reads_back, stamp_length};
 pub use put::{Long, put_bytes, put_number};
-pub use sound::args_are_sound;
 pub use writing::{
     is_long, message, put_args, put_slice, put_text, put_value, size_bytes, stamp_slots,
 };

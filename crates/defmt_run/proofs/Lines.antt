@@ -8,7 +8,7 @@ use Rattle.defmt_decode.specs.Sent.{Sent, AreSent, IsSent, code_of, front_event,
 use Rattle.defmt_decode.specs.declared.event.Event.{Event}
 use Rattle.defmt_eager.specs.Line.{eager_line}
 use Rattle.defmt_encode.specs.Carry.{message_of, stamp_args}
-use Rattle.defmt_encode.specs.Sound.{AreSound}
+use Rattle.defmt_values.specs.Sound.{AreSound}
 use Rattle.defmt_framing.specs.Cut.{front}
 use Rattle.defmt_framing.specs.Frames.{frame_of, frames}
 use Rattle.defmt_intern.specs.Table.{Map}

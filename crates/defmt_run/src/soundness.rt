@@ -1,11 +1,11 @@
 // What the types of a script's statements say of them.
 ghost use Rattle.std.specs.Prelude.{◌≡◌, ◌<◌, ℕ, Some, slice_get};
-ghost use Rattle.defmt_encode.specs.Sound.{AreSound};
+ghost use Rattle.defmt_values.specs.Sound.{AreSound};
 ghost use Rattle.defmt_logger.specs.Tape.{statements_of};
 ghost use Rattle.defmt_values.specs.declared.value.Statement.{Statement as AnyStatement};
 
-use defmt_encode::args_are_sound;
 use defmt_script::Script;
+use defmt_values::args_are_sound;
 
 /// The texts of all statements are UTF-8 and their characters are Unicode scalar values, so that their messages are read back.
 /// It walks through the statements once. Takes no memory.

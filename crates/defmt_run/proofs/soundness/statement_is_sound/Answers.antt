@@ -1,6 +1,6 @@
 use Rattle.std.proofs.Common.{◌≡◌, ◌∙◌, subst}
 use Rattle.std.specs.Prelude.{Some}
-use Rattle.defmt_encode.specs.Sound.{AreSound}
+use Rattle.defmt_values.specs.Sound.{AreSound}
 use Rattle.defmt_values.specs.declared.value.Statement.{Statement}
 use Rattle.defmt_run.proofs.soundness.statement_is_sound.Goals as goal
 
