@@ -1,5 +1,5 @@
 -- The bytes of fitting values read as these values, whatever follows.
-use Rattle.std.proofs.Common.{◌≡◌, ◌<◌, ◌≤◌, inl, inr, ◌^◌, ◌+◌, ◌-◌, ◌*◌, ℕ, List, [], ◌∷◌, ◌++◌, length, Option, Some, None, refl, sym, ap, ◌∙◌, subst, arith, append_assoc, length-append, add_assoc, add-zero, add-one}
+use Rattle.std.proofs.Common.{◌≡◌, ◌<◌, ◌≤◌, inl, inr, ◌^◌, ◌+◌, ◌-◌, ◌*◌, ℕ, List, [], ◌∷◌, ◌++◌, length, Option, Some, None, refl, sym, ap, ◌∙◌, subst, arith, append_assoc, add_assoc, add-zero, add-one}
 use Rattle.byteorder.specs.Endian.{little_bytes}
 use Rattle.defmt_grammar.specs.declared.kind.Kind.TheVariants as kinds
 use Rattle.defmt_grammar.specs.declared.piece.Piece.{Piece}
@@ -12,7 +12,8 @@ use Rattle.defmt_values.specs.Fits.{IsForm, HasPieces, IsList, FitsVal, FitsVals
 use Rattle.defmt_values.specs.Plain.{Val, uint, int, flag, char, str, istr, bytes, bits, format, seq, Vals, no_vals, val, Elems, no_elems, elem, elems_len}
 use Rattle.defmt_values.specs.Scan.{node_places, index_or}
 use Rattle.defmt_values.proofs.Forms.{index_small, places_are}
-use Rattle.defmt_encode.specs.Carry.{variant_byte, count_bytes, index_bytes, node_slots, slots_at, bytes_val, bytes_vals, bytes_elems}
+use Rattle.defmt_encode.specs.Carry.{variant_byte, count_bytes, node_slots, slots_at, bytes_val, bytes_vals, bytes_elems}
+use Rattle.defmt_encode.specs.Lengths.{CountFits, LengthFits, LengthsFit, ElemsLengthsFit}
 use Rattle.defmt_encode.specs.Read.{Read, ◌⇒◌, OneAt, number_at, form_of, each_at, elem_at, elems_at, node_at, some_at, slot_at, value_at, below}
 use Rattle.defmt_values.specs.Sound.{IsSound, AreSound, ElemsSound}
 use Rattle.defmt_encode.proofs.Chains.{done}
@@ -98,20 +99,17 @@ mutual
   unfolding bytes_val each_at elems_at
 
   pub val_back : (t : Map) (left : ℕ) (slot : Slot) (w s : ℕ) (rest : List ℕ) (v : Val)
-      → FitsVal t left slot v → IsSound v → 0 < w → length (bytes_val t slot v) < 2 ^ 32 → s + weigh_val t w v ≤ 8192
+      → FitsVal t left slot v → IsSound v → 0 < w → LengthFits t slot v → s + weigh_val t w v ≤ 8192
       → slot_at t (below t left) slot w s (bytes_val t slot v ++ rest) ≡ done (v, s + weigh_val t w v, rest)
   val_back t left slot w s rest (uint n) f g some short light = keeps (uint n) s rest _ (rw f.slot_is (uint_back s rest f.size n f.in_range))
   val_back t left slot w s rest (int n) f g some short light = keeps (int n) s rest _ (rw f.slot_is (int_back s rest f.size n f.in_range))
   val_back t left slot w s rest (flag b) f g some short light = keeps (flag b) s rest _ (rw f (flag_back s rest b))
   val_back t left slot w s rest (char c) f g some short light = keeps (char c) s rest _ (rw f (char_back s rest c g))
-  val_back t left slot w s rest (str x) f g some short light =
-      let k : length x < 2 ^ 32 = omega (arith, short, length-append (little_bytes 4 (length x)) x) in
-      keeps (str x) s rest _ (rw f (str_back s rest x k g))
+  val_back t left slot w s rest (str x) f g some short light = keeps (str x) s rest _ (rw f (str_back s rest x short g))
   val_back t left slot w s rest (istr index) f g some short light = keeps (istr index) s rest _ (rw f.0 (istr_back s rest t index f.1))
   val_back t left slot w s rest (bytes x) f g some short light = elim f [
     | inl e ↦
-        let size : length (bytes_val t (slots.One kinds.Bytes) (bytes x)) < 2 ^ 32 = subst (λ (q : Slot). length (bytes_val t q (bytes x)) < 2 ^ 32) e short in
-        let k : length x < 2 ^ 32 = omega (arith, size, length-append (little_bytes 4 (length x)) x) in
+        let k : length x < 2 ^ 32 = subst (λ (q : Slot). CountFits q (length x)) e short in
         keeps (bytes x) s rest _ (rw e (slice_back s rest x k))
     | inr e ↦ keeps (bytes x) s rest _ (rw e (array_back s rest x))
   ]
@@ -124,7 +122,7 @@ mutual
       let n : ℕ = weigh_vals t (places_of ps) w vs in
       let n_is : weigh_vals t (node_places t index variant) w vs ≡ n = ap (λ q. weigh_vals t q w vs) (places_are t index form variant ps f.4 f.5) in
       let b_is : bytes_vals t (node_slots t index variant) vs ≡ body = ap (λ q. bytes_vals t q vs) slots_is in
-      let k : length body < 2 ^ 32 = omega (arith, short, ap length b_is, length-append (little_bytes 2 index ++ variant_byte variant) (bytes_vals t (node_slots t index variant) vs)) in
+      let k : LengthsFit t (slots_at (places_of ps)) vs = subst (λ (q : List Slot). LengthsFit t q vs) slots_is short in
       let l : (s + w) + n ≤ 8192 = omega (arith, light, n_is) in
       let e = vals_back t (left - 1) (places_of ps) w (s + w) rest vs f.6 g some (form_used t index form variant ps f.4 f.5) k l in
       let sum_is : (s + w) + n ≡ s + (w + weigh_vals t (node_places t index variant) w vs) = omega (arith, n_is) in
@@ -143,7 +141,7 @@ mutual
         let n : ℕ = weigh_elems t i w es in
         let b_is : bytes_elems t (index_or index) es ≡ body = ap (λ o. bytes_elems t (index_or o) es) e.2 in
         let n_is : weigh_elems t (index_or index) w es ≡ n = ap (λ o. weigh_elems t (index_or o) w es) e.2 in
-        let size : length body < 2 ^ 32 = omega (arith, short, ap length b_is, length-append (count_bytes slot (elems_len es) ++ index_bytes index) (bytes_elems t (index_or index) es)) in
+        let size : ElemsLengthsFit t i es = subst (λ (o : Option ℕ). ElemsLengthsFit t (index_or o) es) e.2 short in
         let l : s + n ≤ 8192 = omega (arith, light, n_is) in
         let few : elems_len es < 2 ^ 32 = omega (arith, l, elems_weigh t i w es some) in
         let h = elems_back t (left - 1) i form w s rest es e.5 e.6 g some size l in
@@ -152,7 +150,7 @@ mutual
   ]
 
   pub vals_back : (t : Map) (left : ℕ) (places : List Place) (w s : ℕ) (rest : List ℕ) (vs : Vals)
-      → FitsVals t left places vs → AreSound vs → 0 < w → AreUsed places → length (bytes_vals t (slots_at places) vs) < 2 ^ 32 → s + weigh_vals t places w vs ≤ 8192
+      → FitsVals t left places vs → AreSound vs → 0 < w → AreUsed places → LengthsFit t (slots_at places) vs → s + weigh_vals t places w vs ≤ 8192
       → each_at (value_at t left) places w s (bytes_vals t (slots_at places) vs ++ rest) ≡ done (vs, s + weigh_vals t places w vs, rest)
   vals_back t left places w s rest no_vals f g some used short light = rw f (ap (λ n. done (no_vals, n, rest)) (sym (add-zero s)))
   vals_back t left places w s rest (val v vs) f g some used short light =
@@ -162,16 +160,15 @@ mutual
       let more : List ℕ = bytes_vals t (slots_at others) vs in
       let a : ℕ = weigh_val t (x.uses * w) v in
       let b : ℕ = weigh_vals t others w vs in
-      let size : length (one ++ more) < 2 ^ 32 = subst (λ (q : List Place). length (bytes_vals t (slots_at q) (val v vs)) < 2 ^ 32) f.2 short in
+      let sizes : LengthsFit t (slots_at (x ∷ others)) (val v vs) = subst (λ (q : List Place). LengthsFit t (slots_at q) (val v vs)) f.2 short in
       let sum : s + (a + b) ≤ 8192 = subst (λ (q : List Place). s + weigh_vals t q w (val v vs) ≤ 8192) f.2 light in
       let u : AreUsed (x ∷ others) = subst (λ (q : List Place). AreUsed q) f.2 used in
-      let parts : length (one ++ more) ≡ length one + length more = length-append one more in
-      let h = val_back t left x.slot (x.uses * w) s (more ++ rest) v f.3 g.0 (weight_some x.uses w u.0 some) (omega (arith, size, parts)) (omega (arith, sum)) in
-      let k = vals_back t left others w (s + a) rest vs f.4 g.1 some u.1 (omega (arith, size, parts)) (omega (arith, sum)) in
+      let h = val_back t left x.slot (x.uses * w) s (more ++ rest) v f.3 g.0 (weight_some x.uses w u.0 some) sizes.0 (omega (arith, sum)) in
+      let k = vals_back t left others w (s + a) rest vs f.4 g.1 some u.1 sizes.1 (omega (arith, sum)) in
       rw f.2 (step_back t left x others w s a b v vs one more rest h k)
 
   pub elems_back : (t : Map) (left index : ℕ) (form : Parsed) (w s : ℕ) (rest : List ℕ) (es : Elems)
-      → IsForm t index form → FitsElems t left form es → ElemsSound es → 0 < w → length (bytes_elems t index es) < 2 ^ 32 → s + weigh_elems t index w es ≤ 8192
+      → IsForm t index form → FitsElems t left form es → ElemsSound es → 0 < w → ElemsLengthsFit t index es → s + weigh_elems t index w es ≤ 8192
       → elems_at (value_at t left) form (elems_len es) w s (bytes_elems t index es ++ rest) ≡ done (es, s + weigh_elems t index w es, rest)
   elems_back t left index form w s rest no_elems i f g some short light = ap (λ n. done (no_elems, n, rest)) (sym (add-zero s))
   elems_back t left index form w s rest (elem variant vs es) i f g some short light =
@@ -182,12 +179,10 @@ mutual
       let more : List ℕ = bytes_elems t index es in
       let a : ℕ = weigh_vals t (places_of ps) w vs in
       let b : ℕ = weigh_elems t index w es in
-      let size : length ((variant_byte variant ++ body) ++ more) < 2 ^ 32 = subst (λ (q : List Slot). length ((variant_byte variant ++ bytes_vals t q vs) ++ bytes_elems t index es) < 2 ^ 32) slots_is short in
+      let size : LengthsFit t (slots_at (places_of ps)) vs = subst (λ (q : List Slot). LengthsFit t q vs) slots_is short.0 in
       let sum : s + ((w + a) + b) ≤ 8192 = subst (λ (q : List Place). s + ((w + weigh_vals t q w vs) + weigh_elems t index w es) ≤ 8192) places_is light in
-      let p : length ((variant_byte variant ++ body) ++ more) ≡ length (variant_byte variant ++ body) + length more = length-append (variant_byte variant ++ body) more in
-      let q : length (variant_byte variant ++ body) ≡ length (variant_byte variant) + length body = length-append (variant_byte variant) body in
-      let h = vals_back t left (places_of ps) w (s + w) (more ++ rest) vs f.2 g.0 some (form_used t index form variant ps i f.1) (omega (arith, size, p, q)) (omega (arith, sum)) in
+      let h = vals_back t left (places_of ps) w (s + w) (more ++ rest) vs f.2 g.0 some (form_used t index form variant ps i f.1) size (omega (arith, sum)) in
       let one = elem_from t left form variant ps w s vs body (more ++ rest) ((s + w) + a) f.1 (omega (arith, sum)) h in
       let one_is : elem_at (value_at t left) form w s ((variant_byte variant ++ body) ++ (more ++ rest)) ≡ done ((variant, vs), s + (w + a), more ++ rest) = one ∙ ap (λ n. done ((variant, vs), n, more ++ rest)) (add_assoc s w a) in
-      let k = elems_back t left index form w (s + (w + a)) rest es i f.3 g.1 some (omega (arith, size, p)) (omega (arith, sum)) in
+      let k = elems_back t left index form w (s + (w + a)) rest es i f.3 g.1 some short.1 (omega (arith, sum)) in
       rw (slots_is, places_is) (elems_step t left (elems_len es) form variant w s (w + a) b vs es (variant_byte variant ++ body) more rest one_is k)

@@ -77,7 +77,7 @@ module _ (t : Map) (left w s : ℕ) (from : List ℕ) (y : Val3) (are : AreBytes
       let n = number_found (size_bytes size) from b.0 are b.1 in
       let small : b.0.0 < 2 ^ size_bits size = subst (λ (m : ℕ). b.0.0 < m) (size_power size) n.small in
       val_to t left (slots.One (kinds.Uint size)) w s from (uint b.0.0, s, b.0.1) y
-      (record { fits = record { size = size; slot_is = refl; in_range = small }; sound = tt; sums = leaf s; carries = n.carries }) b.2
+      (record { fits = record { size = size; slot_is = refl; in_range = small }; sound = tt; lengths = tt; sums = leaf s; carries = n.carries }) b.2
 
   pub int_found : (size : IntSize) → int_at size s from ≡ done y → FoundVal t left (slots.One (kinds.Int size)) w s y.1 y.0 from y.2
   unfolding bytes_val
@@ -90,6 +90,7 @@ module _ (t : Map) (left w s : ℕ) (from : List ℕ) (y : Val3) (are : AreBytes
       let i : FoundVal t left (slots.One (kinds.Int size)) w s s (int (twos_complement k b.0.0)) from b.0.1 = record {
         fits = record { size = size; slot_is = refl; in_range = subst (λ (m : ℕ). IsSigned m (twos_complement k b.0.0)) (sym (size_is size)) z.signed };
         sound = tt;
+        lengths = tt;
         sums = leaf s;
         carries = n.carries ∙ ap (λ (x : List ℕ). x ++ b.0.1) z.bytes;
       } in
@@ -108,7 +109,7 @@ module _ (t : Map) (left w s : ℕ) (from : List ℕ) (y : Val3) (are : AreBytes
       let b = bound (flag_of a.0.0) (λ b. Ok (flag b, s, a.0.1)) y a.2 in
       let n = number_found 1 from a.0 are a.1 in
       val_to t left (slots.One kinds.Bool) w s from (flag b.0, s, a.0.1) y
-      (record { fits = refl; sound = tt; sums = leaf s; carries = n.carries ∙ ap (λ (x : List ℕ). x ++ a.0.1) (flag_is a.0.0 b.0 b.1) }) b.2
+      (record { fits = refl; sound = tt; lengths = tt; sums = leaf s; carries = n.carries ∙ ap (λ (x : List ℕ). x ++ a.0.1) (flag_is a.0.0 b.0 b.1) }) b.2
 
   pub char_found : char_at s from ≡ done y → FoundVal t left (slots.One kinds.Char) w s y.1 y.0 from y.2
   unfolding bytes_val
@@ -121,17 +122,20 @@ module _ (t : Map) (left w s : ℕ) (from : List ℕ) (y : Val3) (are : AreBytes
       (record {
         fits = refl;
         sound = subst (λ (m : ℕ). IsScalar m) c.1 c.0;
+        lengths = tt;
         sums = leaf s;
         carries = n.carries ∙ ap (λ (m : ℕ). little_bytes 4 m ++ a.0.1) c.1;
       }) b.2
 
   -- bytes behind their number
-  counted : (r : List ℕ × List ℕ) → bytes_at from ≡ done r → from ≡ (little_bytes 4 (length r.0) ++ r.0) ++ r.1
+  counted : (r : List ℕ × List ℕ) → bytes_at from ≡ done r → (length r.0 < 2 ^ 32) × (from ≡ (little_bytes 4 (length r.0) ++ r.0) ++ r.1)
   counted r e =
       let b = bound (number_at 4 from) (λ n. chunk_at n.0 n.1) r e in
       let n = number_found 4 from b.0 are b.1 in
       let c = chunk_found b.0.0 b.0.1 r b.2 in
-      n.carries ∙ ap (λ (x : List ℕ). little_bytes 4 b.0.0 ++ x) c.carries ∙ ap (λ (m : ℕ). little_bytes 4 m ++ (r.0 ++ r.1)) (sym c.size) ∙ sym (append_assoc (little_bytes 4 (length r.0)) r.0 r.1)
+      let is : from ≡ (little_bytes 4 (length r.0) ++ r.0) ++ r.1 =
+      n.carries ∙ ap (λ (x : List ℕ). little_bytes 4 b.0.0 ++ x) c.carries ∙ ap (λ (m : ℕ). little_bytes 4 m ++ (r.0 ++ r.1)) (sym c.size) ∙ sym (append_assoc (little_bytes 4 (length r.0)) r.0 r.1) in
+      (subst (λ (m : ℕ). m < 2 ^ 32) (sym c.size) n.small, is)
 
   pub str_found : str_at s from ≡ done y → FoundVal t left (slots.One kinds.Str) w s y.1 y.0 from y.2
   unfolding bytes_val
@@ -141,7 +145,8 @@ module _ (t : Map) (left w s : ℕ) (from : List ℕ) (y : Val3) (are : AreBytes
       let d = bound (text_of b.0.0) (λ text. Ok (text, b.0.1)) a.0 b.2 in
       let u = chosen (is_utf8 b.0.0) b.0.0 causes.BadText d.0 d.1 in
       let k : b.0 ≡ a.0 = ap (λ (x : List ℕ). (x, b.0.1)) u.1 ∙ same (d.0, b.0.1) a.0 d.2 in
-      let i : FoundVal t left (slots.One kinds.Str) w s s (str b.0.0) from b.0.1 = record { fits = refl; sound = IsUtf8-from_is_utf8 b.0.0 u.0; sums = leaf s; carries = counted b.0 b.1 } in
+      let n = counted b.0 b.1 in
+      let i : FoundVal t left (slots.One kinds.Str) w s s (str b.0.0) from b.0.1 = record { fits = refl; sound = IsUtf8-from_is_utf8 b.0.0 u.0; lengths = n.0; sums = leaf s; carries = n.1 } in
       val_to t left (slots.One kinds.Str) w s from (str a.0.0, s, a.0.1) y
       (subst (λ (p : List ℕ × List ℕ). FoundVal t left (slots.One kinds.Str) w s s (str p.0) from p.1) k i) a.2
 
@@ -152,14 +157,15 @@ module _ (t : Map) (left w s : ℕ) (from : List ℕ) (y : Val3) (are : AreBytes
       let b = bound (interned_of (look t a.0.0)) (λ _. Ok (istr a.0.0, s, a.0.1)) y a.2 in
       let n = number_found 2 from a.0 are a.1 in
       val_to t left (slots.One kinds.Istr) w s from (istr a.0.0, s, a.0.1) y
-      (record { fits = (refl, interned_found t a.0.0 b.1); sound = tt; sums = leaf s; carries = n.carries }) b.2
+      (record { fits = (refl, interned_found t a.0.0 b.1); sound = tt; lengths = tt; sums = leaf s; carries = n.carries }) b.2
 
   pub slice_found : slice_at s from ≡ done y → FoundVal t left (slots.One kinds.Bytes) w s y.1 y.0 from y.2
   unfolding bytes_val
   slice_found e =
       let a = bound (bytes_at from) (λ r. Ok (bytes r.0, s, r.1)) y e in
+      let n = counted a.0 a.1 in
       val_to t left (slots.One kinds.Bytes) w s from (bytes a.0.0, s, a.0.1) y
-      (record { fits = inl refl; sound = part_sound (little_bytes 4 (length a.0.0)) a.0.0 a.0.1 from are (counted a.0 a.1); sums = leaf s; carries = counted a.0 a.1 }) a.2
+      (record { fits = inl refl; sound = part_sound (little_bytes 4 (length a.0.0)) a.0.0 a.0.1 from are n.1; lengths = n.0; sums = leaf s; carries = n.1 }) a.2
 
   pub array_found : (count : ℕ) → array_at count s from ≡ done y → FoundVal t left (slots.One (kinds.ByteArray count)) w s y.1 y.0 from y.2
   unfolding bytes_val
@@ -167,7 +173,7 @@ module _ (t : Map) (left w s : ℕ) (from : List ℕ) (y : Val3) (are : AreBytes
       let a = bound (chunk_at count from) (λ r. Ok (bytes r.0, s, r.1)) y e in
       let c = chunk_found count from a.0 a.1 in
       val_to t left (slots.One (kinds.ByteArray count)) w s from (bytes a.0.0, s, a.0.1) y
-      (record { fits = inr (ap (λ (m : ℕ). slots.One (kinds.ByteArray m)) (sym c.size)); sound = part_sound [] a.0.0 a.0.1 from are c.carries; sums = leaf s; carries = c.carries }) a.2
+      (record { fits = inr (ap (λ (m : ℕ). slots.One (kinds.ByteArray m)) (sym c.size)); sound = part_sound [] a.0.0 a.0.1 from are c.carries; lengths = tt; sums = leaf s; carries = c.carries }) a.2
 
   pub window_found : (first width : ℕ) → window_at first width s from ≡ done y → FoundVal t left (slots.Bits first width) w s y.1 y.0 from y.2
   unfolding bytes_val
@@ -187,6 +193,7 @@ module _ (t : Map) (left w s : ℕ) (from : List ℕ) (y : Val3) (are : AreBytes
       (record {
         fits = record { first = first; width = width; slot_is = refl; below = omega (arith, lt, p); above = z1 };
         sound = tt;
+        lengths = tt;
         sums = leaf s;
         carries = i.carries ∙ ap (λ (x : ℕ). little_bytes width x ++ a.0.1) back;
       }) a.2

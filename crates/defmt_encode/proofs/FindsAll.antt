@@ -15,6 +15,7 @@ use Rattle.defmt_values.specs.Scan.{node_places, index_or}
 use Rattle.defmt_values.proofs.Forms.{places_are, variant_small}
 use Rattle.defmt_encode.specs.Carry.{variant_byte, count_bytes, index_bytes, node_slots, slots_at, bytes_val, bytes_vals, bytes_elems}
 use Rattle.defmt_encode.specs.Fields.{Sums, FoundVal, FoundVals, FoundElems}
+use Rattle.defmt_encode.specs.Lengths.{LengthsFit, ElemsLengthsFit}
 use Rattle.defmt_encode.specs.Read.{Read, ◌⇒◌, OneAt, number_at, there, variant_of, add, form_of, each_at, elem_at, elems_at, node_at, list_at, some_at, slot_at, value_at}
 use Rattle.defmt_values.specs.Sound.{AreSound, ElemsSound}
 use Rattle.defmt_encode.proofs.Chains.{done, same, bound, add_found}
@@ -78,13 +79,14 @@ unfolding bytes_vals
 vals_more t left w s x xs from v r first more = record {
   fits = (x, xs, refl, first.fits, more.fits);
   sound = (first.sound, more.sound);
+  lengths = (first.lengths, more.lengths);
   sums = two_sums s (weigh_val t (x.uses * w) v.0) (weigh_vals t xs w r.0) v.1 r.1 first.sums more.sums;
   carries = joined from (bytes_val t x.slot v.0) (bytes_vals t (slots_at xs) r.0) v.2 r.2 first.carries more.carries;
 }
 
 pub vals_none : (t : Map) (left w s : ℕ) (from : List ℕ) → FoundVals t left [] w s s no_vals from from
 unfolding bytes_vals
-vals_none t left w s from = record { fits = refl; sound = tt; sums = leaf s; carries = refl }
+vals_none t left w s from = record { fits = refl; sound = tt; lengths = tt; sums = leaf s; carries = refl }
 
 abbrev pub each_rest : OneAt → List Place → ℕ → Val3 → Read Args3
 each_rest one xs w h = each_at one xs w h.1 h.2 ⇒ λ r. Ok (val h.0 r.0, r.1, r.2)
@@ -110,6 +112,7 @@ pub record FoundElem (t : Map) (left index : ℕ) (form : Parsed) (w s : ℕ) (y
   pub has : HasPieces form y.0.0 pieces
   pub fits : FitsVals t left (places_of pieces) y.0.1
   pub sound : AreSound y.0.1
+  pub lengths : LengthsFit t (node_slots t index y.0.0) y.0.1
   pub sums : Sums s (w + weigh_vals t (node_places t index y.0.0) w y.0.1) y.1
   pub carries : from ≡ (variant_byte y.0.0 ++ bytes_vals t (node_slots t index y.0.0) y.0.1) ++ y.2
 
@@ -136,6 +139,7 @@ elem_found t left index form one is f w s from y h e =
       has = p.has;
       fits = k.fits;
       sound = k.sound;
+      lengths = subst (λ (q : List Slot). LengthsFit t q a.0) sl k.lengths;
       sums = record { sum = omega (arith, m.1, k.sums.sum, n_is); kept = λ z. k.sums.kept (omega (arith, m.0, m.1)) };
       carries = joined from (variant_byte v.0) (bytes_vals t (node_slots t index v.0) a.0) v.2 a.2 p.carries (k.carries ∙ ap (λ q. bytes_vals t q a.0 ++ a.2) sl);
     } in
@@ -149,7 +153,7 @@ FoundCount t left index form n w s from p = FoundElems t left index form w s p.1
 
 pub elems_none : (t : Map) (left index : ℕ) (form : Parsed) (w s : ℕ) (from : List ℕ) → FoundElems t left index form w s s no_elems from from
 unfolding bytes_elems
-elems_none t left index form w s from = record { fits = tt; sound = tt; sums = leaf s; carries = refl }
+elems_none t left index form w s from = record { fits = tt; sound = tt; lengths = tt; sums = leaf s; carries = refl }
 
 -- one more element in front of fitting ones
 pub elems_more : (t : Map) (left index : ℕ) (form : Parsed) (w s : ℕ) (from : List ℕ) (e : Elem3) (r : Elems3) → FoundElem t left index form w s e from → FoundElems t left index form w e.1 r.1 r.0 e.2 r.2 → FoundElems t left index form w s r.1 (elem e.0.0 e.0.1 r.0) from r.2
@@ -157,6 +161,7 @@ unfolding bytes_elems
 elems_more t left index form w s from e r first more = record {
   fits = (first.pieces, first.has, first.fits, more.fits);
   sound = (first.sound, more.sound);
+  lengths = (first.lengths, more.lengths);
   sums = two_sums s (w + weigh_vals t (node_places t index e.0.0) w e.0.1) (weigh_elems t index w r.0) e.1 r.1 first.sums more.sums;
   carries = joined from (variant_byte e.0.0 ++ bytes_vals t (node_slots t index e.0.0) e.0.1) (bytes_elems t index r.0) e.2 r.2 first.carries more.carries;
 }
@@ -204,6 +209,7 @@ node_found t left one up is w s from y h e =
     (record {
       fits = (b1.0, a.pieces, refl, up, f.0, a.has, a.fits);
       sound = a.sound;
+      lengths = a.lengths;
       sums = a.sums;
       carries = n.carries ∙ ap (λ (x : List ℕ). little_bytes 2 i ++ x) a.carries ∙ moved (little_bytes 2 i) (variant_byte o) (bytes_vals t (node_slots t i o) vs) b2.0.2;
     }) b2.2
@@ -217,6 +223,7 @@ pub record FoundList (t : Map) (left count w s r : ℕ) (v : Val) (from rest : L
   pub count_is : elems_len elems ≡ count
   pub fits : ((elems ≡ no_elems) × (index ≡ None)) ⊎ ((i : ℕ) × (form : Parsed) × (index ≡ Some i) × (0 < elems_len elems) × (0 < left) × IsForm t i form × FitsElems t (left - 1) form elems)
   pub sound : ElemsSound elems
+  pub lengths : ElemsLengthsFit t (index_or index) elems
   pub sums : Sums s (weigh_elems t (index_or index) w elems) r
   pub carries : from ≡ (index_bytes index ++ bytes_elems t (index_or index) elems) ++ rest
 
@@ -247,6 +254,7 @@ list_found t left count one up few is w s from y h e =
       count_is = a.1;
       fits = inr (i, b1.0, refl, k, up, f.0, a.0.fits);
       sound = a.0.sound;
+      lengths = a.0.lengths;
       sums = a.0.sums;
       carries = n.carries ∙ ap (λ (x : List ℕ). little_bytes 2 i ++ x) a.0.carries ∙ sym (append_assoc (little_bytes 2 i) (bytes_elems t i b2.0.0) b2.0.2);
     }) b2.2
@@ -262,7 +270,7 @@ IsBelow t left (Some one) = (0 < left) × IsReader t (left - 1) one
 
 some_found : (t : Map) (left count : ℕ) (one : Option OneAt) → IsBelow t left one → (w s : ℕ) (from : List ℕ) (y : Val3) → AreBytes from → some_at t one count w s from ≡ done y → FoundList t left count w s y.1 y.0 from y.2
 some_found t left zero one b w s from y h e = list_to t left 0 w s from (seq None no_elems, s, from) y
-    (record { index = None; elems = no_elems; is = refl; count_is = refl; fits = inl (refl, refl); sound = tt; sums = leaf s; carries = none_elems t from }) e
+    (record { index = None; elems = no_elems; is = refl; count_is = refl; fits = inl (refl, refl); sound = tt; lengths = tt; sums = leaf s; carries = none_elems t from }) e
 some_found t left (suc n) None b w s from y h e = absurd (cc)
 some_found t left (suc n) (Some one) b w s from y h e = list_found t left (suc n) one b.0 (omega arith) b.1 w s from y h e
 
@@ -273,6 +281,7 @@ listed t left slot count w s r v from after rest k e f =
     let m : FoundVal t left slot w s r (seq f.index f.elems) from rest = record {
       fits = (subst (λ (n : ℕ). IsList slot n) (sym f.count_is) k, f.fits);
       sound = f.sound;
+      lengths = f.lengths;
       sums = f.sums;
       carries = e ∙ ap (λ (x : List ℕ). count_bytes slot count ++ x) f.carries ∙ moved (count_bytes slot count) (index_bytes f.index) (bytes_elems t (index_or f.index) f.elems) rest
           ∙ ap (λ (n : ℕ). ((count_bytes slot n ++ index_bytes f.index) ++ bytes_elems t (index_or f.index) f.elems) ++ rest) (sym f.count_is);

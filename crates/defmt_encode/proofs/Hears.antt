@@ -1,5 +1,5 @@
 -- What is heard is what is read.
-use Rattle.std.proofs.Common.{◌≡◌, ◌<◌, ◌≤◌, ◌^◌, ◌+◌, ℕ, true, nat_le, List, [], ◌++◌, length, Option, Some, None, Ok, refl, sym, ap, ◌∙◌, subst, arith, append_assoc, length-append}
+use Rattle.std.proofs.Common.{◌≡◌, ◌≤◌, ◌+◌, ℕ, true, nat_le, List, [], ◌++◌, length, Option, Some, None, Ok, refl, sym, ap, ◌∙◌, subst, arith, append_assoc}
 use Rattle.std.proofs.lemmas.Bool.{le-leb, leb-true, and_parts}
 use Rattle.byteorder.specs.Endian.{little_bytes}
 use Rattle.defmt_grammar.specs.declared.piece.Piece.{Piece}
@@ -13,6 +13,7 @@ use Rattle.defmt_values.proofs.Forms.{index_small}
 use Rattle.defmt_encode.specs.Carry.{own_slots, stamp_slots, slots_at, bytes_vals}
 use Rattle.defmt_encode.specs.Fields.{IsOwn, FoundStamp}
 use Rattle.defmt_encode.specs.Heard.{IsHeard}
+use Rattle.defmt_encode.specs.Lengths.{LengthsFit}
 use Rattle.defmt_encode.specs.Read.{Read, ◌⇒◌, number_at, value_at, each_at, logged_of, stamp_form, stamp_at, all_zero, is_padding, padded, message_at}
 use Rattle.defmt_values.specs.Sound.{AreSound}
 use Rattle.defmt_encode.specs.Stamp.{stamp_of}
@@ -28,18 +29,18 @@ use Rattle.defmt_encode.proofs.Uses.{own_used}
 -- ---- what is heard is read
 
 -- the values of an entry's own arguments, in front of whatever follows
-own_vals : (t : Map) (index : ℕ) (vs : Vals) (rest : List ℕ) (f : Fits t index vs) → AreSound vs → length (bytes_vals t (own_slots t index) vs) < 2 ^ 32
+own_vals : (t : Map) (index : ℕ) (vs : Vals) (rest : List ℕ) (f : Fits t index vs) → AreSound vs → LengthsFit t (own_slots t index) vs
     → each_at (value_at t 16) (places_of f.pieces) 1 0 (bytes_vals t (own_slots t index) vs ++ rest) ≡ done (vs, 0 + weigh_vals t (places_of f.pieces) 1 vs, rest)
 own_vals t index vs rest f g short =
     let own : own_slots t index ≡ slots_at (places_of f.pieces) = own_slots_are t index f.entry f.pieces f.there f.body in
-    let size : length (bytes_vals t (slots_at (places_of f.pieces)) vs) < 2 ^ 32 = subst (λ (q : List Slot). length (bytes_vals t q vs) < 2 ^ 32) own short in
+    let size : LengthsFit t (slots_at (places_of f.pieces)) vs = subst (λ (q : List Slot). LengthsFit t q vs) own short in
     ap (λ (q : List Slot). each_at (value_at t 16) (places_of f.pieces) 1 0 (bytes_vals t q vs ++ rest)) own
     ∙ vals_back t 16 (places_of f.pieces) 1 0 rest vs f.values g (omega arith) (own_used f.entry f.pieces f.body) size (omega (arith, f.light))
 
 abbrev pub stamp_rest : Map → List ℕ → List Piece → Read (Vals × List ℕ)
 stamp_rest t from ps = each_at (value_at t 16) (places_of ps) 1 0 from ⇒ λ r. Ok (r.0, r.2)
 
-stamp_by : (t : Map) (o : Option ℕ) (stamp : Vals) (rest : List ℕ) → FitsStamp t o stamp → AreSound stamp → length (bytes_vals t (stamp_slots t o) stamp) < 2 ^ 32 → stamp_at t o (bytes_vals t (stamp_slots t o) stamp ++ rest) ≡ done (stamp, rest)
+stamp_by : (t : Map) (o : Option ℕ) (stamp : Vals) (rest : List ℕ) → FitsStamp t o stamp → AreSound stamp → LengthsFit t (stamp_slots t o) stamp → stamp_at t o (bytes_vals t (stamp_slots t o) stamp ++ rest) ≡ done (stamp, rest)
 unfolding bytes_vals
 stamp_by t None stamp rest f g short = rw f refl
 stamp_by t (Some index) stamp rest f g short =
@@ -47,11 +48,8 @@ stamp_by t (Some index) stamp rest f g short =
     ap (λ (q : Read (List Piece)). q ⇒ stamp_rest t (bytes_vals t (own_slots t index) stamp ++ rest)) form
     ∙ ap (λ (q : Read Args3). q ⇒ λ r. Ok (r.0, r.2)) (own_vals t index stamp rest f g short)
 
-pub stamp_back : (t : Map) (stamp : Vals) (from rest : List ℕ) → FoundStamp t stamp from rest → length from < 2 ^ 32 → stamp_at t (stamp_of t) from ≡ done (stamp, rest)
-stamp_back t stamp from rest f short =
-    let body : List ℕ = bytes_vals t (stamp_slots t (stamp_of t)) stamp in
-    let size : length body < 2 ^ 32 = omega (arith, short, ap length f.carries, length-append body rest) in
-    ap (λ (x : List ℕ). stamp_at t (stamp_of t) x) f.carries ∙ stamp_by t (stamp_of t) stamp rest f.fits f.sound size
+pub stamp_back : (t : Map) (stamp : Vals) (from rest : List ℕ) → FoundStamp t stamp from rest → stamp_at t (stamp_of t) from ≡ done (stamp, rest)
+stamp_back t stamp from rest f = ap (λ (x : List ℕ). stamp_at t (stamp_of t) x) f.carries ∙ stamp_by t (stamp_of t) stamp rest f.fits f.sound f.lengths
 
 pads : (padding : List ℕ) → length padding ≤ 6 → all_zero padding ≡ true → padded padding ≡ done tt
 pads padding h z = rw (le-leb (length padding) 6 h, z) refl
@@ -64,8 +62,8 @@ own_of t index vs f l =
     let same_entry = one_entry t index l.entry f.entry l.there f.there in
     record { entry = f.entry; there = f.there; tag = subst (λ (e : Entry). is_logged e.tag ≡ true) same_entry l.tag; body = f.body }
 
-pub heard_again : (t : Map) (bytes : List ℕ) (stamp : Vals) (index : ℕ) (vs : Vals) → length bytes < 2 ^ 32 → IsHeard t bytes stamp index vs → message_at t bytes ≡ done (stamp, index, vs)
-heard_again t bytes stamp index vs short h =
+pub heard_again : (t : Map) (bytes : List ℕ) (stamp : Vals) (index : ℕ) (vs : Vals) → IsHeard t bytes stamp index vs → message_at t bytes ≡ done (stamp, index, vs)
+heard_again t bytes stamp index vs h =
     let f = h.fits in
     let own = own_of t index vs f h.logged in
     let head : List ℕ = little_bytes 2 index in
@@ -73,13 +71,9 @@ heard_again t bytes stamp index vs short h =
     let body : List ℕ = bytes_vals t (own_slots t index) vs in
     let is : bytes ≡ head ++ (first ++ (body ++ h.padding)) =
     h.message ∙ append_assoc (head ++ first) body h.padding ∙ append_assoc head first (body ++ h.padding) in
-    let sizes : length (head ++ (first ++ (body ++ h.padding))) ≡ length head + (length first + (length body + length h.padding)) =
-    length-append head (first ++ (body ++ h.padding)) ∙ ap (λ n. length head + n) (length-append first (body ++ h.padding) ∙ ap (λ n. length first + n) (length-append body h.padding)) in
-    let small_first : length first < 2 ^ 32 = omega (arith, short, ap length is, sizes) in
-    let small_body : length body < 2 ^ 32 = omega (arith, short, ap length is, sizes) in
     let a = number_back 2 index (first ++ (body ++ h.padding)) (index_small t index f.entry f.there) in
-    let b = stamp_by t (stamp_of t) stamp (body ++ h.padding) h.stamp_fits h.stamp_sound small_first in
-    let d = own_vals t index vs h.padding f h.sound small_body in
+    let b = stamp_by t (stamp_of t) stamp (body ++ h.padding) h.stamp_fits h.stamp_sound h.lengths.0 in
+    let d = own_vals t index vs h.padding f h.sound h.lengths.1 in
     rw (is, a, own_back t index f.pieces own, b, d, pads h.padding h.few h.zeros) refl
 
 -- ---- what is read is heard
@@ -88,9 +82,9 @@ abbrev Stamp2 : Type 0
 Stamp2 = Vals × List ℕ
 
 -- the stamp's index, with what is known of it
-stamp_found_by : (t : Map) (o : Option ℕ) (from : List ℕ) (y : Stamp2) → stamp_of t ≡ o → AreBytes from → stamp_at t o from ≡ done y → FitsStamp t o y.0 × AreSound y.0 × (from ≡ bytes_vals t (stamp_slots t o) y.0 ++ y.1)
+stamp_found_by : (t : Map) (o : Option ℕ) (from : List ℕ) (y : Stamp2) → stamp_of t ≡ o → AreBytes from → stamp_at t o from ≡ done y → FitsStamp t o y.0 × AreSound y.0 × LengthsFit t (stamp_slots t o) y.0 × (from ≡ bytes_vals t (stamp_slots t o) y.0 ++ y.1)
 unfolding bytes_vals
-stamp_found_by t None from y s h e = subst (λ (p : Stamp2). FitsStamp t None p.0 × AreSound p.0 × (from ≡ bytes_vals t [] p.0 ++ p.1)) (same (no_vals, from) y e) (refl, tt, refl)
+stamp_found_by t None from y s h e = subst (λ (p : Stamp2). FitsStamp t None p.0 × AreSound p.0 × LengthsFit t [] p.0 × (from ≡ bytes_vals t [] p.0 ++ p.1)) (same (no_vals, from) y e) (refl, tt, tt, refl)
 stamp_found_by t (Some index) from y s h e =
     let entry = stamp_entry t index s in
     let e' : (stamp_form (Some entry.0) ⇒ stamp_rest t from) ≡ done y = ap (λ (o : Option Entry). stamp_form o ⇒ stamp_rest t from) (sym entry.1) ∙ e in
@@ -102,11 +96,11 @@ stamp_found_by t (Some index) from y s h e =
     let m : b1.0.1 ≤ 8192 = f.sums.kept (omega arith) in
     let fits : Fits t index b1.0.0 = record { entry = entry.0; pieces = ps; there = entry.1; body = body; values = f.fits; light = omega (arith, m, f.sums.sum) } in
     let own : own_slots t index ≡ slots_at (places_of ps) = own_slots_are t index entry.0 ps entry.1 body in
-    subst (λ (p : Stamp2). FitsStamp t (Some index) p.0 × AreSound p.0 × (from ≡ bytes_vals t (own_slots t index) p.0 ++ p.1)) (same (b1.0.0, b1.0.2) y b1.2)
-    (fits, f.sound, f.carries ∙ ap (λ (q : List Slot). bytes_vals t q b1.0.0 ++ b1.0.2) (sym own))
+    subst (λ (p : Stamp2). FitsStamp t (Some index) p.0 × AreSound p.0 × LengthsFit t (own_slots t index) p.0 × (from ≡ bytes_vals t (own_slots t index) p.0 ++ p.1)) (same (b1.0.0, b1.0.2) y b1.2)
+    (fits, f.sound, subst (λ (q : List Slot). LengthsFit t q b1.0.0) (sym own) f.lengths, f.carries ∙ ap (λ (q : List Slot). bytes_vals t q b1.0.0 ++ b1.0.2) (sym own))
 
 pub found_stamp : (t : Map) (from : List ℕ) (y : Stamp2) → AreBytes from → stamp_at t (stamp_of t) from ≡ done y → FoundStamp t y.0 from y.1
-found_stamp t from y h e = let p = stamp_found_by t (stamp_of t) from y refl h e in record { fits = p.0; sound = p.1; carries = p.2 }
+found_stamp t from y h e = let p = stamp_found_by t (stamp_of t) from y refl h e in record { fits = p.0; sound = p.1; lengths = p.2; carries = p.3 }
 
 abbrev pub Message3 : Type 0
 Message3 = Vals × ℕ × Vals
@@ -155,6 +149,7 @@ heard_found t bytes y h e =
       logged = record { entry = own.entry; there = own.there; tag = own.tag };
       stamp_sound = s.sound;
       sound = f.sound;
+      lengths = (s.lengths, subst (λ (q : List Slot). LengthsFit t q vs) (sym own_is) f.lengths);
       padding = rest;
       few = leb-true (length rest) 6 (and_parts (nat_le (length rest) 6) (all_zero rest) p).0;
       zeros = (and_parts (nat_le (length rest) 6) (all_zero rest) p).1;

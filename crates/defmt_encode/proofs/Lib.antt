@@ -8,6 +8,7 @@ pub mod FindsAll
 pub mod Hears
 pub mod Joins
 pub mod Laws
+pub mod Lengths
 pub mod MetBack
 pub mod MetFound
 pub mod Most

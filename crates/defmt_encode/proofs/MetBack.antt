@@ -1,7 +1,7 @@
 -- A cause that is met is answered.
-use Rattle.std.proofs.Common.{◌≡◌, ◌<◌, ◌≤◌, inl, inr, ◌^◌, ◌+◌, ◌-◌, ◌*◌, ℕ, zero, suc, Bool, List, [], ◌∷◌, ◌++◌, length, Option, Some, None, Ok, Err, refl, sym, ap, ◌∙◌, subst, arith, append_assoc, length-append, add_assoc}
+use Rattle.std.proofs.Common.{◌≡◌, ◌<◌, ◌≤◌, inl, inr, ◌^◌, ◌+◌, ◌-◌, ◌*◌, ℕ, zero, suc, Bool, List, [], ◌∷◌, ◌++◌, length, Option, Some, None, Ok, Err, refl, sym, ap, ◌∙◌, subst, arith, append_assoc, add_assoc}
 use Rattle.std.proofs.lemmas.Bool.{lt-leb}
-use Rattle.byteorder.specs.Endian.{little_bytes, twos_complement}
+use Rattle.byteorder.specs.Endian.{twos_complement}
 use Rattle.defmt_grammar.specs.declared.kind.Kind.TheVariants as kinds
 use Rattle.defmt_grammar.specs.declared.piece.Piece.{Piece}
 use Rattle.defmt_grammar.specs.declared.slot.Slot.{Slot}
@@ -14,8 +14,9 @@ use Rattle.defmt_values.specs.Fits.{IsForm, FitsVals, FitsElems, weigh_val, weig
 use Rattle.defmt_values.specs.Plain.{uint, int, flag, char, str, istr, bytes, bits, format, seq, Vals, no_vals, val, Elems, no_elems, elem, elems_len}
 use Rattle.defmt_values.specs.Scan.{node_places}
 use Rattle.defmt_values.proofs.Forms.{places_are}
-use Rattle.defmt_encode.specs.Carry.{size_bytes, variant_byte, node_slots, slots_at, stamp_slots, bytes_val, bytes_vals, bytes_elems}
+use Rattle.defmt_encode.specs.Carry.{size_bytes, variant_byte, node_slots, slots_at, bytes_val, bytes_vals, bytes_elems}
 use Rattle.defmt_encode.specs.Fields.{IsNumber, IsChunk}
+use Rattle.defmt_encode.specs.Lengths.{LengthsFit, ElemsLengthsFit}
 use Rattle.defmt_encode.specs.Met.{MetBool, MetChar, MetBytes, MetStr, MetIstr, MetVariant, OneMet, Level, no_level, level, MetEach, MetElem, MetElems, MetNode, MetList, MetSome, MetSlot, met_at, MetStamp, MetBehind, Meets}
 use Rattle.defmt_encode.specs.Read.{Read, ◌⇒◌, OneAt, number_at, signed_at, chunk_at, flag_of, char_of, text_of, bytes_at, text_at, interned_of, flag_at, char_at, istr_at, there, variant_of, add, form_of, each_at, elem_at, elems_at, node_at, list_at, some_at, slot_at, value_at, below, logged_of, stamp_form, stamp_at, padded, message_at}
 use Rattle.defmt_values.specs.Sound.{AreSound, ElemsSound}
@@ -35,7 +36,7 @@ use Rattle.defmt_encode.proofs.Uses.{AreUsed, own_used, form_used, weight_some}
 
 -- what is met is refused by this reader
 abbrev IsRefused : OneAt → OneMet → Type 0
-IsRefused one met = (slot : Slot) (w s : ℕ) (from : List ℕ) (c : Cause) → s ≤ 8192 → 0 < w → length from < 2 ^ 32 → met slot w s from c → one slot w s from ≡ refused Val3 c
+IsRefused one met = (slot : Slot) (w s : ℕ) (from : List ℕ) (c : Cause) → s ≤ 8192 → 0 < w → met slot w s from c → one slot w s from ≡ refused Val3 c
 
 -- ---- fields
 
@@ -44,10 +45,6 @@ number_again k n from rest i = ap (λ (x : List ℕ). number_at k x) i.carries �
 
 chunk_again : (n : ℕ) (chunk from rest : List ℕ) → IsChunk n chunk from rest → chunk_at n from ≡ done (chunk, rest)
 chunk_again n chunk from rest i = ap (λ (m : ℕ). chunk_at m from) (sym i.size) ∙ ap (λ (x : List ℕ). chunk_at (length chunk) x) i.carries ∙ chunk_back chunk rest
-
--- what follows a field is no longer than all
-number_shorter : (k n : ℕ) (from rest : List ℕ) → IsNumber k n from rest → length rest ≤ length from
-number_shorter k n from rest i = omega (arith, ap length i.carries, length-append (little_bytes k n) rest)
 
 flag_refused : (n : ℕ) (c : Cause) → 1 < n → c ≡ causes.BadBool → flag_of n ≡ refused Bool c
 flag_refused zero c h e = absurd (omega arith)
@@ -119,7 +116,7 @@ used_behind (p ∷ a) b u = used_behind a b u.1
 module _ (t : Map) (left w : ℕ) (some : 0 < w) where
   -- values of the places in front are read, and what follows is refused
   each_refused : (places others : List Place) (s : ℕ) (rest : List ℕ) (vs : Vals) (c : Cause) → FitsVals t left places vs → AreSound vs → AreUsed places
-      → length (bytes_vals t (slots_at places) vs) < 2 ^ 32 → s + weigh_vals t places w vs ≤ 8192
+      → LengthsFit t (slots_at places) vs → s + weigh_vals t places w vs ≤ 8192
       → each_at (value_at t left) others w (s + weigh_vals t places w vs) rest ≡ refused Args3 c
       → each_at (value_at t left) (places ++ others) w s (bytes_vals t (slots_at places) vs ++ rest) ≡ refused Args3 c
   unfolding each_at bytes_vals
@@ -134,55 +131,52 @@ module _ (t : Map) (left w : ℕ) (some : 0 < w) where
       let more : List ℕ = bytes_vals t (slots_at xs) vs in
       let a : ℕ = weigh_val t (x.uses * w) v in
       let b : ℕ = weigh_vals t xs w vs in
-      let size : length (one ++ more) < 2 ^ 32 = subst (λ (q : List Place). length (bytes_vals t (slots_at q) (val v vs)) < 2 ^ 32) f.2 short in
+      let sizes : LengthsFit t (slots_at (x ∷ xs)) (val v vs) = subst (λ (q : List Place). LengthsFit t (slots_at q) (val v vs)) f.2 short in
       let sum : s + (a + b) ≤ 8192 = subst (λ (q : List Place). s + weigh_vals t q w (val v vs) ≤ 8192) f.2 light in
       let u : AreUsed (x ∷ xs) = subst (λ (q : List Place). AreUsed q) f.2 used in
-      let parts : length (one ++ more) ≡ length one + length more = length-append one more in
-      let k : slot_at t (below t left) x.slot (x.uses * w) s (one ++ (more ++ rest)) ≡ done (v, s + a, more ++ rest) = val_back t left x.slot (x.uses * w) s (more ++ rest) v f.3 g.0 (weight_some x.uses w u.0 some) (omega (arith, size, parts)) (omega (arith, sum)) in
+      let k : slot_at t (below t left) x.slot (x.uses * w) s (one ++ (more ++ rest)) ≡ done (v, s + a, more ++ rest) = val_back t left x.slot (x.uses * w) s (more ++ rest) v f.3 g.0 (weight_some x.uses w u.0 some) sizes.0 (omega (arith, sum)) in
       let k' : value_at t left x.slot (x.uses * w) s (one ++ (more ++ rest)) ≡ done (v, s + a, more ++ rest) = ap (λ (q : OneAt). q x.slot (x.uses * w) s (one ++ (more ++ rest))) (sym (value_is t left)) ∙ k in
       let h' : each_at (value_at t left) others w ((s + a) + b) rest ≡ refused Args3 c =
       subst (λ (n : ℕ). each_at (value_at t left) others w n rest ≡ refused Args3 c) (sym (add_assoc s a b)) (subst (λ (q : List Place). each_at (value_at t left) others w (s + weigh_vals t q w (val v vs)) rest ≡ refused Args3 c) f.2 h) in
-      let m = each_refused xs others (s + a) rest vs c f.4 g.1 u.1 (omega (arith, size, parts)) (omega (arith, sum)) h' in
+      let m = each_refused xs others (s + a) rest vs c f.4 g.1 u.1 sizes.1 (omega (arith, sum)) h' in
       let all : each_at (value_at t left) (x ∷ (xs ++ others)) w s (one ++ (more ++ rest)) ≡ refused Args3 c =
       passes (value_at t left x.slot (x.uses * w) s (one ++ (more ++ rest))) (each_rest (value_at t left) (xs ++ others) w) (v, s + a, more ++ rest) (refused Args3 c) k'
       (breaks (each_at (value_at t left) (xs ++ others) w (s + a) (more ++ rest)) (λ r. Ok (val v r.0, r.1, r.2)) c m) in
       rw f.2 (ap (λ (y : List ℕ). each_at (value_at t left) (x ∷ (xs ++ others)) w s y) (append_assoc one more rest) ∙ all)
 
-  each_met : (met : OneMet) → IsRefused (value_at t left) met → (places : List Place) (s : ℕ) (from : List ℕ) (c : Cause) → s ≤ 8192 → AreUsed places → length from < 2 ^ 32
+  each_met : (met : OneMet) → IsRefused (value_at t left) met → (places : List Place) (s : ℕ) (from : List ℕ) (c : Cause) → s ≤ 8192 → AreUsed places
       → MetEach t left met places w s from c → each_at (value_at t left) places w s from ≡ refused Args3 c
   unfolding each_at
-  each_met met refuses places s from c low used short m =
+  each_met met refuses places s from c low used m =
       let u : AreUsed (m.front ++ m.place ∷ m.others) = subst (λ (q : List Place). AreUsed q) m.places_is used in
       let behind = used_behind m.front (m.place ∷ m.others) u in
       let body : List ℕ = bytes_vals t (slots_at m.front) m.values in
-      let parts : length from ≡ length body + length m.rest = ap length m.found.carries ∙ length-append body m.rest in
       let high : m.sum ≤ 8192 = m.found.sums.kept low in
       let light : s + weigh_vals t m.front w m.values ≤ 8192 = omega (arith, high, m.found.sums.sum) in
-      let here : value_at t left m.place.slot (m.place.uses * w) m.sum m.rest ≡ refused Val3 c = refuses m.place.slot (m.place.uses * w) m.sum m.rest c high (weight_some m.place.uses w behind.0 some) (omega (arith, short, parts)) m.met in
+      let here : value_at t left m.place.slot (m.place.uses * w) m.sum m.rest ≡ refused Val3 c = refuses m.place.slot (m.place.uses * w) m.sum m.rest c high (weight_some m.place.uses w behind.0 some) m.met in
       let step : each_at (value_at t left) (m.place ∷ m.others) w m.sum m.rest ≡ refused Args3 c = breaks (value_at t left m.place.slot (m.place.uses * w) m.sum m.rest) (each_rest (value_at t left) m.others w) c here in
       let step' = subst (λ (n : ℕ). each_at (value_at t left) (m.place ∷ m.others) w n m.rest ≡ refused Args3 c) (sym m.found.sums.sum) step in
-      let all = each_refused m.front (m.place ∷ m.others) s m.rest m.values c m.found.fits m.found.sound (used_front m.front (m.place ∷ m.others) u) (omega (arith, short, parts)) light step' in
+      let all = each_refused m.front (m.place ∷ m.others) s m.rest m.values c m.found.fits m.found.sound (used_front m.front (m.place ∷ m.others) u) m.found.lengths light step' in
       ap (λ (q : List Place). each_at (value_at t left) q w s from) m.places_is ∙ ap (λ (x : List ℕ). each_at (value_at t left) (m.front ++ m.place ∷ m.others) w s x) m.found.carries ∙ all
 
-  elem_met : (met : OneMet) → IsRefused (value_at t left) met → (index : ℕ) (form : Parsed) (s : ℕ) (from : List ℕ) (c : Cause) → IsForm t index form → s ≤ 8192 → length from < 2 ^ 32
+  elem_met : (met : OneMet) → IsRefused (value_at t left) met → (index : ℕ) (form : Parsed) (s : ℕ) (from : List ℕ) (c : Cause) → IsForm t index form → s ≤ 8192
       → MetElem t left met form w s from c → elem_at (value_at t left) form w s from ≡ refused Elem3 c
-  elem_met met refuses index form s from c i low short (inl m) =
+  elem_met met refuses index form s from c i low (inl m) =
       let e : add w s ≡ refused ℕ c = rw (lt-leb (s + w) 8192 m.0, m.1) refl in
       breaks (add w s) (elem_variant (value_at t left) form w from) c e
-  elem_met met refuses index form s from c i low short (inr (inl m)) =
+  elem_met met refuses index form s from c i low (inr (inl m)) =
       passes (add w s) (elem_variant (value_at t left) form w from) (s + w) (refused Elem3 c) (adds w s m.0)
       (breaks (variant_of form from) (elem_args (value_at t left) w (s + w)) c (variant_met form from c m.1))
-  elem_met met refuses index form s from c i low short (inr (inr m)) =
-      let parts : length from ≡ length (variant_byte m.0) + length m.2 = ap length m.5 ∙ length-append (variant_byte m.0) m.2 in
+  elem_met met refuses index form s from c i low (inr (inr m)) =
       let v : variant_of form from ≡ done (m.0, m.1, m.2) = ap (λ (x : List ℕ). variant_of form x) m.5 ∙ variant_back form m.0 m.1 m.2 m.4 in
-      let e = each_met met refuses (places_of m.1) (s + w) m.2 c m.3 (form_used t index form m.0 m.1 i m.4) (omega (arith, short, parts)) m.6 in
+      let e = each_met met refuses (places_of m.1) (s + w) m.2 c m.3 (form_used t index form m.0 m.1 i m.4) m.6 in
       passes (add w s) (elem_variant (value_at t left) form w from) (s + w) (refused Elem3 c) (adds w s m.3)
       (passes (variant_of form from) (elem_args (value_at t left) w (s + w)) (m.0, m.1, m.2) (refused Elem3 c) v
       (breaks (each_at (value_at t left) (places_of m.1) w (s + w) m.2) (λ a. Ok ((m.0, a.0), a.1, a.2)) c e))
 
   -- elements in front are read, and what follows is refused
   elems_refused : (index : ℕ) (form : Parsed) (n count s : ℕ) (rest : List ℕ) (es : Elems) (c : Cause) → IsForm t index form → FitsElems t left form es → ElemsSound es → elems_len es + n ≡ count
-      → length (bytes_elems t index es) < 2 ^ 32 → s + weigh_elems t index w es ≤ 8192
+      → ElemsLengthsFit t index es → s + weigh_elems t index w es ≤ 8192
       → elems_at (value_at t left) form n w (s + weigh_elems t index w es) rest ≡ refused Elems3 c
       → elems_at (value_at t left) form count w s (bytes_elems t index es ++ rest) ≡ refused Elems3 c
   unfolding elems_at bytes_elems
@@ -200,61 +194,55 @@ module _ (t : Map) (left w : ℕ) (some : 0 < w) where
       let more : List ℕ = bytes_elems t index es in
       let a : ℕ = weigh_vals t (places_of ps) w vs in
       let b : ℕ = weigh_elems t index w es in
-      let size : length (one ++ more) < 2 ^ 32 = subst (λ (q : List Slot). length ((variant_byte variant ++ bytes_vals t q vs) ++ bytes_elems t index es) < 2 ^ 32) slots_is short in
+      let size : LengthsFit t (slots_at (places_of ps)) vs = subst (λ (q : List Slot). LengthsFit t q vs) slots_is short.0 in
       let sum : s + ((w + a) + b) ≤ 8192 = subst (λ (q : List Place). s + ((w + weigh_vals t q w vs) + weigh_elems t index w es) ≤ 8192) places_is light in
-      let p : length (one ++ more) ≡ length one + length more = length-append one more in
-      let q : length one ≡ length (variant_byte variant) + length body = length-append (variant_byte variant) body in
-      let k = vals_back t left (places_of ps) w (s + w) (more ++ rest) vs f.2 g.0 some (form_used t index form variant ps i f.1) (omega (arith, size, p, q)) (omega (arith, sum)) in
+      let k = vals_back t left (places_of ps) w (s + w) (more ++ rest) vs f.2 g.0 some (form_used t index form variant ps i f.1) size (omega (arith, sum)) in
       let e = elem_from t left form variant ps w s vs body (more ++ rest) ((s + w) + a) f.1 (omega (arith, sum)) k in
       let first : elem_at (value_at t left) form w s (one ++ (more ++ rest)) ≡ done ((variant, vs), s + (w + a), more ++ rest) = e ∙ ap (λ n. done ((variant, vs), n, more ++ rest)) (add_assoc s w a) in
       let h' : elems_at (value_at t left) form n w ((s + (w + a)) + b) rest ≡ refused Elems3 c =
       subst (λ (m : ℕ). elems_at (value_at t left) form n w m rest ≡ refused Elems3 c) (sym (add_assoc s (w + a) b))
       (subst (λ (r : List Place). elems_at (value_at t left) form n w (s + ((w + weigh_vals t r w vs) + weigh_elems t index w es)) rest ≡ refused Elems3 c) places_is h) in
-      let m = elems_refused index form n count (s + (w + a)) rest es c i f.3 g.1 (omega (arith, is)) (omega (arith, size, p)) (omega (arith, sum)) h' in
+      let m = elems_refused index form n count (s + (w + a)) rest es c i f.3 g.1 (omega (arith, is)) short.1 (omega (arith, sum)) h' in
       let all : elems_at (value_at t left) form (suc count) w s (one ++ (more ++ rest)) ≡ refused Elems3 c =
       passes (elem_at (value_at t left) form w s (one ++ (more ++ rest))) (elems_rest (value_at t left) form count w) ((variant, vs), s + (w + a), more ++ rest) (refused Elems3 c) first
       (breaks (elems_at (value_at t left) form count w (s + (w + a)) (more ++ rest)) (λ r. Ok (elem variant vs r.0, r.1, r.2)) c m) in
       rw slots_is (ap (λ (y : List ℕ). elems_at (value_at t left) form (suc count) w s y) (append_assoc one more rest) ∙ all)
 
-  elems_met : (met : OneMet) → IsRefused (value_at t left) met → (index : ℕ) (form : Parsed) (count s : ℕ) (from : List ℕ) (c : Cause) → IsForm t index form → s ≤ 8192 → length from < 2 ^ 32
+  elems_met : (met : OneMet) → IsRefused (value_at t left) met → (index : ℕ) (form : Parsed) (count s : ℕ) (from : List ℕ) (c : Cause) → IsForm t index form → s ≤ 8192
       → MetElems t left met index form count w s from c → elems_at (value_at t left) form count w s from ≡ refused Elems3 c
   unfolding elems_at
-  elems_met met refuses index form count s from c i low short m =
-      let body : List ℕ = bytes_elems t index m.elems in
-      let parts : length from ≡ length body + length m.rest = ap length m.found.carries ∙ length-append body m.rest in
+  elems_met met refuses index form count s from c i low m =
       let high : m.sum ≤ 8192 = m.found.sums.kept low in
       let light : s + weigh_elems t index w m.elems ≤ 8192 = omega (arith, high, m.found.sums.sum) in
       let n : ℕ = count - suc (elems_len m.elems) in
       let is : elems_len m.elems + suc n ≡ count = let l = m.few in omega (arith, l) in
-      let here = elem_met met refuses index form m.sum m.rest c i high (omega (arith, short, parts)) m.met in
+      let here = elem_met met refuses index form m.sum m.rest c i high m.met in
       let step : elems_at (value_at t left) form (suc n) w m.sum m.rest ≡ refused Elems3 c = breaks (elem_at (value_at t left) form w m.sum m.rest) (elems_rest (value_at t left) form n w) c here in
       let step' = subst (λ (k : ℕ). elems_at (value_at t left) form (suc n) w k m.rest ≡ refused Elems3 c) (sym m.found.sums.sum) step in
       ap (λ (x : List ℕ). elems_at (value_at t left) form count w s x) m.found.carries
-      ∙ elems_refused index form (suc n) count s m.rest m.elems c i m.found.fits m.found.sound is (omega (arith, short, parts)) light step'
+      ∙ elems_refused index form (suc n) count s m.rest m.elems c i m.found.fits m.found.sound is m.found.lengths light step'
 
-  node_met : (met : OneMet) → IsRefused (value_at t left) met → (s : ℕ) (from : List ℕ) (c : Cause) → s ≤ 8192 → length from < 2 ^ 32 → MetNode t left met w s from c → node_at t (value_at t left) w s from ≡ refused Val3 c
-  node_met met refuses s from c low short (inl m) = breaks (number_at 2 from) (node_form t (value_at t left) w s) c (cut_number 2 from c m)
-  node_met met refuses s from c low short (inr (inl m)) =
+  node_met : (met : OneMet) → IsRefused (value_at t left) met → (s : ℕ) (from : List ℕ) (c : Cause) → s ≤ 8192 → MetNode t left met w s from c → node_at t (value_at t left) w s from ≡ refused Val3 c
+  node_met met refuses s from c low (inl m) = breaks (number_at 2 from) (node_form t (value_at t left) w s) c (cut_number 2 from c m)
+  node_met met refuses s from c low (inr (inl m)) =
       passes (number_at 2 from) (node_form t (value_at t left) w s) (m.0, m.1) (refused Val3 c) (number_again 2 m.0 from m.1 m.2)
       (breaks (form_of (look t m.0)) (node_elem (value_at t left) w s (m.0, m.1)) c (form_refused t m.0 c m.3))
-  node_met met refuses s from c low short (inr (inr m)) =
-      let le = number_shorter 2 m.0 from m.1 m.3 in
+  node_met met refuses s from c low (inr (inr m)) =
       passes (number_at 2 from) (node_form t (value_at t left) w s) (m.0, m.1) (refused Val3 c) (number_again 2 m.0 from m.1 m.3)
       (passes (form_of (look t m.0)) (node_elem (value_at t left) w s (m.0, m.1)) m.2 (refused Val3 c) (form_back_of t m.0 m.2 m.4 m.5)
       (breaks (elem_at (value_at t left) m.2 w s m.1) (λ e. Ok (format m.0 e.0.0 e.0.1, e.1, e.2)) c
-      (elem_met met refuses m.0 m.2 s m.1 c m.4 low (omega (arith, short, le)) m.6)))
+      (elem_met met refuses m.0 m.2 s m.1 c m.4 low m.6)))
 
-  list_met : (met : OneMet) → IsRefused (value_at t left) met → (count s : ℕ) (from : List ℕ) (c : Cause) → s ≤ 8192 → length from < 2 ^ 32 → MetList t left met count w s from c → list_at t (value_at t left) count w s from ≡ refused Val3 c
-  list_met met refuses count s from c low short (inl m) = breaks (number_at 2 from) (list_form t (value_at t left) count w s) c (cut_number 2 from c m)
-  list_met met refuses count s from c low short (inr (inl m)) =
+  list_met : (met : OneMet) → IsRefused (value_at t left) met → (count s : ℕ) (from : List ℕ) (c : Cause) → s ≤ 8192 → MetList t left met count w s from c → list_at t (value_at t left) count w s from ≡ refused Val3 c
+  list_met met refuses count s from c low (inl m) = breaks (number_at 2 from) (list_form t (value_at t left) count w s) c (cut_number 2 from c m)
+  list_met met refuses count s from c low (inr (inl m)) =
       passes (number_at 2 from) (list_form t (value_at t left) count w s) (m.0, m.1) (refused Val3 c) (number_again 2 m.0 from m.1 m.2)
       (breaks (form_of (look t m.0)) (list_elems (value_at t left) count w s (m.0, m.1)) c (form_refused t m.0 c m.3))
-  list_met met refuses count s from c low short (inr (inr m)) =
-      let le = number_shorter 2 m.0 from m.1 m.3 in
+  list_met met refuses count s from c low (inr (inr m)) =
       passes (number_at 2 from) (list_form t (value_at t left) count w s) (m.0, m.1) (refused Val3 c) (number_again 2 m.0 from m.1 m.3)
       (passes (form_of (look t m.0)) (list_elems (value_at t left) count w s (m.0, m.1)) m.2 (refused Val3 c) (form_back_of t m.0 m.2 m.4 m.5)
       (breaks (elems_at (value_at t left) m.2 count w s m.1) (λ r. Ok (seq (Some m.0) r.0, r.1, r.2)) c
-      (elems_met met refuses m.0 m.2 count s m.1 c m.4 low (omega (arith, short, le)) m.6)))
+      (elems_met met refuses m.0 m.2 count s m.1 c m.4 low m.6)))
 
 -- the reader and what is refused one level below belong together
 abbrev IsLevel : Map → ℕ → Option OneAt → Level → Type 0
@@ -262,84 +250,78 @@ IsLevel t left None no_level = Unit {0}
 IsLevel t left (Some one) (level met) = (one ≡ value_at t left) × IsRefused (value_at t left) met
 IsLevel t left one l = ⊥
 
-some_met : (t : Map) (left count : ℕ) (one : Option OneAt) (l : Level) → IsLevel t left one l → (w s : ℕ) (from : List ℕ) (c : Cause) → s ≤ 8192 → 0 < w → length from < 2 ^ 32 → MetSome t left l count w s from c → some_at t one count w s from ≡ refused Val3 c
-some_met t left zero one l b w s from c low some short m = absurd m
-some_met t left (suc n) None no_level b w s from c low some short m = ap (λ d. Err d) (sym m)
-some_met t left (suc n) None (level met) b w s from c low some short m = absurd b
-some_met t left (suc n) (Some one) no_level b w s from c low some short m = absurd b
-some_met t left (suc n) (Some one) (level met) b w s from c low some short m = rw b.0 (list_met t left w some met b.1 (suc n) s from c low short m)
+some_met : (t : Map) (left count : ℕ) (one : Option OneAt) (l : Level) → IsLevel t left one l → (w s : ℕ) (from : List ℕ) (c : Cause) → s ≤ 8192 → 0 < w → MetSome t left l count w s from c → some_at t one count w s from ≡ refused Val3 c
+some_met t left zero one l b w s from c low some m = absurd m
+some_met t left (suc n) None no_level b w s from c low some m = ap (λ d. Err d) (sym m)
+some_met t left (suc n) None (level met) b w s from c low some m = absurd b
+some_met t left (suc n) (Some one) no_level b w s from c low some m = absurd b
+some_met t left (suc n) (Some one) (level met) b w s from c low some m = rw b.0 (list_met t left w some met b.1 (suc n) s from c low m)
 
-slot_met : (t : Map) (left : ℕ) (one : Option OneAt) (l : Level) → IsLevel t left one l → (slot : Slot) (w s : ℕ) (from : List ℕ) (c : Cause) → s ≤ 8192 → 0 < w → length from < 2 ^ 32 → MetSlot t left l slot w s from c → slot_at t one slot w s from ≡ refused Val3 c
-slot_met t left one l b (slots.One (kinds.Uint size)) w s from c low some short m = breaks (number_at (size_bytes size) from) (λ r. Ok (uint r.0, s, r.1)) c (cut_number (size_bytes size) from c m)
-slot_met t left one l b (slots.One (kinds.Int size)) w s from c low some short m =
+slot_met : (t : Map) (left : ℕ) (one : Option OneAt) (l : Level) → IsLevel t left one l → (slot : Slot) (w s : ℕ) (from : List ℕ) (c : Cause) → s ≤ 8192 → 0 < w → MetSlot t left l slot w s from c → slot_at t one slot w s from ≡ refused Val3 c
+slot_met t left one l b (slots.One (kinds.Uint size)) w s from c low some m = breaks (number_at (size_bytes size) from) (λ r. Ok (uint r.0, s, r.1)) c (cut_number (size_bytes size) from c m)
+slot_met t left one l b (slots.One (kinds.Int size)) w s from c low some m =
     breaks (signed_at (size_bytes size) from) (λ r. Ok (int r.0, s, r.1)) c (breaks (number_at (size_bytes size) from) (λ r. Ok (twos_complement (size_bytes size) r.0, r.1)) c (cut_number (size_bytes size) from c m))
-slot_met t left one l b (slots.One kinds.Bool) w s from c low some short m = bool_met s from c m
-slot_met t left one l b (slots.One kinds.Char) w s from c low some short m = char_met s from c m
-slot_met t left one l b (slots.One kinds.Str) w s from c low some short m = breaks (text_at from) (λ r. Ok (str r.0, s, r.1)) c (text_met s from c m)
-slot_met t left one l b (slots.One kinds.Istr) w s from c low some short m = istr_met s from c t m
-slot_met t left one l b (slots.One kinds.Bytes) w s from c low some short m = breaks (bytes_at from) (λ r. Ok (bytes r.0, s, r.1)) c (counted_met s from c m)
-slot_met t left one l b (slots.One (kinds.ByteArray count)) w s from c low some short m = breaks (chunk_at count from) (λ r. Ok (bytes r.0, s, r.1)) c (cut_chunk count from c m)
-slot_met t left None no_level b (slots.One kinds.Format) w s from c low some short m = ap (λ d. Err d) (sym m)
-slot_met t left None (level met) b (slots.One kinds.Format) w s from c low some short m = absurd b
-slot_met t left (Some one) no_level b (slots.One kinds.Format) w s from c low some short m = absurd b
-slot_met t left (Some one) (level met) b (slots.One kinds.Format) w s from c low some short m = rw b.0 (node_met t left w some met b.1 s from c low short m)
-slot_met t left one l b (slots.One kinds.FormatSlice) w s from c low some short (inl m) = breaks (number_at 4 from) (λ n. some_at t one n.0 w s n.1) c (cut_number 4 from c m)
-slot_met t left one l b (slots.One kinds.FormatSlice) w s from c low some short (inr m) =
-    let le = number_shorter 4 m.0 from m.1 m.2 in
-    passes (number_at 4 from) (λ n. some_at t one n.0 w s n.1) (m.0, m.1) (refused Val3 c) (number_again 4 m.0 from m.1 m.2) (some_met t left m.0 one l b w s m.1 c low some (omega (arith, short, le)) m.3)
-slot_met t left one l b (slots.One (kinds.FormatArray count)) w s from c low some short m = some_met t left count one l b w s from c low some short m
-slot_met t left one l b (slots.One (kinds.Bits lo hi)) w s from c low some short m = ap (λ d. Err d) (sym m)
-slot_met t left one l b (slots.Bits first width) w s from c low some short m = breaks (number_at width from) (λ r. Ok (bits (r.0 * 256 ^ first), s, r.1)) c (cut_number width from c m)
+slot_met t left one l b (slots.One kinds.Bool) w s from c low some m = bool_met s from c m
+slot_met t left one l b (slots.One kinds.Char) w s from c low some m = char_met s from c m
+slot_met t left one l b (slots.One kinds.Str) w s from c low some m = breaks (text_at from) (λ r. Ok (str r.0, s, r.1)) c (text_met s from c m)
+slot_met t left one l b (slots.One kinds.Istr) w s from c low some m = istr_met s from c t m
+slot_met t left one l b (slots.One kinds.Bytes) w s from c low some m = breaks (bytes_at from) (λ r. Ok (bytes r.0, s, r.1)) c (counted_met s from c m)
+slot_met t left one l b (slots.One (kinds.ByteArray count)) w s from c low some m = breaks (chunk_at count from) (λ r. Ok (bytes r.0, s, r.1)) c (cut_chunk count from c m)
+slot_met t left None no_level b (slots.One kinds.Format) w s from c low some m = ap (λ d. Err d) (sym m)
+slot_met t left None (level met) b (slots.One kinds.Format) w s from c low some m = absurd b
+slot_met t left (Some one) no_level b (slots.One kinds.Format) w s from c low some m = absurd b
+slot_met t left (Some one) (level met) b (slots.One kinds.Format) w s from c low some m = rw b.0 (node_met t left w some met b.1 s from c low m)
+slot_met t left one l b (slots.One kinds.FormatSlice) w s from c low some (inl m) = breaks (number_at 4 from) (λ n. some_at t one n.0 w s n.1) c (cut_number 4 from c m)
+slot_met t left one l b (slots.One kinds.FormatSlice) w s from c low some (inr m) =
+    passes (number_at 4 from) (λ n. some_at t one n.0 w s n.1) (m.0, m.1) (refused Val3 c) (number_again 4 m.0 from m.1 m.2) (some_met t left m.0 one l b w s m.1 c low some m.3)
+slot_met t left one l b (slots.One (kinds.FormatArray count)) w s from c low some m = some_met t left count one l b w s from c low some m
+slot_met t left one l b (slots.One (kinds.Bits lo hi)) w s from c low some m = ap (λ d. Err d) (sym m)
+slot_met t left one l b (slots.Bits first width) w s from c low some m = breaks (number_at width from) (λ r. Ok (bits (r.0 * 256 ^ first), s, r.1)) c (cut_number width from c m)
 
 value_met : (t : Map) (left : ℕ) → IsRefused (value_at t left) (met_at t left)
 unfolding value_at met_at
-value_met t zero = λ slot w s from c low some short m. slot_met t zero None no_level tt slot w s from c low some short m
-value_met t (suc left) = λ slot w s from c low some short m. slot_met t left (Some (value_at t left)) (level (met_at t left)) (refl, value_met t left) slot w s from c low some short m
+value_met t zero = λ slot w s from c low some m. slot_met t zero None no_level tt slot w s from c low some m
+value_met t (suc left) = λ slot w s from c low some m. slot_met t left (Some (value_at t left)) (level (met_at t left)) (refl, value_met t left) slot w s from c low some m
 
 -- ---- messages
 
-args_met : (t : Map) (places : List Place) (from : List ℕ) (c : Cause) → AreUsed places → length from < 2 ^ 32 → MetEach t 16 (met_at t 16) places 1 0 from c → each_at (value_at t 16) places 1 0 from ≡ refused Args3 c
-args_met t places from c used short m = each_met t 16 1 (omega arith) (met_at t 16) (value_met t 16) places 0 from c (omega arith) used short m
+args_met : (t : Map) (places : List Place) (from : List ℕ) (c : Cause) → AreUsed places → MetEach t 16 (met_at t 16) places 1 0 from c → each_at (value_at t 16) places 1 0 from ≡ refused Args3 c
+args_met t places from c used m = each_met t 16 1 (omega arith) (met_at t 16) (value_met t 16) places 0 from c (omega arith) used m
 
-stamp_met : (t : Map) (o : Option ℕ) (from : List ℕ) (c : Cause) → length from < 2 ^ 32 → MetStamp t o from c → stamp_at t o from ≡ refused (Vals × List ℕ) c
-stamp_met t None from c short m = absurd m
-stamp_met t (Some index) from c short (inl m) =
+stamp_met : (t : Map) (o : Option ℕ) (from : List ℕ) (c : Cause) → MetStamp t o from c → stamp_at t o from ≡ refused (Vals × List ℕ) c
+stamp_met t None from c m = absurd m
+stamp_met t (Some index) from c (inl m) =
     let e : stamp_form (look t index) ≡ refused (List Piece) c = rw (m.1, m.3) (stamp_refused m.0 m.2) in
     breaks (stamp_form (look t index)) (stamp_rest t from) c e
-stamp_met t (Some index) from c short (inr m) =
+stamp_met t (Some index) from c (inr m) =
     let e : stamp_form (look t index) ≡ done m.1 = rw (m.2, m.3) refl in
     passes (stamp_form (look t index)) (stamp_rest t from) m.1 (refused (Vals × List ℕ) c) e
-    (breaks (each_at (value_at t 16) (places_of m.1) 1 0 from) (λ r. Ok (r.0, r.2)) c (args_met t (places_of m.1) from c (own_used m.0 m.1 m.3) short m.4))
+    (breaks (each_at (value_at t 16) (places_of m.1) 1 0 from) (λ r. Ok (r.0, r.2)) c (args_met t (places_of m.1) from c (own_used m.0 m.1 m.3) m.4))
 
-behind_met : (t : Map) (i : ℕ) (ps : List Piece) (from : List ℕ) (c : Cause) → AreUsed (places_of ps) → length from < 2 ^ 32 → MetBehind t ps from c → (stamp_at t (stamp_of t) from ⇒ rest_args t i ps) ≡ refused Message3 c
-behind_met t i ps from c used short (inl m) = breaks (stamp_at t (stamp_of t) from) (rest_args t i ps) c (stamp_met t (stamp_of t) from c short m)
-behind_met t i ps from c used short (inr (inl m)) =
-    let le : length m.1 ≤ length from = omega (arith, ap length m.2.carries, length-append (bytes_vals t (stamp_slots t (stamp_of t)) m.0) m.1) in
-    passes (stamp_at t (stamp_of t) from) (rest_args t i ps) (m.0, m.1) (refused Message3 c) (stamp_back t m.0 from m.1 m.2 short)
-    (breaks (each_at (value_at t 16) (places_of ps) 1 0 m.1) (rest_end i m.0) c (args_met t (places_of ps) m.1 c used (omega (arith, short, le)) m.3))
-behind_met t i ps from c used short (inr (inr m)) =
+behind_met : (t : Map) (i : ℕ) (ps : List Piece) (from : List ℕ) (c : Cause) → AreUsed (places_of ps) → MetBehind t ps from c → (stamp_at t (stamp_of t) from ⇒ rest_args t i ps) ≡ refused Message3 c
+behind_met t i ps from c used (inl m) = breaks (stamp_at t (stamp_of t) from) (rest_args t i ps) c (stamp_met t (stamp_of t) from c m)
+behind_met t i ps from c used (inr (inl m)) =
+    passes (stamp_at t (stamp_of t) from) (rest_args t i ps) (m.0, m.1) (refused Message3 c) (stamp_back t m.0 from m.1 m.2)
+    (breaks (each_at (value_at t 16) (places_of ps) 1 0 m.1) (rest_end i m.0) c (args_met t (places_of ps) m.1 c used m.3))
+behind_met t i ps from c used (inr (inr m)) =
     let stamp : Vals = m.0 in
     let mid : List ℕ = m.1 in
     let vs : Vals = m.2 in
     let rest : List ℕ = m.4 in
-    let le : length mid ≤ length from = omega (arith, ap length m.5.carries, length-append (bytes_vals t (stamp_slots t (stamp_of t)) stamp) mid) in
-    let body : List ℕ = bytes_vals t (slots_at (places_of ps)) vs in
-    let lf : length body ≤ length mid = omega (arith, ap length m.6.carries, length-append body rest) in
     let high : m.3 ≤ 8192 = m.6.sums.kept (omega arith) in
-    let k = vals_back t 16 (places_of ps) 1 0 rest vs m.6.fits m.6.sound (omega arith) used (omega (arith, short, le, lf)) (omega (arith, high, m.6.sums.sum)) in
+    let k = vals_back t 16 (places_of ps) 1 0 rest vs m.6.fits m.6.sound (omega arith) used m.6.lengths (omega (arith, high, m.6.sums.sum)) in
     let k' : each_at (value_at t 16) (places_of ps) 1 0 mid ≡ done (vs, 0 + weigh_vals t (places_of ps) 1 vs, rest) = ap (λ (x : List ℕ). each_at (value_at t 16) (places_of ps) 1 0 x) m.6.carries ∙ k in
     let e : padded rest ≡ refused (Unit {0}) c = rw (m.7, m.8) refl in
-    passes (stamp_at t (stamp_of t) from) (rest_args t i ps) (stamp, mid) (refused Message3 c) (stamp_back t stamp from mid m.5 short)
+    passes (stamp_at t (stamp_of t) from) (rest_args t i ps) (stamp, mid) (refused Message3 c) (stamp_back t stamp from mid m.5)
     (passes (each_at (value_at t 16) (places_of ps) 1 0 mid) (rest_end i stamp) (vs, 0 + weigh_vals t (places_of ps) 1 vs, rest) (refused Message3 c) k'
     (breaks (padded rest) (λ _. Ok (stamp, i, vs)) c e))
 
-pub met_again : (t : Map) (from : List ℕ) (c : Cause) → length from < 2 ^ 32 → Meets t from c → message_at t from ≡ refused Message3 c
-met_again t from c short (inl m) = breaks (number_at 2 from) (rest_own t) c (cut_number 2 from c m)
-met_again t from c short (inr (inl m)) =
+pub met_again : (t : Map) (from : List ℕ) (c : Cause) → Meets t from c → message_at t from ≡ refused Message3 c
+met_again t from c (inl m) = breaks (number_at 2 from) (rest_own t) c (cut_number 2 from c m)
+met_again t from c (inr (inl m)) =
     passes (number_at 2 from) (rest_own t) (m.0, m.1) (refused Message3 c) (number_again 2 m.0 from m.1 m.2)
     (breaks (logged_of (look t m.0)) (rest_stamp t (m.0, m.1)) c (own_refused t m.0 c m.3))
-met_again t from c short (inr (inr m)) =
-    let le = number_shorter 2 m.0 from m.1 m.3 in
+met_again t from c (inr (inr m)) =
     passes (number_at 2 from) (rest_own t) (m.0, m.1) (refused Message3 c) (number_again 2 m.0 from m.1 m.3)
     (passes (logged_of (look t m.0)) (rest_stamp t (m.0, m.1)) m.2 (refused Message3 c) (own_back t m.0 m.2 m.4)
-    (behind_met t m.0 m.2 m.1 c (own_used m.4.entry m.2 m.4.body) (omega (arith, short, le)) m.5))
+    (behind_met t m.0 m.2 m.1 c (own_used m.4.entry m.2 m.4.body) m.5))

@@ -135,7 +135,7 @@ message_short t stamp index vs most few have =
 
 pub written : (old new message : List ℕ) (r : Result ℕ Long) → length message ≤ 2000 → Puts old new 0 r message → Writes old new r message
 written old new message (Ok n) short w = record { message_is = w.front; length_is = omega (arith, w.end_is); short = w.fits; behind = w.behind }
-written old new message (Err e) short far = absurd (omega (arith, short, far))
+written old new message (Err e) short far = absurd (omega (arith, short, far.long))
 
 pub not_long : (message : List ℕ) → length message ≤ 2000 → false ≡ nat_lt 2000 (length message)
 not_long message short = sym (le-ltb 2000 (length message) short)

@@ -1,5 +1,5 @@
 -- Steps of the loops that put values.
-use Rattle.std.proofs.Common.{◌≡◌, ◌≤◌, ◌<◌, ℕ, ◌+◌, List, [], ◌∷◌, ◌++◌, length, map, refl, sym, ap, subst, ◌∙◌, arith, append_assoc, length-append}
+use Rattle.std.proofs.Common.{◌≡◌, ◌≤◌, ℕ, List, [], ◌∷◌, ◌++◌, map, refl, sym, ap, subst, ◌∙◌, arith, append_assoc}
 use Rattle.std.proofs.lemmas.List.{append-nil}
 use Rattle.defmt_grammar.specs.declared.slot.Slot.{Slot}
 use Rattle.defmt_intern.specs.Table.{Map}
@@ -8,14 +8,16 @@ use Rattle.defmt_values.specs.View.{plain, vals_of, elems_of}
 use Rattle.defmt_values.specs.declared.value.Item.{Item}
 use Rattle.defmt_values.specs.declared.value.Value.{Value}
 use Rattle.defmt_encode.specs.Carry.{bytes_val, bytes_vals, bytes_elems, variant_byte, node_slots}
-use Rattle.defmt_encode.specs.Out.{Wrote}
+use Rattle.defmt_encode.specs.Out.{Wrote, Refuses}
+use Rattle.defmt_encode.proofs.Chain.{refused_more, refused_behind}
 
 pub joins_on : (done one others whole all : List ℕ) → whole ≡ one ++ others → done ++ whole ≡ all → (done ++ one) ++ others ≡ all
 joins_on done one others whole all p q = append_assoc done one others ∙ ap (λ t. done ++ t) (sym p) ∙ q
 
-pub passes : (at end : ℕ) (done one others whole all : List ℕ) → whole ≡ one ++ others → done ++ whole ≡ all → end ≡ at + length done → 2000 < end + length one → 2000 < at + length all
-passes at end done one others whole all p q e h =
-    omega (arith, ap length p, ap length q, length-append done whole, length-append one others)
+pub passes : (old mid new : List ℕ) (at end : ℕ) (done one others whole all : List ℕ) → whole ≡ one ++ others → done ++ whole ≡ all → Wrote old mid at end done → Refuses mid new end one → Refuses old new at all
+passes old mid new at end done one others whole all p q w r =
+    subst (λ (t : List ℕ). Refuses old new at t) (joins_on done one others whole all p q)
+    (refused_more old new at (done ++ one) others (refused_behind old mid new at end done one w r))
 
 pub done_all : (old new : List ℕ) (at n : ℕ) (done all whole : List ℕ) → Wrote old new at n done → done ++ whole ≡ all → whole ≡ [] → Wrote old new at n all
 done_all old new at n done all whole w q e = subst (λ (t : List ℕ). Wrote old new at n t) (sym (append-nil done) ∙ ap (λ t. done ++ t) (sym e) ∙ q) w

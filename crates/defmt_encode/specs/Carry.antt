@@ -116,9 +116,13 @@ abbrev pub stamp_slots : Map → Option ℕ → List Slot
 stamp_slots t None = []
 stamp_slots t (Some index) = own_slots t index
 
--- the message of a statement: its index, the stamp's arguments, and its own
+-- the head of a message, in front of the statement's own arguments: its index, and the bytes of the stamp
+abbrev pub message_head : ℕ → List ℕ → List ℕ
+message_head index stamp = little_bytes 2 index ++ stamp
+
+-- the message of a statement
 abbrev pub message_of : Map → Vals → ℕ → Vals → List ℕ
-message_of t stamp index vs = little_bytes 2 index ++ bytes_vals t (stamp_slots t (stamp_of t)) stamp ++ bytes_vals t (own_slots t index) vs
+message_of t stamp index vs = message_head index (bytes_vals t (stamp_slots t (stamp_of t)) stamp) ++ bytes_vals t (own_slots t index) vs
 
 -- the arguments of a stamp that is one number
 abbrev pub stamp_args : Option ℕ → Vals

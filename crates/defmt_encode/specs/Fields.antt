@@ -12,6 +12,7 @@ use Rattle.defmt_values.specs.Fits.{FitsVal, FitsVals, FitsElems, FitsStamp, wei
 use Rattle.defmt_values.specs.Plain.{Val, Vals, Elems}
 use Rattle.defmt_encode.specs.Carry.{bytes_val, bytes_vals, bytes_elems, slots_at, stamp_slots}
 use Rattle.defmt_values.specs.Sound.{IsSound, AreSound, ElemsSound}
+use Rattle.defmt_encode.specs.Lengths.{LengthFits, LengthsFit, ElemsLengthsFit}
 use Rattle.defmt_encode.specs.Stamp.{stamp_of}
 use Rattle.defmt_grammar.specs.declared.slot.Slot.{Slot}
 
@@ -34,6 +35,7 @@ pub record Sums (s n r : ℕ) : Type 0 where
 pub record FoundVal (t : Map) (left : ℕ) (slot : Slot) (w s r : ℕ) (v : Val) (bytes rest : List ℕ) : Type 0 where
   pub fits : FitsVal t left slot v
   pub sound : IsSound v
+  pub lengths : LengthFits t slot v
   pub sums : Sums s (weigh_val t w v) r
   pub carries : bytes ≡ bytes_val t slot v ++ rest
 
@@ -41,6 +43,7 @@ pub record FoundVal (t : Map) (left : ℕ) (slot : Slot) (w s r : ℕ) (v : Val)
 pub record FoundVals (t : Map) (left : ℕ) (places : List Place) (w s r : ℕ) (vs : Vals) (bytes rest : List ℕ) : Type 0 where
   pub fits : FitsVals t left places vs
   pub sound : AreSound vs
+  pub lengths : LengthsFit t (slots_at places) vs
   pub sums : Sums s (weigh_vals t places w vs) r
   pub carries : bytes ≡ bytes_vals t (slots_at places) vs ++ rest
 
@@ -48,6 +51,7 @@ pub record FoundVals (t : Map) (left : ℕ) (places : List Place) (w s r : ℕ) 
 pub record FoundElems (t : Map) (left index : ℕ) (form : Parsed) (w s r : ℕ) (es : Elems) (bytes rest : List ℕ) : Type 0 where
   pub fits : FitsElems t left form es
   pub sound : ElemsSound es
+  pub lengths : ElemsLengthsFit t index es
   pub sums : Sums s (weigh_elems t index w es) r
   pub carries : bytes ≡ bytes_elems t index es ++ rest
 
@@ -55,6 +59,7 @@ pub record FoundElems (t : Map) (left index : ℕ) (form : Parsed) (w s r : ℕ)
 pub record FoundStamp (t : Map) (stamp : Vals) (bytes rest : List ℕ) : Type 0 where
   pub fits : FitsStamp t (stamp_of t) stamp
   pub sound : AreSound stamp
+  pub lengths : LengthsFit t (stamp_slots t (stamp_of t)) stamp
   pub carries : bytes ≡ bytes_vals t (stamp_slots t (stamp_of t)) stamp ++ rest
 
 -- the entry of a level or of println, and its pieces

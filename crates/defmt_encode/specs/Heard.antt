@@ -4,18 +4,21 @@ use Rattle.defmt_intern.specs.Table.{Map}
 use Rattle.defmt_values.specs.Fits.{Fits, FitsStamp, IsLogged}
 use Rattle.defmt_values.specs.Plain.{Vals}
 use Rattle.defmt_encode.specs.Carry.{message_of}
+use Rattle.defmt_encode.specs.Lengths.{MessageLengthsFit}
 use Rattle.defmt_encode.specs.Read.{all_zero}
 use Rattle.defmt_values.specs.Sound.{AreSound}
 use Rattle.defmt_encode.specs.Stamp.{stamp_of}
 
--- The stamp and the statement fit, the statement is logged, and the bytes are their message and at
--- most six zeros, those that a code's last block may add.
+-- The stamp and the statement fit, the statement is logged, the lengths of texts and bytes fit in the
+-- four bytes that tell them, and the bytes are their message and at most six zeros, those that a code's
+-- last block may add.
 pub record IsHeard (t : Map) (bytes : List ℕ) (stamp : Vals) (index : ℕ) (vs : Vals) : Type 0 where
   pub stamp_fits : FitsStamp t (stamp_of t) stamp
   pub fits : Fits t index vs
   pub logged : IsLogged t index
   pub stamp_sound : AreSound stamp
   pub sound : AreSound vs
+  pub lengths : MessageLengthsFit t stamp index vs
   pub padding : List ℕ
   pub few : length padding ≤ 6
   pub zeros : all_zero padding ≡ true

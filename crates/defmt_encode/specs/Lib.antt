@@ -2,6 +2,7 @@ pub mod Carry
 pub mod Cause
 pub mod Fields
 pub mod Heard
+pub mod Lengths
 pub mod Met
 pub mod Out
 pub mod Read

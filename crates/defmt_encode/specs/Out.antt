@@ -13,10 +13,19 @@ pub record Wrote (old new : List ℕ) (at n : ℕ) (bytes : List ℕ) : Type 0 w
   pub front : take n new ≡ take at old ++ bytes
   pub behind : drop n new ≡ drop n old
 
+-- The bytes don't fit. Some of the first of them stand behind the first `at`, maybe none, and what lies
+-- behind those is as before.
+pub record Refuses (old new : List ℕ) (at : ℕ) (bytes : List ℕ) : Type 0 where
+  pub long : 2000 < at + length bytes
+  pub written : List ℕ
+  pub missing : List ℕ
+  pub parts : bytes ≡ written ++ missing
+  pub wrote : Wrote old new at (at + length written) written
+
 -- the bytes stand behind the first `at`, or don't fit
 abbrev pub Puts : List ℕ → List ℕ → ℕ → Result ℕ Long → List ℕ → Type 0
 Puts old new at (Ok n) bytes = Wrote old new at n bytes
-Puts old new at (Err e) bytes = 2000 < at + length bytes
+Puts old new at (Err e) bytes = Refuses old new at bytes
 
 -- the buffer begins with the message and is as before behind it
 pub record Begins (old new : List ℕ) (n : ℕ) (message : List ℕ) : Type 0 where

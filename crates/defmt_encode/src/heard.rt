@@ -1,5 +1,5 @@
 //! Messages read from bytes.
-ghost use Rattle.std.specs.Prelude.{◌≡◌, ◌<◌, ◌^◌, ℕ, length};
+ghost use Rattle.std.specs.Prelude.{◌≡◌, ℕ};
 ghost use Rattle.defmt_values.specs.Entries.{look, is_logged};
 ghost use Rattle.defmt_values.specs.Plain.{Vals};
 ghost use Rattle.defmt_encode.specs.Heard.{IsHeard};
@@ -156,7 +156,7 @@ fn answered(read: Result<(), Fault>) -> Result<(), ReadCause>
 }
 
 impl Heard {
-    ghost use Rattle.std.specs.Prelude.{◌≡◌, ◌<◌, ◌^◌, ℕ, length};
+    ghost use Rattle.std.specs.Prelude.{◌≡◌, ℕ};
     ghost use Rattle.defmt_values.specs.Plain.{Vals, no_vals};
     ghost use Rattle.defmt_encode.specs.Heard.{IsHeard};
     ghost use Rattle.defmt_encode.specs.Met.{IsMet};
@@ -184,7 +184,6 @@ impl Heard {
     /// Those of `read_message`. What is heard then is of no use.
     #[inline(never)]
     pub fn hear(&mut self, alloc: Global, table: &Table, bytes: &[u8]) -> Result<(), ReadCause>
-        requires { length bytes.now < 2 ^ 32 }
         // A statement is answered only where it is heard, and a cause only where it is met.
         ensures answer { Answers table.now bytes.now (told self.new result) }
         // Unless memory runs out, what is heard is answered, and the cause that is met.
@@ -195,8 +194,8 @@ impl Heard {
     }
 }
 
-/// The stamp and the statement of a message of fewer than 4,294,967,296 bytes, or the first cause
-/// for which it has none (defmt book, "Serialization").
+/// The stamp and the statement of a message, or the first cause for which it has none (defmt book,
+/// "Serialization").
 ///
 /// Behind the last argument there may be up to six zeros, which the last block of a code may add.
 ///
@@ -204,7 +203,6 @@ impl Heard {
 /// `ReadCause::Bad` exactly where a cause is met, with the number of the first. `ReadCause::Memory`
 /// where memory runs out.
 pub fn read_message(alloc: Global, table: &Table, bytes: &[u8]) -> Result<Heard, ReadCause>
-    requires { length bytes.now < 2 ^ 32 }
     // A statement is answered only where it is heard, and a cause only where it is met.
     ensures answer { Answers table.now bytes.now result }
     // Unless memory runs out, what is heard is answered, and the cause that is met.

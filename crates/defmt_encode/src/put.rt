@@ -1,5 +1,5 @@
 //! Bytes put into a buffer of which 2,000 are used.
-ghost use Rattle.std.specs.Prelude.{◌≡◌, ◌≤◌, ◌∷◌, [], length};
+ghost use Rattle.std.specs.Prelude.{◌≡◌, ◌≤◌, ◌∷◌, [], length, OnErr};
 ghost use Rattle.byteorder.specs.Endian.{little_bytes};
 ghost use Rattle.defmt_encode.specs.Out.{Puts};
 
@@ -8,7 +8,7 @@ ghost use Rattle.defmt_encode.specs.Out.{Puts};
 pub struct Long;
 
 // Puts one byte behind the first `at`.
-#[tactic(auto, using(crate::proofs::Chain::one_byte))]
+#[tactic(auto, using(crate::proofs::Chain::one_byte, crate::proofs::Chain::refused_whole))]
 pub fn put(out: &mut [u8], at: usize, byte: u8) -> Result<usize, Long>
     requires { (2000 ≤ length out.old) × (at ≤ 2000) }
     ensures { Puts out.old out.new at result (byte ∷ []) }
@@ -21,10 +21,13 @@ pub fn put(out: &mut [u8], at: usize, byte: u8) -> Result<usize, Long>
 }
 
 /// Puts bytes behind the first `at` of a message, and leaves what lies behind them as it was. The buffer has at least 2,000 bytes, of
-/// which `at` are put. Answers how many are put then, or `Long` where these would be more than 2,000. Takes no memory.
+/// which `at` are put. Answers how many are put then, or `Long` where these would be more than 2,000, with the buffer as before. Takes
+/// no memory.
+#[tactic(auto, using(crate::proofs::Chain::refused_whole))]
 pub fn put_bytes(out: &mut [u8], at: usize, bytes: &[u8]) -> Result<usize, Long>
     requires { (2000 ≤ length out.old) × (at ≤ 2000) }
-    ensures { Puts out.old out.new at result bytes.now }
+    ensures puts { Puts out.old out.new at result bytes.now }
+    ensures kept { OnErr result (out.new ≡ out.old) }
 {
     if bytes.len() > 2000 - at {
         return Err(Long);
@@ -46,11 +49,13 @@ fn write_low_first(bytes: &mut [u8], n: u128)
 }
 
 /// Puts the lowest `width` bytes of a number behind the first `at` of a message, the lowest first. The buffer has at least 2,000 bytes, of
-/// which `at` are put. Answers how many are put then, or `Long` where these would be more than 2,000. Takes no memory.
-#[tactic(auto, using(crate::proofs::Numbers::length_little))]
+/// which `at` are put. Answers how many are put then, or `Long` where these would be more than 2,000, with the buffer as before. Takes
+/// no memory.
+#[tactic(auto, using(crate::proofs::Numbers::length_little, crate::proofs::Chain::refused_whole))]
 pub fn put_number(out: &mut [u8], at: usize, n: u128, width: u8) -> Result<usize, Long>
     requires { (2000 ≤ length out.old) × (at ≤ 2000) }
-    ensures { Puts out.old out.new at result (little_bytes width n) }
+    ensures puts { Puts out.old out.new at result (little_bytes width n) }
+    ensures kept { OnErr result (out.new ≡ out.old) }
 {
     let width = usize::from(width);
     if width > 2000 - at {

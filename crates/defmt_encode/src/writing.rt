@@ -92,7 +92,9 @@ fn own_slots(table: &Table, index: u16) -> &[Slot]
 }
 
 /// Puts the bytes of a text behind the first `at` of a message, their number in four bytes in front. The buffer has at least 2,000 bytes, of
-/// which `at` are put. Answers how many are put then, or `Long` where these would be more than 2,000. Takes no memory.
+/// which `at` are put. Answers how many are put then, or `Long` where these would be more than 2,000: then some of the first are put, or
+/// none, and all else is as before. Takes no memory.
+#[tactic(auto, using(crate::proofs::Chain::refused_more))]
 pub fn put_text(out: &mut [u8], at: usize, bytes: &[u8]) -> Result<usize, Long>
     requires { (2000 ≤ length out.old) × (at ≤ 2000) }
     ensures { Puts out.old out.new at result (little_bytes 4 (length bytes.now) ++ bytes.now) }
@@ -102,7 +104,8 @@ pub fn put_text(out: &mut [u8], at: usize, bytes: &[u8]) -> Result<usize, Long>
 }
 
 /// Puts bytes behind the first `at` of a message, their number in four bytes in front where the slot isn't a byte array's. The buffer has at least 2,000 bytes, of
-/// which `at` are put. Answers how many are put then, or `Long` where these would be more than 2,000. Takes no memory.
+/// which `at` are put. Answers how many are put then, or `Long` where these would be more than 2,000: then some of the first are put, or
+/// none, and all else is as before. Takes no memory.
 pub fn put_slice(out: &mut [u8], at: usize, slot: Slot, bytes: &[u8]) -> Result<usize, Long>
     requires { (2000 ≤ length out.old) × (at ≤ 2000) }
     ensures { Puts out.old out.new at result (length_bytes slot (length bytes.now) ++ bytes.now) }
@@ -133,6 +136,7 @@ fn put_variant(out: &mut [u8], at: usize, variant: Option<u8>) -> Result<usize, 
     }
 }
 
+#[tactic(auto, using(crate::proofs::Chain::refused_more))]
 fn put_head(out: &mut [u8], at: usize, index: u16, variant: Option<u8>) -> Result<usize, Long>
     requires { (2000 ≤ length out.old) × (at ≤ 2000) }
     ensures { Puts out.old out.new at result (little_bytes 2 index ++ variant_byte variant) }
@@ -161,6 +165,7 @@ fn put_index(out: &mut [u8], at: usize, index: Option<u16>) -> Result<usize, Lon
     }
 }
 
+#[tactic(auto, using(crate::proofs::Chain::refused_more))]
 fn put_list_head(
     out: &mut [u8],
     at: usize,
@@ -176,9 +181,10 @@ fn put_list_head(
 }
 
 /// Puts the bytes of one value of a slot behind the first `at` of a message (defmt book, "Serialization"). The buffer has at least 2,000 bytes, of
-/// which `at` are put. Answers how many are put then, or `Long` where these would be more than 2,000. Takes no memory.
+/// which `at` are put. Answers how many are put then, or `Long` where these would be more than 2,000: then some of the first are put, or
+/// none, and all else is as before. Takes no memory.
 #[cycle(put)]
-#[tactic(auto, unfolding(crate::specs::Carry::bytes_val))]
+#[tactic(auto, unfolding(crate::specs::Carry::bytes_val), using(crate::proofs::Chain::refused_more))]
 pub fn put_value(
     table: &Table,
     slot: Slot,
@@ -216,7 +222,8 @@ pub fn put_value(
 }
 
 /// Puts the bytes of the values of slots behind the first `at` of a message, one after another. The buffer has at least 2,000 bytes, of
-/// which `at` are put. Answers how many are put then, or `Long` where these would be more than 2,000. Takes no memory.
+/// which `at` are put. Answers how many are put then, or `Long` where these would be more than 2,000: then some of the first are put, or
+/// none, and all else is as before. Takes no memory.
 #[cycle(put)]
 pub fn put_args(
     table: &Table,
@@ -243,6 +250,7 @@ pub fn put_args(
 }
 
 #[cycle(put)]
+#[tactic(auto, using(crate::proofs::Chain::refused_more))]
 fn put_item(
     table: &Table,
     index: u16,

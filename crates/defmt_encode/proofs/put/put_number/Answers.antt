@@ -5,8 +5,8 @@ use Rattle.defmt_encode.proofs.Chain.{one_part}
 use Rattle.defmt_encode.proofs.Numbers.{length_little}
 use Rattle.defmt_encode.proofs.put.put_number.Goals as goal
 
-pub returns : goal.returns
-returns c =
+pub returns-clause-puts : goal.returns-clause-puts
+returns-clause-puts c =
     let k : ℕ = c.args.at + c.from-width.result - c.args.at in
     let size : length (take k (drop c.args.at c.args.out.now)) ≡ c.args.width =
     omega (arith, length-take-le k (drop c.args.at c.args.out.now) (omega (arith, length-drop c.args.at c.args.out.now))) in

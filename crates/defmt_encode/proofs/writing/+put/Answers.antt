@@ -6,7 +6,7 @@ use Rattle.byteorder.specs.Endian.{little_bytes}
 use Rattle.defmt_values.specs.Plain.{elems_len}
 use Rattle.defmt_values.specs.Scan.{index_or}
 use Rattle.defmt_encode.specs.Carry.{bytes_val, bytes_vals, bytes_elems, variant_byte, count_bytes, index_bytes, node_slots}
-use Rattle.defmt_encode.proofs.Chain.{chain}
+use Rattle.defmt_encode.proofs.Chain.{refused_more, chain}
 use Rattle.defmt_encode.proofs.Puts as puts
 use Rattle.defmt_encode.proofs.writing.+put.Goals as goal
 
@@ -18,9 +18,9 @@ put_args-returns-in_default-cut t c =
 pub put_args-returns-in_err-end : goal.put_args-returns-in_err-end
 put_args-returns-in_err-end t c =
     let p = err_from_is_err_and c.from_residual.result c.from_residual.ensures.1 in
-    rw p.1 (puts.passes c.args.at c.each.end c.each.invariant.done _ _ _ _
+    rw p.1 (puts.passes c.args.out.now c.each.out c.put_value.new.out c.args.at c.each.end c.each.invariant.done _ _ _ _
     (puts.vals_step c.args.table.now c.each.values.now c.in-Some.more.now c.in-Some.value.now c.in-Some.ensures c.each.slots_left.now c.in-Some-cut.others.now c.in-Some-cut.slot.now c.in-Some-cut.ensures)
-    c.each.invariant.joins c.each.invariant.wrote.end_is c.in_err-end.ensures)
+    c.each.invariant.joins c.each.invariant.wrote c.in_err-end.ensures)
 
 pub put_args-each-preserved : goal.put_args-each-preserved
 put_args-each-preserved t c =
@@ -43,9 +43,9 @@ put_args-returns t c =
 pub put_items-returns-in_err-end : goal.put_items-returns-in_err-end
 put_items-returns-in_err-end t c =
     let p = err_from_is_err_and c.from_residual.result c.from_residual.ensures.1 in
-    rw p.1 (puts.passes c.args.at c.each.end c.each.invariant.done _ _ _ _
+    rw p.1 (puts.passes c.args.out.now c.each.out c.put_item.new.out c.args.at c.each.end c.each.invariant.done _ _ _ _
     (puts.elems_step c.args.table.now c.args.index c.each.rest.now c.in-Some.more.now c.in-Some.item.now c.in-Some.ensures)
-    c.each.invariant.joins c.each.invariant.wrote.end_is c.in_err-end.ensures)
+    c.each.invariant.joins c.each.invariant.wrote c.in_err-end.ensures)
 
 pub put_items-each-preserved : goal.put_items-each-preserved
 put_items-each-preserved t c =
@@ -73,6 +73,13 @@ pub put_item-returns : goal.put_item-returns
 put_item-returns t c =
     let args = rw c.node_slots.ensures at c.put_args.ensures in
     chain c.args.out.now c.put_variant.new.out c.put_args.new.out c.args.at c.in_ok-at.at c.put_args.result (variant_byte c.args.item.now.variant) (bytes_vals c.args.table.now (node_slots c.args.table.now c.args.index c.args.item.now.variant) c.args.item.now.args) c.in_ok-at.ensures args
+
+pub put_value-returns-in_err-at-in-Format : goal.put_value-returns-in_err-at-in-Format
+unfolding bytes_val
+put_value-returns-in_err-at-in-Format t c =
+    let p = err_from_is_err_and c.from_residual.result c.from_residual.ensures.1 in
+    rw (p.1, c.in-Format.is)
+    (refused_more c.args.out.now c.put_head.new.out c.args.at (little_bytes 2 c.in-Format.node.index ++ variant_byte c.in-Format.node.variant) (bytes_vals c.args.table.now (node_slots c.args.table.now c.in-Format.node.index c.in-Format.node.variant) c.in-Format.node.args) c.in_err-at-in-Format.ensures)
 
 pub put_value-returns-in_ok-at-in-Format : goal.put_value-returns-in_ok-at-in-Format
 unfolding bytes_val

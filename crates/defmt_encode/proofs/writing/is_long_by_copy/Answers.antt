@@ -7,4 +7,4 @@ pub returns-in-Ok : goal.returns-in-Ok
 returns-in-Ok c = not_long (message_of c.args.table.now (stamp_args c.args.stamp) c.args.stm.now.index c.args.stm.now.args) (omega (arith, c.in-Ok.ensures.end_is, c.in-Ok.ensures.fits))
 
 pub returns-in-Err : goal.returns-in-Err
-returns-in-Err c = is_long (message_of c.args.table.now (stamp_args c.args.stamp) c.args.stm.now.index c.args.stm.now.args) (omega (arith, c.in-Err.ensures))
+returns-in-Err c = is_long (message_of c.args.table.now (stamp_args c.args.stamp) c.args.stm.now.index c.args.stm.now.args) (omega (arith, c.in-Err.ensures.long))

@@ -1,0 +1,45 @@
+-- The lengths of values: four bytes tell the length of a text, and that of bytes which aren't those of a byte array, so
+-- that no longer ones stand in a message.
+use Rattle.std.specs.Prelude.{◌<◌, ◌^◌, ℕ, List, [], ◌∷◌, length}
+use Rattle.defmt_grammar.specs.declared.kind.Kind.TheVariants as kinds
+use Rattle.defmt_grammar.specs.declared.slot.Slot.{Slot}
+use Rattle.defmt_grammar.specs.declared.slot.Slot.TheVariants as slots
+use Rattle.defmt_intern.specs.Table.{Map}
+use Rattle.defmt_values.specs.Plain.{Val, uint, int, flag, char, str, istr, bytes, bits, format, seq, Vals, no_vals, val, Elems, no_elems, elem}
+use Rattle.defmt_values.specs.Scan.{index_or}
+use Rattle.defmt_encode.specs.Carry.{node_slots, own_slots, stamp_slots}
+use Rattle.defmt_encode.specs.Stamp.{stamp_of}
+
+-- a byte array has as many bytes as its slot says
+abbrev pub CountFits : Slot → ℕ → Type 0
+CountFits (slots.One kinds.Bytes) count = count < 2 ^ 32
+CountFits slot count = Unit {0}
+
+abbrev mutual
+  -- of one value of a slot
+  pub LengthFits : Map → Slot → Val → Type 0
+  LengthFits t slot (uint n) = Unit {0}
+  LengthFits t slot (int n) = Unit {0}
+  LengthFits t slot (flag b) = Unit {0}
+  LengthFits t slot (char c) = Unit {0}
+  LengthFits t slot (str s) = length s < 2 ^ 32
+  LengthFits t slot (istr index) = Unit {0}
+  LengthFits t slot (bytes s) = CountFits slot (length s)
+  LengthFits t slot (bits n) = Unit {0}
+  LengthFits t slot (format index variant vs) = LengthsFit t (node_slots t index variant) vs
+  LengthFits t slot (seq index es) = ElemsLengthsFit t (index_or index) es
+
+  -- of the values of slots
+  pub LengthsFit : Map → List Slot → Vals → Type 0
+  LengthsFit t slots no_vals = Unit {0}
+  LengthsFit t [] (val v vs) = Unit {0}
+  LengthsFit t (s ∷ ss) (val v vs) = LengthFits t s v × LengthsFit t ss vs
+
+  -- of the elements of a list
+  pub ElemsLengthsFit : Map → ℕ → Elems → Type 0
+  ElemsLengthsFit t index no_elems = Unit {0}
+  ElemsLengthsFit t index (elem variant vs es) = LengthsFit t (node_slots t index variant) vs × ElemsLengthsFit t index es
+
+-- of the stamp and the arguments of a statement
+abbrev pub MessageLengthsFit : Map → Vals → ℕ → Vals → Type 0
+MessageLengthsFit t stamp index vs = LengthsFit t (stamp_slots t (stamp_of t)) stamp × LengthsFit t (own_slots t index) vs
