@@ -1,5 +1,5 @@
 -- The event of a piece as a relation and as a function agree.
-use Rattle.std.proofs.Common.{◌≡◌, ◌^◌, ◌<◌, ◌≤◌, inl, inr, ℕ, Bool, true, false, cond, List, length, All, Ok, Err, refl, sym, ap, subst, ◌∙◌}
+use Rattle.std.proofs.Common.{◌≡◌, ◌<◌, ◌≤◌, inl, inr, ℕ, Bool, true, false, cond, List, length, All, Ok, Err, refl, sym, ap, subst, ◌∙◌}
 use Rattle.std.proofs.lemmas.Bool.{cases_Bool, cases_lt, or_cases, or_left, or_right, ltb-true, lt-ltb, le-leb, lt-leb, true≢false}
 use Rattle.rzcobs_core.specs.Blocks.{Blocks, IsNoCode}
 use Rattle.defmt_framing.specs.Decides.{Decided, decides}
@@ -15,7 +15,7 @@ use Rattle.defmt_encode.specs.Met.{IsMet}
 use Rattle.defmt_encode.specs.Read.{Read}
 use Rattle.defmt_encode.proofs.Numbers.{AreBytes}
 use Rattle.defmt_encode.proofs.Laws.{heard_found, heard_again, met_found, met_again}
-use Rattle.defmt_decode.proofs.Bytes.{are_bytes, blocks_bytes, blocks_few}
+use Rattle.defmt_decode.proofs.Bytes.{are_bytes, blocks_bytes}
 use Rattle.defmt_decode.specs.Event.{IsEventOf, too_long, no_code, line_told, too_wide, not_heard, is_wide, of_heard, read_of, of_read, of_code, tells, event_of}
 use Rattle.defmt_decode.specs.declared.event.Event.{Event}
 use Rattle.defmt_decode.specs.declared.event.Event.TheVariants.{Line, Bad}
@@ -47,14 +47,14 @@ heard_narrow t stamp index vs narrow = ap (λ (b : Bool). cond b (Bad 14) (Line 
 
 -- ---- read
 
-pub heard_read : (t : Map) (bytes : List ℕ) (stamp : Vals) (index : ℕ) (vs : Vals) → length bytes < 2 ^ 32 → IsHeard t bytes stamp index vs
+pub heard_read : (t : Map) (bytes : List ℕ) (stamp : Vals) (index : ℕ) (vs : Vals) → IsHeard t bytes stamp index vs
     → of_read t (read_of t bytes) ≡ of_heard t stamp index vs
 unfolding read_of
-heard_read t bytes stamp index vs size heard = ap (of_read t) (heard_again t bytes stamp index vs size heard)
+heard_read t bytes stamp index vs heard = ap (of_read t) (heard_again t bytes stamp index vs heard)
 
-pub met_read : (t : Map) (bytes : List ℕ) (cause : ℕ) → length bytes < 2 ^ 32 → IsMet t bytes cause → of_read t (read_of t bytes) ≡ Bad cause
+pub met_read : (t : Map) (bytes : List ℕ) (cause : ℕ) → IsMet t bytes cause → of_read t (read_of t bytes) ≡ Bad cause
 unfolding read_of
-met_read t bytes cause size (c, number, meets) = ap (of_read t) (met_again t bytes c size meets) ∙ ap (λ (n : ℕ). Bad n) (sym number)
+met_read t bytes cause (c, number, meets) = ap (of_read t) (met_again t bytes c meets) ∙ ap (λ (n : ℕ). Bad n) (sym number)
 
 -- ---- by the length and the code
 
@@ -78,10 +78,10 @@ pub only : (t : Map) (piece : List ℕ) (event : Event) → IsEventOf t piece ev
 only t piece _ (too_long long) = long_is t piece long
 only t piece _ (no_code short none) = none_is t piece short none
 only t piece _ (line_told bytes stamp index vs short blocks heard narrow) =
-    read_is t piece bytes short blocks ∙ heard_read t bytes stamp index vs (blocks_few piece bytes short blocks) heard ∙ heard_narrow t stamp index vs narrow
+    read_is t piece bytes short blocks ∙ heard_read t bytes stamp index vs heard ∙ heard_narrow t stamp index vs narrow
 only t piece _ (too_wide bytes stamp index vs short blocks heard wide) =
-    read_is t piece bytes short blocks ∙ heard_read t bytes stamp index vs (blocks_few piece bytes short blocks) heard ∙ heard_wide t stamp index vs wide
-only t piece _ (not_heard bytes cause short blocks met) = read_is t piece bytes short blocks ∙ met_read t bytes cause (blocks_few piece bytes short blocks) met
+    read_is t piece bytes short blocks ∙ heard_read t bytes stamp index vs heard ∙ heard_wide t stamp index vs wide
+only t piece _ (not_heard bytes cause short blocks met) = read_is t piece bytes short blocks ∙ met_read t bytes cause met
 
 -- ---- what is answered the relation says
 

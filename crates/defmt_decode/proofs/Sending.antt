@@ -1,5 +1,5 @@
 -- The events of statements that are sent as frames.
-use Rattle.std.proofs.Common.{◌≡◌, ◌+◌, ◌<◌, ◌≤◌, ℕ, Bool, true, false, cond, nat_le, List, [], ◌∷◌, ◌++◌, length, map, take, drop, refl, ap, ◌∙◌, arith}
+use Rattle.std.proofs.Common.{◌≡◌, ◌+◌, ◌<◌, ◌≤◌, ◌^◌, ℕ, Bool, true, false, cond, nat_le, List, [], ◌∷◌, ◌++◌, length, length-append, map, take, drop, replicate, refl, ap, ◌∙◌, arith}
 use Rattle.rzcobs_core.specs.Blocks.{Blocks, end}
 use Rattle.rzcobs_core.proofs.Backwards.{NoZero-blocks}
 use Rattle.rzcobs_core.proofs.Greedy.{canon_stands}
@@ -18,10 +18,12 @@ use Rattle.defmt_eager.specs.Line.{eager_line, IsWide}
 use Rattle.defmt_encode.specs.Carry.{message_of}
 use Rattle.defmt_encode.specs.Heard.{IsHeard}
 use Rattle.defmt_encode.proofs.Laws.{reads_back}
+use Rattle.defmt_encode.proofs.Lengths.{message_lengths}
 use Rattle.defmt_decode.specs.Event.{IsEventOf, line_told, tells, event_of, events_of}
 use Rattle.defmt_decode.specs.Sent.{Sent, IsSent, AreSent, code_of, line_of, stream_of, sent_from, sent_by, front_event, tail_event}
 use Rattle.defmt_decode.specs.declared.event.Event.{Event}
 use Rattle.defmt_decode.specs.declared.event.Event.TheVariants.{Line}
+use Rattle.defmt_decode.proofs.Bytes.{blocks_few}
 use Rattle.defmt_decode.proofs.Deciding.{only}
 
 -- ---- one statement
@@ -40,9 +42,12 @@ code_short t s short = omega (arith, code_size (message_of t s.stamp s.index s.a
 
 sent_event : (t : Map) (s : Sent) → IsSent t s → IsEventOf t (code_of t s) (line_of t s)
 sent_event t s sent =
-    let c = canon_stands (message_of t s.stamp s.index s.args) in
+    let message : List ℕ = message_of t s.stamp s.index s.args in
+    let c = canon_stands message in
+    let few : length (message ++ replicate c.0 0) < 2 ^ 32 = blocks_few (code_of t s) (message ++ replicate c.0 0) sent.short c.2 in
+    let lengths = message_lengths t s.stamp s.index s.args (omega (arith, few, length-append message (replicate c.0 0))) in
     line_told _ s.stamp s.index s.args sent.short c.2
-    (reads_back t s.stamp s.index s.args _ sent.stamp_fits sent.fits sent.logged sent.stamp_sound sent.sound c.2)
+    (reads_back t s.stamp s.index s.args _ sent.stamp_fits sent.fits sent.logged sent.stamp_sound sent.sound lengths c.2)
     sent.narrow
 
 pub sent_line : (t : Map) (s : Sent) → IsSent t s → event_of t (code_of t s) ≡ line_of t s

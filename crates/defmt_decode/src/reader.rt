@@ -1,6 +1,6 @@
 //! What a piece tells.
 
-ghost use Rattle.std.specs.Prelude.{◌≡◌, ◌≤◌, ◌<◌, ◌^◌, length, IfOk};
+ghost use Rattle.std.specs.Prelude.{◌≡◌, IfOk};
 ghost use Rattle.defmt_decode.specs.Event.{of_heard, of_read, read_of, tells};
 ghost use Rattle.defmt_decode.specs.Refusal.{refusal_number};
 ghost use Rattle.defmt_encode.specs.Heard.{IsHeard};
@@ -118,7 +118,6 @@ fn event_of_message(
     bytes: &[u8],
     heard: &mut Heard,
 ) -> Result<Event, Memory>
-    requires { length bytes.now < 2 ^ 32 }
     ensures { IfOk result (λ event. event ≡ of_read table.now (read_of table.now bytes.now)) }
 {
     match heard.hear(alloc, table, bytes) {

@@ -5,7 +5,7 @@ use Rattle.defmt_grammar.specs.declared.slot.Slot.{Slot}
 use Rattle.defmt_intern.specs.Table.{Map}
 use Rattle.defmt_values.specs.Fits.{FitsVal}
 use Rattle.defmt_values.specs.Plain.{Vals, no_vals, val, vals_len}
-use Rattle.defmt_encode.specs.Carry.{bytes_vals}
+use Rattle.defmt_encode.specs.Carry.{bytes_vals, message_head}
 use Rattle.defmt_macros.specs.declared.frame.Frame.{Frame}
 
 -- the bytes put so far
@@ -25,9 +25,9 @@ abbrev pub stamp_bytes : Option ℕ → List ℕ
 stamp_bytes None = []
 stamp_bytes (Some n) = little_bytes 8 n
 
--- what stands in front of the arguments: the index, and the stamp where there is one
+-- the head of a message whose stamp is sent so
 abbrev pub head_of : ℕ → Option ℕ → List ℕ
-head_of index stamp = little_bytes 2 index ++ stamp_bytes stamp
+head_of index stamp = message_head index (stamp_bytes stamp)
 
 -- these bytes were put behind the others, and the slot is no more to come
 pub record Grows (old new : Frame) (slot : Slot) (more : List ℕ) : Type 0 where
