@@ -228,9 +228,6 @@ fn put_read(
     bytes: &[u8],
     out: &mut String,
 ) -> Result<(), Fail> {
-    if bytes.len() > 2000 {
-        return Err("long".into());
-    }
     match read_message(alloc, table, bytes) {
         Ok(heard) => put_spelled(alloc, names, table, &heard, out),
         Err(cause) => put_cause(out, cause),
@@ -308,9 +305,6 @@ fn put_same(
 
 // What the message reads as.
 fn put_again(alloc: Global, script: &Script, bytes: &[u8], out: &mut String) -> Result<(), Fail> {
-    if bytes.len() > 2000 {
-        return Err("long".into());
-    }
     match read_message(alloc, script.table(), bytes) {
         Ok(heard) => put_same(alloc, script, &heard, bytes, out),
         Err(cause) => put_cause(out, cause),
