@@ -1,6 +1,6 @@
 -- Messages in parts, and values that fit the slots of a site.
-use Rattle.std.proofs.Common.{◌≡◌, ℕ, ◌+◌, List, [], ◌∷◌, ◌++◌, length, take, Option, Some, None, Ok, refl, sym, ap, ◌∙◌, subst, arith, append_assoc, length-append}
-use Rattle.std.proofs.lemmas.List.{append-nil}
+use Rattle.std.proofs.Common.{◌≡◌, ℕ, ◌+◌, List, [], ◌∷◌, ◌++◌, length, take, drop, Option, Some, None, Ok, refl, sym, ap, ◌∙◌, subst, arith, append_assoc, length-append}
+use Rattle.std.proofs.lemmas.List.{append-nil, drop-drop}
 use Rattle.byteorder.specs.Endian.{little_bytes}
 use Rattle.defmt_encode.specs.Carry.{bytes_val, bytes_vals, message_of, own_slots, slots_at, slots_in, stamp_args, stamp_slots}
 use Rattle.defmt_encode.specs.Stamp.{stamp_of}
@@ -13,7 +13,7 @@ use Rattle.defmt_values.specs.Entries.{Place, look, places_from, places_of}
 use Rattle.defmt_values.specs.Fits.{Fits, FitsVals}
 use Rattle.defmt_values.specs.Plain.{Val, Vals, no_vals, val, snoc, vals_len}
 use Rattle.defmt_values.specs.Scan.{own_form, own_in}
-use Rattle.defmt_macros.specs.Frames.{FitSlots, Grows, GrowsByAll, Holds, bytes_put, head_of, stamp_bytes}
+use Rattle.defmt_macros.specs.Frames.{FitSlots, Grows, GrowsByAll, Holds, buffer_of, bytes_put, count_put, slots_left, head_of, stamp_bytes}
 use Rattle.defmt_macros.specs.Sites.{IsSite}
 use Rattle.defmt_macros.specs.Stamps.{StampSuits, slots_for}
 use Rattle.defmt_macros.specs.declared.frame.Frame.{Frame}
@@ -32,6 +32,39 @@ pub parts : (t : Map) (index : ℕ) (tag : Tag) (slots : List Slot) (stamp : Opt
 parts t index tag slots stamp vs site suits =
     ap (λ (b : List ℕ). (little_bytes 2 index ++ b) ++ bytes_vals t (own_slots t index) vs) (stamped t (stamp_slots t (stamp_of t)) stamp suits)
     ∙ ap (λ (ss : List Slot). head_of index stamp ++ bytes_vals t ss vs) (own t index tag slots site)
+
+-- ---- what lies behind
+
+later : (n k m : ℕ) (xs ys : List ℕ) → m ≡ n + k → drop n xs ≡ drop n ys → drop m xs ≡ drop m ys
+later n k m xs ys e h = ap (λ (i : ℕ). drop i xs) e ∙ sym (drop-drop k n xs) ∙ ap (drop k) h ∙ drop-drop k n ys ∙ ap (λ (i : ℕ). drop i ys) (sym e)
+
+-- where nothing behind the head was changed, nothing behind the message is
+pub behind_all : (old new : Frame) (more before : List ℕ) (n : ℕ) (out : List ℕ) → drop (count_put old) (buffer_of old) ≡ drop (count_put old) before → GrowsByAll old new more → n ≡ count_put new → out ≡ buffer_of new → drop n out ≡ drop n before
+behind_all old new more before n out head g count same =
+    ap (λ (k : ℕ). drop k out) count ∙ ap (drop (count_put new)) same ∙ g.behind_is ∙ later (count_put old) (length more) (count_put new) (buffer_of old) before g.count_is head ∙ ap (λ (k : ℕ). drop k before) (sym count)
+
+-- ---- one argument after another
+
+-- nothing is put where no slot is to come
+pub grows_by_none : (t : Map) (frame : Frame) → slots_left frame ≡ [] → GrowsByAll frame frame (bytes_vals t (slots_left frame) no_vals)
+unfolding bytes_vals
+grows_by_none t frame none =
+    let same : GrowsByAll frame frame [] = record { bytes_are = sym (append-nil (bytes_put frame)); behind_is = refl; count_is = omega arith; slots_are = none } in
+    subst (λ (ss : List Slot). GrowsByAll frame frame (bytes_vals t ss no_vals)) (sym none) same
+
+-- the first value is put, and then all others
+pub grows_by_value : (t : Map) (old mid new : Frame) (slot : Slot) (v : Val) (vs : Vals) → Grows old mid slot (bytes_val t slot v) → GrowsByAll mid new (bytes_vals t (slots_left mid) vs) → GrowsByAll old new (bytes_vals t (slots_left old) (val v vs))
+unfolding bytes_vals
+grows_by_value t old mid new slot v vs g h =
+    let first : List ℕ = bytes_val t slot v in
+    let others : List ℕ = bytes_vals t (slots_left mid) vs in
+    let all : GrowsByAll old new (first ++ others) = record {
+      bytes_are = h.bytes_are ∙ ap (λ (b : List ℕ). b ++ others) g.bytes_are ∙ append_assoc (bytes_put old) first others;
+      behind_is = h.behind_is ∙ later (count_put mid) (length others) (count_put new) (buffer_of mid) (buffer_of old) h.count_is g.behind_is;
+      count_is = omega (arith, g.count_is, h.count_is, length-append first others);
+      slots_are = h.slots_are;
+    } in
+    subst (λ (ss : List Slot). GrowsByAll old new (bytes_vals t ss (val v vs))) (sym g.slots_are) all
 
 -- ---- what a frame holds
 

@@ -1,5 +1,6 @@
 -- Frames: the bytes put so far, and the slots still to come.
-use Rattle.std.specs.Prelude.{◌≡◌, ◌≤◌, ◌+◌, ℕ, List, [], ◌∷◌, ◌++◌, length, take, Option, Some, None}
+use Rattle.std.specs.Prelude.{◌≡◌, ◌≤◌, ◌+◌, ℕ, List, [], ◌∷◌, ◌++◌, length, take, drop, Option, Some, None}
+use Rattle.std.specs.Borrow.{MutBor}
 use Rattle.byteorder.specs.Endian.{little_bytes}
 use Rattle.defmt_grammar.specs.declared.slot.Slot.{Slot}
 use Rattle.defmt_intern.specs.Table.{Map}
@@ -8,17 +9,41 @@ use Rattle.defmt_values.specs.Plain.{Vals, no_vals, val, vals_len}
 use Rattle.defmt_encode.specs.Carry.{bytes_vals, message_head}
 use Rattle.defmt_macros.specs.declared.frame.Frame.{Frame}
 
+-- the buffer that it puts into
+abbrev pub buffer_of : Frame → List ℕ
+buffer_of frame = frame.buf.now
+
+-- how many bytes were put
+abbrev pub count_put : Frame → ℕ
+count_put frame = frame.at
+
 -- the bytes put so far
 abbrev pub bytes_put : Frame → List ℕ
-bytes_put frame = take frame.at frame.buf.now
+bytes_put frame = take (count_put frame) (buffer_of frame)
+
+-- the slots still to come
+abbrev pub slots_left : Frame → List Slot
+slots_left frame = frame.left.now
+
+-- it puts into the buffer that was lent by this reference
+abbrev pub PutsInto : Frame → MutBor (List ℕ) → Type 0
+PutsInto frame lent = frame.buf.ghost_name ≡ lent.ghost_name
+
+-- the reference stays the same
+abbrev pub SameBuffer : Frame → Frame → Type 0
+SameBuffer old new = new.buf.ghost_name ≡ old.buf.ghost_name
+
+-- the buffer, as an ended frame gives it back
+abbrev pub buffer_left : {A : Type 0} → MutBor (List ℕ) × A → List ℕ
+buffer_left exit = exit.0.now
 
 -- this slot is the next to come
 abbrev pub IsNext : Frame → Slot → Type 0
-IsNext frame slot = (more : List Slot) × (frame.left.now ≡ slot ∷ more)
+IsNext frame slot = (more : List Slot) × (slots_left frame ≡ slot ∷ more)
 
 -- with so many bytes more the message has at most 2,000
 abbrev pub HasRoom : Frame → ℕ → Type 0
-HasRoom frame count = frame.at + count ≤ 2000
+HasRoom frame count = count_put frame + count ≤ 2000
 
 -- a stamp is sent in eight bytes
 abbrev pub stamp_bytes : Option ℕ → List ℕ
@@ -29,17 +54,20 @@ stamp_bytes (Some n) = little_bytes 8 n
 abbrev pub head_of : ℕ → Option ℕ → List ℕ
 head_of index stamp = message_head index (stamp_bytes stamp)
 
--- these bytes were put behind the others, and the slot is no more to come
+-- these bytes were put behind the others, what lies behind them is as before, and the slot is no more
+-- to come
 pub record Grows (old new : Frame) (slot : Slot) (more : List ℕ) : Type 0 where
   pub bytes_are : bytes_put new ≡ bytes_put old ++ more
-  pub count_is : new.at ≡ old.at + length more
-  pub slots_are : old.left.now ≡ slot ∷ new.left.now
+  pub behind_is : drop (count_put new) (buffer_of new) ≡ drop (count_put new) (buffer_of old)
+  pub count_is : count_put new ≡ count_put old + length more
+  pub slots_are : slots_left old ≡ slot ∷ slots_left new
 
--- these bytes were put behind the others, and no slot is to come
+-- the same, and no slot is to come
 pub record GrowsByAll (old new : Frame) (more : List ℕ) : Type 0 where
   pub bytes_are : bytes_put new ≡ bytes_put old ++ more
-  pub count_is : new.at ≡ old.at + length more
-  pub slots_are : new.left.now ≡ []
+  pub behind_is : drop (count_put new) (buffer_of new) ≡ drop (count_put new) (buffer_of old)
+  pub count_is : count_put new ≡ count_put old + length more
+  pub slots_are : slots_left new ≡ []
 
 -- each value fits its slot, and each slot has one
 abbrev pub FitSlots : Map → List Slot → Vals → Type 0
@@ -52,6 +80,6 @@ FitSlots t (s ∷ ss) (val v vs) = FitsVal t 16 s v × FitSlots t ss vs
 -- come.
 pub record Holds (t : Map) (index : ℕ) (slots : List Slot) (stamp : Option ℕ) (vs : Vals) (frame : Frame) : Type 0 where
   pub front : List Slot
-  pub slots_are : slots ≡ front ++ frame.left.now
+  pub slots_are : slots ≡ front ++ slots_left frame
   pub size : vals_len vs ≡ length front
   pub bytes_are : bytes_put frame ≡ head_of index stamp ++ bytes_vals t front vs

@@ -1,5 +1,5 @@
 // A statement that is logged by the macro of its tag.
-ghost use Rattle.std.specs.Prelude.{◌≡◌, ◌≤◌, length, take};
+ghost use Rattle.std.specs.Prelude.{◌≡◌, ◌≤◌, length, take, drop};
 ghost use Rattle.defmt_encode.specs.Carry.{message_of, stamp_args};
 ghost use Rattle.defmt_values.specs.Fits.{Fits};
 ghost use Rattle.defmt_macros.specs.Sites.{IsSite};
@@ -11,7 +11,7 @@ use defmt_intern::{Table, Tag};
 use defmt_values::Args;
 
 /// Logs the values of all slots by the macro of the site's tag. Answers the length of the message, which stands at the
-/// buffer's front.
+/// buffer's front. What lies behind it is as before.
 ///
 /// The site is of an entry of the table, the values fit it, the stamp suits the table, and the message has at most
 /// 2,000 bytes, as many as the buffer has at least. Takes no memory.
@@ -23,6 +23,7 @@ pub fn log(buf: &mut [u8], table: &Table, site: &Site, stamp: Option<u64>, args:
     requires short { length (message_of table.now (stamp_args stamp) site.now.index args.now) ≤ 2000 }
     ensures count { result ≡ length (message_of table.now (stamp_args stamp) site.now.index args.now) }
     ensures message { take result buf.new ≡ message_of table.now (stamp_args stamp) site.now.index args.now }
+    ensures behind { drop result buf.new ≡ drop result buf.old }
 {
     match site.tag() {
         Tag::Trace => trace!(buf, table, site, stamp; all args),

@@ -1,8 +1,9 @@
-// Steps of putting an argument.
+// Steps of putting a message.
 ghost use Rattle.std.specs.Prelude.{◌≡◌, ◌≤◌, ◌<◌, ◌+◌, ◌∷◌, length};
 ghost use Rattle.byteorder.specs.Endian.{little_bytes};
 ghost use Rattle.defmt_encode.specs.Out.{Wrote};
 ghost use Rattle.defmt_grammar.specs.declared.slot.Slot.{Slot as AnySlot};
+ghost use Rattle.defmt_macros.specs.Frames.{head_of};
 
 use defmt_encode::put_number;
 use defmt_grammar::Slot;
@@ -16,6 +17,18 @@ pub fn put_fitting(buf: &mut [u8], at: usize, n: u128, width: u8) -> usize
     match put_number(buf, at, n, width) {
         Ok(end) => end,
         Err(_) => unreachable!(),
+    }
+}
+
+// Puts a message's head to the front of a buffer.
+pub fn put_head(buf: &mut [u8], index: u16, stamp: Option<u64>) -> usize
+    requires { 2000 ≤ length buf.old }
+    ensures { Wrote buf.old buf.new 0 result (head_of index stamp) }
+{
+    let at = put_fitting(buf, 0, index as u128, 2);
+    match stamp {
+        Some(number) => put_fitting(buf, at, number as u128, 8),
+        None => at,
     }
 }
 
