@@ -1,6 +1,6 @@
 // Macros with their arguments one by one: a proved caller of each, and messages that they put.
 ghost use Rattle.std.specs.Prelude.{◌≡◌, ◌≤◌, ◌<◌, ◌+◌, ◌^◌, ◌∷◌, [], length, take};
-ghost use Rattle.defmt_encode.specs.Carry.{bytes_val, message_of, stamp_args};
+ghost use Rattle.defmt_encode.specs.Carry.{bytes_val, bytes_vals, message_of, stamp_args};
 ghost use Rattle.defmt_grammar.specs.Sizes.{IsSigned};
 ghost use Rattle.defmt_grammar.specs.declared.kind.IntSize.TheVariants as sizes;
 ghost use Rattle.defmt_grammar.specs.declared.kind.Kind.TheVariants as kinds;
@@ -10,6 +10,7 @@ ghost use Rattle.defmt_intern.specs.declared.entry.Tag.TheVariants as tags;
 ghost use Rattle.defmt_values.specs.Fits.{FitsVal};
 ghost use Rattle.defmt_values.specs.Plain.{uint, int, flag, char, str, bytes, no_vals, val};
 ghost use Rattle.defmt_values.specs.View.{plain};
+ghost use Rattle.defmt_macros.specs.Frames.{GrowsByAll, count_put, slots_left};
 ghost use Rattle.defmt_macros.specs.Sites.{IsSite};
 ghost use Rattle.defmt_macros.specs.Stamps.{StampSuits};
 
@@ -145,12 +146,12 @@ fn with_println(buf: &mut [u8], table: &Table, site: &Site, stamp: Option<u64>) 
     println_!(buf, table, site, stamp;)
 }
 
-// Each integer is put for a slot of its own size.
+// Each integer is put for a slot of its own size, as the bytes of its value.
 
 fn put_unsigned(frame: &mut Frame, table: &Table, a: u16, b: u32, c: u64)
-    requires start { frame.old.at ≤ 10 }
-    requires slots { frame.old.left.now ≡ slots.One (kinds.Uint sizes.W16) ∷ slots.One (kinds.Uint sizes.W32) ∷ slots.One (kinds.Uint sizes.W64) ∷ [] }
-    ensures { frame.new.at ≡ frame.old.at + 14 }
+    requires start { count_put frame.old ≤ 10 }
+    requires slots { slots_left frame.old ≡ slots.One (kinds.Uint sizes.W16) ∷ slots.One (kinds.Uint sizes.W32) ∷ slots.One (kinds.Uint sizes.W64) ∷ [] }
+    ensures { GrowsByAll frame.old frame.new (bytes_vals table.now (slots_left frame.old) (val (uint a) (val (uint b) (val (uint c) no_vals)))) }
 {
     put!(frame, table, u16 a);
     put!(frame, table, u32 b);
@@ -158,10 +159,10 @@ fn put_unsigned(frame: &mut Frame, table: &Table, a: u16, b: u32, c: u64)
 }
 
 fn put_signed(frame: &mut Frame, table: &Table, a: i8, b: i16, c: i32, d: i64, e: isize)
-    requires start { frame.old.at ≤ 10 }
-    requires slots { frame.old.left.now ≡ slots.One (kinds.Int sizes.W8) ∷ slots.One (kinds.Int sizes.W16) ∷ slots.One (kinds.Int sizes.W32) ∷ slots.One (kinds.Int sizes.W64) ∷ slots.One (kinds.Int sizes.Native) ∷ [] }
+    requires start { count_put frame.old ≤ 10 }
+    requires slots { slots_left frame.old ≡ slots.One (kinds.Int sizes.W8) ∷ slots.One (kinds.Int sizes.W16) ∷ slots.One (kinds.Int sizes.W32) ∷ slots.One (kinds.Int sizes.W64) ∷ slots.One (kinds.Int sizes.Native) ∷ [] }
     requires range { IsSigned 32 e }
-    ensures { frame.new.at ≡ frame.old.at + 19 }
+    ensures { GrowsByAll frame.old frame.new (bytes_vals table.now (slots_left frame.old) (val (int a) (val (int b) (val (int c) (val (int d) (val (int e) no_vals)))))) }
 {
     put!(frame, table, i8 a);
     put!(frame, table, i16 b);
