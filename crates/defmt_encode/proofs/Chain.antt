@@ -20,7 +20,7 @@ one_part old part bytes at n is size few room =
     } in
     subst (λ (ys : List ℕ). Wrote old (put_mid at (n - at) old ys) at n bytes) (sym is) here
 
-later : (n k m : ℕ) (xs ys : List ℕ) → m ≡ n + k → drop n xs ≡ drop n ys → drop m xs ≡ drop m ys
+pub later : (n k m : ℕ) (xs ys : List ℕ) → m ≡ n + k → drop n xs ≡ drop n ys → drop m xs ≡ drop m ys
 later n k m xs ys e h = ap (λ (i : ℕ). drop i xs) e ∙ sym (drop-drop k n xs) ∙ ap (drop k) h ∙ drop-drop k n ys ∙ ap (λ (i : ℕ). drop i ys) (sym e)
 
 both : (old mid new : List ℕ) (at n m : ℕ) (a b : List ℕ) → Wrote old mid at n a → Wrote mid new n m b → Wrote old new at m (a ++ b)

@@ -1,7 +1,8 @@
 -- Messages in parts, and values that fit the slots of a site.
 use Rattle.std.proofs.Common.{◌≡◌, ℕ, ◌+◌, List, [], ◌∷◌, ◌++◌, length, take, drop, Option, Some, None, Ok, refl, sym, ap, ◌∙◌, subst, arith, append_assoc, length-append}
-use Rattle.std.proofs.lemmas.List.{append-nil, drop-drop}
+use Rattle.std.proofs.lemmas.List.{append-nil}
 use Rattle.byteorder.specs.Endian.{little_bytes}
+use Rattle.defmt_encode.proofs.Chain.{later}
 use Rattle.defmt_encode.specs.Carry.{bytes_val, bytes_vals, message_of, own_slots, slots_at, slots_in, stamp_args, stamp_slots}
 use Rattle.defmt_encode.specs.Stamp.{stamp_of}
 use Rattle.defmt_grammar.specs.Slots.{slots_of}
@@ -34,9 +35,6 @@ parts t index tag slots stamp vs site suits =
     ∙ ap (λ (ss : List Slot). head_of index stamp ++ bytes_vals t ss vs) (own t index tag slots site)
 
 -- ---- what lies behind
-
-later : (n k m : ℕ) (xs ys : List ℕ) → m ≡ n + k → drop n xs ≡ drop n ys → drop m xs ≡ drop m ys
-later n k m xs ys e h = ap (λ (i : ℕ). drop i xs) e ∙ sym (drop-drop k n xs) ∙ ap (drop k) h ∙ drop-drop k n ys ∙ ap (λ (i : ℕ). drop i ys) (sym e)
 
 -- where nothing behind the head was changed, nothing behind the message is
 pub behind_all : (old new : Frame) (more before : List ℕ) (n : ℕ) (out : List ℕ) → drop (count_put old) (buffer_of old) ≡ drop (count_put old) before → GrowsByAll old new more → n ≡ count_put new → out ≡ buffer_of new → drop n out ≡ drop n before
