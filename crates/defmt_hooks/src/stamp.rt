@@ -1,58 +1,47 @@
-// A clock that is a closure.
+// A clock that is kept with the numbers by which it counts.
 ghost use Rattle.std.specs.Prelude.{◌≡◌, ◌≤◌, ◌+◌, ◌*◌};
 ghost use Rattle.defmt_hooks.specs.Even.{RunsEvenly};
 
 use crate::clock::Clock;
+use std::marker::Model;
 
-/// A stored closure that answers `base + step * t` at each number `t` up to 4,096.
+/// A clock that answers `base + step * t` at each number `t` up to 4,096. Contracts see it as these two numbers.
 ///
-/// The closure is called once for each stamp that is asked for, and for nothing else.
+/// The clock is asked once for each stamp that is asked for, and for nothing else.
 #[derive(Drop)]
-pub struct Stamp<F> {
+pub struct Stamp<C: Clock> {
     base: u64,
     step: u64,
-    clock: F,
+    clock: C,
 }
 
-impl<F: Fn(u32) -> u64> Stamp<F> {
-    /// Keeps the closure and its numbers, which are at most 281,474,976,710,656. Takes no memory.
+impl<C: Clock> Model for Stamp<C> {
+    ghost use Rattle.defmt_hooks.specs.Even.{Pace, KeepsPace};
+
+    ghost Value = { Pace };
+
+    ghost view = { λ s. record { base = s.base; step = s.step } };
+
+    ghost invariant = { λ s. KeepsPace (record { base = s.base; step = s.step }) (C.ready s.clock) (C.gives s.clock) };
+}
+
+impl<C: Clock> Stamp<C> {
+    /// Keeps a clock and its numbers, which are at most 281,474,976,710,656. Takes no memory.
     ///
-    /// The closure may be called at each number up to 4,096, and answers `base + step * t` there.
-    pub fn new(base: u64, step: u64, f: F) -> Stamp<F>
+    /// The clock may be asked at each number up to 4,096, and answers `base + step * t` there.
+    pub fn new(base: u64, step: u64, clock: C) -> Stamp<C>
         requires numbers { (base ≤ 281474976710656) × (step ≤ 281474976710656) }
-        requires even { RunsEvenly base step (F.pre f) (F.post f) }
-        ensures { result ≡ record { base = base; step = step; clock = f } }
+        requires even { RunsEvenly base step (C.ready clock) (C.gives clock) }
+        ensures { result ≡ record { base = base; step = step } }
     {
-        Stamp {
-            base,
-            step,
-            clock: f,
-        }
+        Stamp { base, step, clock }
     }
 
     /// The stamp of the message number `t`, at most 4,096: `base + step * t`. Takes no memory.
-    ///
-    /// The closure is the one that `new` was given, or another of which the same is known.
     pub fn at(&self, t: u32) -> u64
-        requires number { t ≤ 4096 }
-        requires even { RunsEvenly self.now.base self.now.step (F.pre self.now.clock) (F.post self.now.clock) }
+        requires { t ≤ 4096 }
         ensures { result ≡ self.now.base + self.now.step * t }
     {
-        (self.clock)(t)
-    }
-}
-
-impl<F: Fn(u32) -> u64> Clock for Stamp<F> {
-    ghost base = { λ s. s.base };
-
-    ghost step = { λ s. s.step };
-
-    ghost ready = { λ s t. F.pre s.clock t };
-
-    ghost gives = { λ s t stamp. F.post s.clock t stamp };
-
-    fn tick(&self, t: u32) -> u64 {
-        let clock = &self.clock;
-        clock(t)
+        self.clock.tick(t)
     }
 }
