@@ -1,10 +1,11 @@
 -- A desk on which one statement more is logged.
 use Rattle.std.proofs.Common.{◌≡◌, ℕ, zero, suc, ◌+◌, ◌*◌, ◌<◌, ◌≤◌, List, [], ◌∷◌, ◌++◌, length, length-append, refl, sym, ap, ◌∙◌, subst, arith}
 use Rattle.std.specs.Prelude.{replicate, slice_index_or, slice_set}
+use Rattle.defmt_hooks.specs.Even.{Pace}
 use Rattle.defmt_logger.proofs.Append.{counts_append, kept_append, within_snoc}
 use Rattle.defmt_logger.proofs.Room.{tape_fits, writer_below}
-use Rattle.defmt_logger.specs.Kept.{Counts, IsClockOf, IsKept, IsWorking, Reel, SendsIn, Sheet, next_mark}
-use Rattle.defmt_logger.specs.Tape.{count, first_stamp, frame_at, marks_of, stamp_number}
+use Rattle.defmt_logger.specs.Kept.{Counts, IsKept, IsWorking, Reel, SendsIn, Sheet, next_mark, pace_of}
+use Rattle.defmt_logger.specs.Tape.{count, frame_at, marks_of, stamp_number}
 use Rattle.defmt_logger.specs.declared.mark.Mark.{Mark}
 use Rattle.defmt_logger.specs.declared.sites.Sites.{Sites}
 use Rattle.defmt_script.specs.Lawful.{IsLawful as HoldsOfScripts}
@@ -29,11 +30,8 @@ room_left d w k h more =
     let len : length (d.tape.marks ++ m ∷ []) ≡ length d.tape.marks + 1 = length-append d.tape.marks (m ∷ []) in
     omega (arith, fits, len, h.few, k.room)
 
-stamp_is : (s : Script) (base step : ℕ) (ready : ℕ → Type 0) (gives : ℕ → ℕ → Type 0) (t stamp : ℕ) → IsClockOf s.settings.stamp base step ready gives → t ≤ 4096 → gives t stamp → stamp ≡ stamp_number s t
-stamp_is s base step ready gives t stamp c le given =
-    c.even.stamps t stamp le given
-    ∙ ap (λ (b : ℕ). b + step * t) c.base_is
-    ∙ ap (λ (x : ℕ). first_stamp s.settings.stamp + x * t) c.step_is
+stamp_is : (s : Script) (pace : Pace) (t stamp : ℕ) → pace ≡ pace_of s.settings.stamp → stamp ≡ pace.base + pace.step * t → stamp ≡ stamp_number s t
+stamp_is s pace t stamp e given = given ∙ ap (λ (p : Pace). p.base + p.step * t) e
 
 pub record Next (d : Sheet) (places : List ℕ) (w : ℕ) (fate : Fate) (now : Reel) (v : Up) : Type 0 where
   pub marks : now.marks ≡ d.tape.marks ++ next_mark d.script d.tape.marks w fate ∷ []
@@ -68,20 +66,19 @@ next_by d places w place stamp fate now v k counts more here place_is stamp_is m
       counts = counts_append places (slice_index_or places w 0 + 1) tape now.marks m counts is (ap (λ (n : ℕ). n + 1) here);
     }
 
-pub next_is : (d : Sheet) (sites : Sites) (places : List ℕ) (base step : ℕ) (ready : ℕ → Type 0) (gives : ℕ → ℕ → Type 0) (message frame : List ℕ) (w t stamp : ℕ) (fate : Fate) (now : Reel) (v : Up)
-    → IsWorking d sites places base step ready gives message frame
+pub next_is : (d : Sheet) (sites : Sites) (places : List ℕ) (pace : Pace) (message frame : List ℕ) (w t stamp : ℕ) (fate : Fate) (now : Reel) (v : Up)
+    → IsWorking d sites places pace message frame
     → HoldsOfScripts d.script
     → marks_of w d.tape.marks < count d.script w
     → t ≡ length d.tape.marks
-    → gives t stamp
+    → stamp ≡ pace.base + pace.step * t
     → now.marks ≡ d.tape.marks ++ (record { writer = w; place = slice_index_or places w 0; stamp = stamp; fate = fate }) ∷ []
     → now.room + 1 ≡ d.tape.room
     → SendsIn d.script.settings.mode d.up v (frame_at d.script w (slice_index_or places w 0) stamp) fate
     → Next d places w fate now v
-next_is d sites places base step ready gives message frame w t stamp fate now v k h more t_is given marks room sends =
+next_is d sites places pace message frame w t stamp fate now v k h more t_is given marks room sends =
     let here : slice_index_or places w 0 ≡ marks_of w d.tape.marks = k.counts.1 w (writer_is d.script d.tape.marks w h more) in
-    let few : t ≤ 4096 = omega (arith, t_is, k.kept.room) in
-    let now_is : stamp ≡ stamp_number d.script (length d.tape.marks) = stamp_is d.script base step ready gives t stamp k.clock few given ∙ ap (stamp_number d.script) t_is in
+    let now_is : stamp ≡ stamp_number d.script (length d.tape.marks) = stamp_is d.script pace t stamp k.pace_is given ∙ ap (stamp_number d.script) t_is in
     next_by d places w (slice_index_or places w 0) stamp fate now v k.kept k.counts more here here now_is marks room sends
 
 -- ---- a desk on which nothing was logged

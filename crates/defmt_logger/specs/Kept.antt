@@ -1,6 +1,6 @@
 -- What contracts see of a tape and of a desk, and what a desk keeps.
 use Rattle.std.specs.Prelude.{◌≡◌, ℕ, ◌+◌, ◌<◌, ◌≤◌, true, List, [], ◌++◌, length, Option, slice_index_or}
-use Rattle.defmt_hooks.specs.Even.{RunsEvenly}
+use Rattle.defmt_hooks.specs.Even.{Pace}
 use Rattle.defmt_lines.specs.declared.settings.RingMode.{RingMode}
 use Rattle.defmt_lines.specs.declared.settings.RingMode.TheVariants.{Block, Skip, Trim}
 use Rattle.defmt_logger.specs.Sites.{HasSites}
@@ -25,13 +25,11 @@ pub record Sheet : Type 0 where
   pub tape : Reel
   pub up : Up
 
--- ---- the clock
+-- ---- the stamps
 
--- the clock counts by the stamps of a script
-pub record IsClockOf (stamp : Option (ℕ × ℕ)) (base step : ℕ) (ready : ℕ → Type 0) (gives : ℕ → ℕ → Type 0) : Type 0 where
-  pub base_is : base ≡ first_stamp stamp
-  pub step_is : step ≡ stamp_step stamp
-  pub even : RunsEvenly base step ready gives
+-- the numbers by which a script's stamps count
+abbrev pub pace_of : Option (ℕ × ℕ) → Pace
+pace_of stamp = record { base = first_stamp stamp; step = stamp_step stamp }
 
 -- ---- the modes
 
@@ -87,12 +85,12 @@ Counts xs tape = (length xs ≡ 8) × ((w : ℕ) → w < 8 → slice_index_or xs
 abbrev pub next_mark : Script → List Mark → ℕ → Fate → Mark
 next_mark s tape w fate = record { writer = w; place = marks_of w tape; stamp = stamp_number s (length tape); fate = fate }
 
--- what a desk keeps of its parts: the sheet, the sites of the script, the writers' next places, the clock's meanings, and
--- the buffers for a message and a frame
-pub record IsWorking (d : Sheet) (sites : Sites) (places : List ℕ) (base step : ℕ) (ready : ℕ → Type 0) (gives : ℕ → ℕ → Type 0) (message frame : List ℕ) : Type 0 where
+-- what a desk keeps of its parts: the sheet, the sites of the script, the writers' next places, the numbers of its stamps,
+-- and the buffers for a message and a frame
+pub record IsWorking (d : Sheet) (sites : Sites) (places : List ℕ) (pace : Pace) (message frame : List ℕ) : Type 0 where
   pub kept : IsKept d
   pub sites_are : HasSites d.script sites
   pub counts : Counts places d.tape.marks
-  pub clock : IsClockOf d.script.settings.stamp base step ready gives
+  pub pace_is : pace ≡ pace_of d.script.settings.stamp
   pub message_size : length message ≡ 2000
   pub frame_size : length frame ≡ 2288

@@ -1,6 +1,6 @@
 // The desk.
 ghost use Rattle.std.specs.Prelude.{◌≡◌, ◌^◌, ◌<◌, [], ◌∷◌, ◌++◌, IfOk, length};
-ghost use Rattle.defmt_logger.specs.Kept.{IsClockOf, IsKept, SendsIn, TellsIn, next_mark};
+ghost use Rattle.defmt_logger.specs.Kept.{IsKept, SendsIn, TellsIn, next_mark, pace_of};
 ghost use Rattle.defmt_logger.specs.Sites.{HasSites};
 ghost use Rattle.defmt_logger.specs.Tape.{count, frame_at, marks_of, stamp_number};
 ghost use Rattle.rtt_ring.specs.Views.{new_up};
@@ -9,7 +9,7 @@ use crate::framing::write_frame;
 use crate::mark::Mark;
 use crate::sites::Sites;
 use crate::tape::Tape;
-use defmt_hooks::Clock;
+use defmt_hooks::{Clock, Stamp};
 use defmt_script::{RingMode, Script};
 use dl_io::Memory;
 use rtt_modes::{Fate, Relief, block, skip, trim};
@@ -35,7 +35,7 @@ pub struct Desk<U: UpEnd, C: Clock> {
     sites: Sites,
     tape: Tape,
     places: [u32; 8],
-    stamp: C,
+    stamp: Stamp<C>,
     message: Vec<u8>,
     frame: Vec<u8>,
     up: U,
@@ -51,7 +51,7 @@ impl<U: UpEnd, C: Clock> Model for Desk<U, C> {
 
     ghost view = { λ d. record { script = d.script; tape = d.tape; up = U.view d.up } };
 
-    ghost invariant = { λ d. IsWorking (record { script = d.script; tape = d.tape; up = U.view d.up }) d.sites d.places (C.base d.stamp) (C.step d.stamp) (C.ready d.stamp) (C.gives d.stamp) d.message.items d.frame.items };
+    ghost invariant = { λ d. IsWorking (record { script = d.script; tape = d.tape; up = U.view d.up }) d.sites d.places d.stamp d.message.items d.frame.items };
 }
 
 // Sends a frame in a mode. It waits in blocking mode alone.
@@ -167,7 +167,7 @@ impl<U: UpEnd, C: Clock> Desk<U, C> {
         // So a writer that has a statement left is one of eight.
         self.script.lawful();
         let place = self.places[writer as usize];
-        let stamp = self.stamp.tick(self.tape.len() as u32);
+        let stamp = self.stamp.at(self.tape.len() as u32);
         let fate = send_statement(
             rt,
             &mut self.up,
@@ -196,10 +196,10 @@ impl<U: UpEnd + Drop, C: Clock + Drop> Desk<U, C> {
     pub(crate) fn start(
         alloc: Global,
         script: Script,
-        stamp: C,
+        stamp: Stamp<C>,
         up: U,
     ) -> Result<Desk<U, C>, Memory>
-        requires clock { IsClockOf script.settings.stamp (C.base stamp) (C.step stamp) (C.ready stamp) (C.gives stamp) }
+        requires pace { stamp ≡ pace_of script.settings.stamp }
         requires fresh { U.view up ≡ new_up (U.view up).split script.settings.ring (U.view up).tells }
         requires told { TellsIn script.settings.mode (U.view up) }
         ensures script { IfOk result (λ desk. desk.script ≡ script) }

@@ -1,6 +1,6 @@
 // The logger.
 ghost use Rattle.std.specs.Prelude.{◌≡◌, ◌+◌, ◌<◌, IfOk};
-ghost use Rattle.defmt_logger.specs.Kept.{IsClockOf, IsKept, TellsIn};
+ghost use Rattle.defmt_logger.specs.Kept.{IsKept, TellsIn, pace_of};
 ghost use Rattle.defmt_logger.specs.Tape.{marks_of};
 ghost use Rattle.rtt_ring.specs.Views.{new_up};
 
@@ -9,7 +9,7 @@ use crate::desk::Desk;
 use crate::locked::{Locked, Naming};
 use crate::pen::{Pen, Pens};
 use crate::tape::Tape;
-use defmt_hooks::Clock;
+use defmt_hooks::{Clock, Stamp};
 use defmt_script::Script;
 use dl_io::Memory;
 use rtt_modes::Relief;
@@ -59,11 +59,11 @@ impl<
 > Logger<Eight<L0, L1, L2, L3, L4, L5, L6, L7>, K, U, C> {
     /// A logger with a desk on which nothing was logged, and the pens of the writers 0 to 7.
     ///
-    /// The clock counts by the script's stamps, and by 0 and 0 without them. The end is as its split gave it and has the
+    /// The stamp counts as the script's stamps do, and by 0 and 0 without them. The end is as its split gave it and has the
     /// script's size; in skip and trim mode it tells how many bytes were released. Each blank is of a ledger with one part.
     ///
     /// # Errors
-    /// `Memory` where there is none. Script, clock and end are then given up.
+    /// `Memory` where there is none. Script, stamp and end are then given up.
     pub fn start(
         alloc: Global,
         blank0: Blank,
@@ -75,7 +75,7 @@ impl<
         blank6: Blank,
         blank7: Blank,
         script: Script,
-        stamp: C,
+        stamp: Stamp<C>,
         up: U,
     ) -> Result<
         (
@@ -84,7 +84,7 @@ impl<
         ),
         Memory,
     >
-        requires clock { IsClockOf script.settings.stamp (C.base stamp) (C.step stamp) (C.ready stamp) (C.gives stamp) }
+        requires pace { stamp ≡ pace_of script.settings.stamp }
         requires fresh { U.view up ≡ new_up (U.view up).split script.settings.ring (U.view up).tells }
         requires told { TellsIn script.settings.mode (U.view up) }
         requires names { (K.script ≡ script) × (K.split ≡ (U.view up).split) }

@@ -14,8 +14,8 @@ next : (g : Over) (c : After-push_reserved g) → let s = c.self.inside in Next 
 next g c =
     let s = c.self.inside in
     let d : Sheet = record { script = s.script; tape = s.tape; up = g.U.UpEnd.view s.up } in
-    next_is d s.sites s.places (g.C.Clock.base s.stamp) (g.C.Clock.step s.stamp) (g.C.Clock.ready s.stamp) (g.C.Clock.gives s.stamp) s.message.items s.frame.items c.args.writer c.len.result c.tick-stamp.result c.send_statement-fate.result c.push_reserved.new.self _
-    c.self.invariant c.lawful.ensures (more_left d _ c.args.writer c.self.view_is c.requires.place) c.len.ensures c.tick-stamp.ensures c.push_reserved.ensures.marks c.push_reserved.ensures.room c.send_statement-fate.ensures.sent
+    next_is d s.sites s.places s.stamp s.message.items s.frame.items c.args.writer c.len.result c.at-stamp.result c.send_statement-fate.result c.push_reserved.new.self _
+    c.self.invariant c.lawful.ensures (more_left d _ c.args.writer c.self.view_is c.requires.place) c.len.ensures c.at-stamp.ensures c.push_reserved.ensures.marks c.push_reserved.ensures.room c.send_statement-fate.ensures.sent
 
 pub bounds-self-inside-writer : goal.bounds-self-inside-writer
 bounds-self-inside-writer g c = writer_is c.self.inside.script c.self.inside.tape.marks c.args.writer c.lawful.ensures (more_left _ _ c.args.writer c.self.view_is c.requires.place)
@@ -41,7 +41,7 @@ invariant_of-self g c =
       kept = n.kept;
       sites_are = c.self.invariant.sites_are;
       counts = n.counts;
-      clock = c.self.invariant.clock;
+      pace_is = c.self.invariant.pace_is;
       message_size = first_of (search rules, grind (arith, common_steps));
       frame_size = first_of (search rules, grind (arith, common_steps));
     }

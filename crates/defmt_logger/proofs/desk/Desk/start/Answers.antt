@@ -14,7 +14,7 @@ invariant_of-result g c =
       kept = kept_first c.args.script s.tape u made.marks made.room (ap (λ (x : Up). x.sent) fresh) (ap (λ (x : Up). x.staged) fresh) (ap (λ (x : Up). x.size) fresh) (ap (λ (x : Up). x.looks) fresh) c.requires.told;
       sites_are = made.sites;
       counts = no_counts s.tape.marks made.marks;
-      clock = c.requires.clock;
+      pace_is = c.requires.pace;
       message_size = made.message;
       frame_size = made.frame;
     }
