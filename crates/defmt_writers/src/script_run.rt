@@ -1,6 +1,6 @@
 // How a run goes.
 ghost use Rattle.std.specs.Prelude.{◌≡◌, ◌-◌, ◌^◌, ◌≤◌, List, [], ◌++◌, IfOk, length, min};
-ghost use Rattle.defmt_logger.specs.Kept.{IsClockOf, TellsIn};
+ghost use Rattle.defmt_logger.specs.Kept.{TellsIn, pace_of};
 ghost use Rattle.defmt_logger.specs.Tape.{IsLawful, stream_of};
 ghost use Rattle.defmt_logger.specs.declared.mark.Mark.{Mark};
 ghost use Rattle.defmt_writers.specs.Runs.{IsRun, ModeFits};
@@ -10,7 +10,7 @@ use crate::drain::{Drain, Yields};
 use crate::gate::Gate;
 use crate::serving::serve_here;
 use crate::writers::{work, write};
-use defmt_hooks::Clock;
+use defmt_hooks::{Clock, Stamp};
 use defmt_logger::{Books, Eight, Logger, Naming, Pen, Pens, Seat, Tape};
 use defmt_script::Script;
 use dl_io::{Bytes, Memory};
@@ -198,13 +198,13 @@ fn run_named<
     blank6: Blank,
     blank7: Blank,
     script: Script,
-    clock: C,
+    stamp: Stamp<C>,
     gate: &G,
     up: H::Up,
     down: H::Down,
     captured: Bytes,
 ) -> Result<Run, Memory>
-    requires clock { IsClockOf script.settings.stamp (C.base clock) (C.step clock) (C.ready clock) (C.gives clock) }
+    requires pace { stamp ≡ pace_of script.settings.stamp }
     requires up { H.Up.view up ≡ new_up (H.Up.view up).split script.settings.ring (H.Up.view up).tells }
     requires told { TellsIn script.settings.mode (H.Up.view up) }
     requires down { H.Down.view down ≡ new_down (H.Up.view up).split script.settings.ring }
@@ -224,7 +224,7 @@ fn run_named<
 {
     let drain = Drain::<K, H::Down>::new(down, captured, script.late());
     let (logger, mut pens) = Logger::<Eight<L0, L1, L2, L3, L4, L5, L6, L7>, K, H::Up, C>::start(
-        alloc, blank0, blank1, blank2, blank3, blank4, blank5, blank6, blank7, script, clock, up,
+        alloc, blank0, blank1, blank2, blank3, blank4, blank5, blank6, blank7, script, stamp, up,
     )?;
     let mut drain = work(rt, &logger, &mut pens, gate, drain);
     finish::<H, _, _, _, _, _, _, _, _, _, _, _, _>(rt, &logger, &mut pens, gate, &mut drain);
@@ -241,7 +241,7 @@ fn run_named<
 
 /// Runs a script over a ring of its own: a thread for each writer that has statements logs them, and the calling thread reads.
 ///
-/// The clock counts by the script's stamps, and by 0 and 0 without them. In skip and trim mode the ring tells how many bytes
+/// The stamp counts as the script's stamps do, and by 0 and 0 without them. In skip and trim mode the ring tells how many bytes
 /// were released. The gate is asked before each statement is logged, and told of each take that took something. A late reader
 /// takes nothing. A writer whose thread couldn't be started is run by the calling thread, with a live reader by [`serve_here`].
 /// The call waits for its threads.
@@ -252,10 +252,10 @@ pub fn run_script<H: Channel, C: Clock + Send + Drop, G: Gate + Sync, R: Threads
     rt: &R,
     alloc: Global,
     script: Script,
-    clock: C,
+    stamp: Stamp<C>,
     gate: &G,
 ) -> Result<Run, Memory>
-    requires clock { IsClockOf script.settings.stamp (C.base clock) (C.step clock) (C.ready clock) (C.gives clock) }
+    requires pace { stamp ≡ pace_of script.settings.stamp }
     requires fits { ModeFits script.settings.mode H.tells }
     ensures script { IfOk result (λ r. r.script ≡ script) }
     ensures run { IfOk result (λ r. IsRun script r.tape.marks r.settled r.captured.items r.rest.items r.looks) }
@@ -274,7 +274,7 @@ pub fn run_script<H: Channel, C: Clock + Send + Drop, G: Gate + Sync, R: Threads
         Blank::new(1),
         Blank::new(1),
         script,
-        clock,
+        stamp,
         gate,
         up,
         down,
