@@ -102,10 +102,6 @@ unfoldable mutual
   bytes_elems t index no_elems = []
   bytes_elems t index (elem variant vs es) = (variant_byte variant ++ bytes_vals t (node_slots t index variant) vs) ++ bytes_elems t index es
 
--- the bytes carry the values of these slots
-abbrev pub Carries : Map → List Slot → Vals → List ℕ → Type 0
-Carries t slots vs carried = carried ≡ bytes_vals t slots vs
-
 -- the slots of places
 abbrev pub slots_at : List Place → List Slot
 slots_at [] = []

@@ -10,7 +10,7 @@ use Rattle.defmt_values.specs.Scan.{index_or}
 use Rattle.defmt_encode.specs.Carry.{node_slots, own_slots, stamp_slots}
 use Rattle.defmt_encode.specs.Stamp.{stamp_of}
 
--- a byte array has as many bytes as its slot says
+-- of bytes: four bytes in front of them tell their number, but not that of a byte array's, which has as many as its slot says
 abbrev pub CountFits : Slot → ℕ → Type 0
 CountFits (slots.One kinds.Bytes) count = count < 2 ^ 32
 CountFits slot count = Unit {0}

@@ -6,7 +6,8 @@ use crate::clock::Clock;
 /// A stored closure. Where it takes a number and answers one, it is a clock.
 #[derive(Drop)]
 pub struct Hook<F> {
-    call: F,
+    /// The closure.
+    pub call: F,
 }
 
 impl<F> Hook<F> {

@@ -7,7 +7,7 @@ ghost use Rattle.defmt_values.specs.declared.value.Statement.{Statement as AnySt
 use defmt_script::Script;
 use defmt_values::args_are_sound;
 
-/// The texts of all statements are UTF-8 and their characters are Unicode scalar values, so that their messages are read back.
+/// The texts of all statements are UTF-8, their characters are Unicode scalar values and their bytes are below 256, so that their messages are read back.
 /// It walks through the statements once. Takes no memory.
 pub fn statements_are_sound(script: &Script)
     ensures { (writer place : ℕ) (stm : AnyStatement) → writer < 8 → slice_get (statements_of script.now writer) place ≡ Some stm → AreSound stm.args }

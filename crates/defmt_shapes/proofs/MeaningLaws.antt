@@ -6,8 +6,18 @@ use Rattle.std.proofs.lemmas.List.{append-nil}
 use Rattle.std.proofs.lemmas.Option.{none-some}
 use Rattle.defmt_shapes.specs.Shape.{SpellsCharacters, SpellsQuoted, SpellsBytes}
 use Rattle.defmt_shapes.specs.Escapes.{IsCharacter}
-use Rattle.defmt_shapes.specs.Meaning.{NoCharacter, MeansText, TextLeft, FirstByte, NoByte, MeansBytes, BytesLeft}
+use Rattle.defmt_shapes.specs.Meaning.{NoCharacter, MeansText, FirstByte, NoByte, MeansBytes}
 use Rattle.defmt_shapes.proofs.EscapeLaws.{character_again, character_found, character_one, reads, front_some, same_character}
+
+-- ---- how far a reader has come
+
+-- what the rest stands for, behind the text so far, is what the whole stands for
+pub record TextLeft (inside text rest : List ℕ) : Type 0 where
+  pub goes : (left : List ℕ) → MeansText rest left → MeansText inside (text ++ left)
+
+-- the same of bytes
+pub record BytesLeft (digits bytes rest : List ℕ) : Type 0 where
+  pub goes : (left : List ℕ) → MeansBytes rest left → MeansBytes digits (bytes ++ left)
 
 -- ---- texts
 

@@ -35,13 +35,3 @@ pub record MeansBytes (digits bytes : List ℕ) : Type 0 where
   pub digits_are : digits ≡ front ++ rest
   pub spelled : SpellsBytes front bytes
   pub ends : NoByte rest
-
--- ---- how far a reader has come
-
--- what the rest stands for, behind the text so far, is what the whole stands for
-pub record TextLeft (inside text rest : List ℕ) : Type 0 where
-  pub goes : (left : List ℕ) → MeansText rest left → MeansText inside (text ++ left)
-
--- the same of bytes
-pub record BytesLeft (digits bytes rest : List ℕ) : Type 0 where
-  pub goes : (left : List ℕ) → MeansBytes rest left → MeansBytes digits (bytes ++ left)

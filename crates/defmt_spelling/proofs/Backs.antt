@@ -1,5 +1,5 @@
 -- What is written reads back.
-use Rattle.std.proofs.Common.{◌≡◌, inl, inr, ◌<◌, ◌-◌, ◌==◌, ◌++◌, ℕ, suc, pos, negsuc, Bool, true, false, cond, List, [], ◌∷◌, Option, Some, None, T, is_eq, is_lt, Ordering, Less, Equal, Greater, nat_cmp, refl, sym, ap, subst, ◌∙◌, arith, append_assoc, ◌&&◌, Result, Ok, Err}
+use Rattle.std.proofs.Common.{◌≡◌, inl, inr, ◌<◌, ◌-◌, ◌==◌, ◌++◌, ℕ, suc, pos, negsuc, Bool, true, false, cond, List, [], ◌∷◌, Option, Some, None, T, is_eq, is_lt, Ordering, Less, Equal, Greater, nat_cmp, refl, sym, ap, subst, ◌∙◌, arith, append_assoc, Result, Ok, Err}
 use Rattle.std.specs.Prelude.{unwrap_or, IfOk}
 use Rattle.std.specs.Cmp.{eq_by_cmp_equiv}
 use Rattle.std.specs.Cmp.Lexicographic.{slice_cmp, nat_list_cmp_total}

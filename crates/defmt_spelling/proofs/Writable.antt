@@ -1,5 +1,5 @@
 -- Arguments whose indexes have names, and which are what their types say: each can be written.
-use Rattle.std.specs.Prelude.{◌<◌, ℕ}
+use Rattle.std.specs.Prelude.{◌<◌}
 use Rattle.std.specs.Char.{IsScalar}
 use Rattle.std.specs.List.{AllByRecursion}
 use Rattle.std.specs.Str.{IsUtf8}

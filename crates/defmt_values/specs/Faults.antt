@@ -25,13 +25,13 @@ pub data Level : Type 1 where
 
 -- a value is left without a place, or a place without a value, or the value of the next place is refused
 abbrev pub NextFault : OneFault → List Place → ℕ → ℕ → Vals → ℕ → Type 0
-NextFault one [] weight sum no_vals cause = ⊥
-NextFault one [] weight sum (val v vs) cause = cause ≡ 2
-NextFault one (p ∷ ps) weight sum no_vals cause = cause ≡ 2
-NextFault one (p ∷ ps) weight sum (val v vs) cause = one p.slot (p.uses * weight) sum v cause
+NextFault one [] weight before no_vals cause = ⊥
+NextFault one [] weight before (val v vs) cause = cause ≡ 2
+NextFault one (p ∷ ps) weight before no_vals cause = cause ≡ 2
+NextFault one (p ∷ ps) weight before (val v vs) cause = one p.slot (p.uses * weight) before v cause
 
 -- Fitting values stand in front, and what comes next is refused. The text that the places belong to has a weight, and
--- `before` is the sum of the weights in front of it all.
+-- `before` is the sum of the weights in front of it all. `one` says what is refused of one value.
 pub record EachFault (t : Map) (left : ℕ) (one : OneFault) (places : List Place) (weight before : ℕ) (vs : Vals) (cause : ℕ) : Type 0 where
   pub front : List Place
   pub others : List Place
@@ -74,7 +74,8 @@ ListFault t left one slot weight before index es cause = (list_form t index ≡ 
     ⊎ ((form : Parsed) × (list_form t index ≡ Ok form) × ElemsFault t left one (index_or index) form weight before es cause)
     ⊎ ((form : Parsed) × (list_form t index ≡ Ok form) × FitsElems t left form es × (before + weigh_elems t (index_or index) weight es ≤ 8192) × (count_cause slot (elems_len es) ≡ Err cause))
 
--- a list: without elements it has no index, and an array of 0 elements may be so; one of some elements needs a level
+-- a list without elements: it has an index, or its array has another number of elements than 0; a list of some elements:
+-- no level is left, or what `ListFault` says
 abbrev pub SeqFault : Map → ℕ → Level → Slot → ℕ → ℕ → Option ℕ → Elems → ℕ → Type 0
 SeqFault t left l slot weight before index no_elems cause = (no_index index ≡ Err cause)
     ⊎ ((index ≡ None) × (count_cause slot 0 ≡ Err cause))

@@ -1,6 +1,5 @@
 use Rattle.std.proofs.Common.{List, [], ℕ, sym, subst}
-use Rattle.defmt_shapes.specs.Meaning.{BytesLeft}
-use Rattle.defmt_shapes.proofs.MeaningLaws.{begin_bytes, next_bytes, fewer_digits, whole_bytes, one_bytes}
+use Rattle.defmt_shapes.proofs.MeaningLaws.{BytesLeft, begin_bytes, next_bytes, fewer_digits, whole_bytes, one_bytes}
 use Rattle.defmt_shapes.proofs.meaning.bytes_of.Goals as goal
 
 pub pairs-init : goal.pairs-init

@@ -1,5 +1,5 @@
 use Rattle.std.proofs.Common.{length}
-use Rattle.defmt_shapes.specs.Meaning.{BytesLeft}
+use Rattle.defmt_shapes.proofs.MeaningLaws.{BytesLeft}
 use Rattle.defmt_shapes.proofs.meaning.bytes_of.Given as goal
 
 abbrev pub invariant-pairs : goal.invariant-pairs

@@ -1,7 +1,6 @@
 use Rattle.std.proofs.Common.{List, ℕ, sym, subst, arith}
-use Rattle.defmt_shapes.specs.Meaning.{TextLeft}
 use Rattle.defmt_shapes.proofs.EscapeLaws.{character_shorter}
-use Rattle.defmt_shapes.proofs.MeaningLaws.{begin_text, next_text, whole_text, one_text}
+use Rattle.defmt_shapes.proofs.MeaningLaws.{TextLeft, begin_text, next_text, whole_text, one_text}
 use Rattle.defmt_shapes.proofs.meaning.unescape.Goals as goal
 
 pub characters-init : goal.characters-init

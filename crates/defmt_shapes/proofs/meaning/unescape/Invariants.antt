@@ -1,6 +1,6 @@
 use Rattle.std.proofs.Common.{length}
 use Rattle.std.specs.Str.{IsUtf8}
-use Rattle.defmt_shapes.specs.Meaning.{TextLeft}
+use Rattle.defmt_shapes.proofs.MeaningLaws.{TextLeft}
 use Rattle.defmt_shapes.proofs.meaning.unescape.Given as goal
 
 abbrev pub invariant-characters : goal.invariant-characters
