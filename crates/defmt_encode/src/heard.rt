@@ -1,6 +1,6 @@
 //! Messages read from bytes.
 ghost use Rattle.std.specs.Prelude.{◌≡◌, ℕ};
-ghost use Rattle.defmt_values.specs.Entries.{look, is_logged};
+ghost use Rattle.defmt_values.specs.Entries.{look};
 ghost use Rattle.defmt_values.specs.Plain.{Vals};
 ghost use Rattle.defmt_encode.specs.Heard.{IsHeard};
 ghost use Rattle.defmt_encode.specs.Met.{IsMet};
@@ -14,8 +14,8 @@ use crate::field::index;
 use crate::read::{read_own, suited};
 use crate::writing::stamp_index;
 use defmt_grammar::Pieces;
-use defmt_intern::{Parsed, Table, Tag};
-use defmt_values::{Args, Statement, cut, look_up};
+use defmt_intern::{Parsed, Table};
+use defmt_values::{Args, Statement, cut, is_logged, look_up};
 use std::alloc::Global;
 
 /// What a message says.
@@ -55,15 +55,6 @@ impl From<Fault> for ReadCause {
             Fault::Memory => ReadCause::Memory,
         }
     }
-}
-
-fn is_logged(tag: &Tag) -> bool
-    ensures { result ≡ is_logged tag.now }
-{
-    matches!(
-        tag,
-        Tag::Trace | Tag::Debug | Tag::Info | Tag::Warn | Tag::Error | Tag::Println
-    )
 }
 
 fn one_in(body: &Parsed) -> Result<&Pieces, Cause>

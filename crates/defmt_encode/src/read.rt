@@ -3,7 +3,7 @@ ghost use Rattle.std.specs.Prelude.{◌≡◌, ◌≤◌, ◌<◌, ◌+◌, ◌^
 ghost use Rattle.defmt_grammar.specs.Slots.{IsSound};
 ghost use Rattle.defmt_grammar.specs.declared.kind.Kind.TheVariants.{Uint};
 ghost use Rattle.defmt_grammar.specs.declared.slot.Slot.TheVariants.{One};
-ghost use Rattle.defmt_values.specs.Entries.{look, is_format, is_interned, places_of};
+ghost use Rattle.defmt_values.specs.Entries.{look, places_of};
 ghost use Rattle.defmt_encode.specs.Read.{suited, interned_of, istr_at, form_in, form_of, add, variant_of, uint_at, int_at, flag_at, char_at, str_at, slice_at, array_at, window_at, only_at, each_at, elem_at, elems_at, node_at, list_at, some_at, slot_at, value_at, below, OneAt};
 ghost use Rattle.defmt_encode.specs.Reads.{now_of, variant_now, ReadsVal, ReadsVals, ReadsElem, ReadsElems, SumSmall, IsLeaf, with_vals};
 
@@ -14,20 +14,10 @@ use crate::field::{
 use crate::writing::size_bytes;
 use defmt_grammar::{IntSize, Kind, Pieces, Slot};
 use defmt_intern::{Parsed, Table, Tag};
-use defmt_values::{Args, Item, Items, Node, Seq, Value, cut, look_up, power};
+use defmt_values::{
+    Args, Item, Items, Node, Seq, Value, cut, is_format, is_interned, look_up, power,
+};
 use std::alloc::Global;
-
-fn is_interned(tag: &Tag) -> bool
-    ensures { result ≡ is_interned tag.now }
-{
-    matches!(tag, Tag::Interned)
-}
-
-fn is_format(tag: &Tag) -> bool
-    ensures { result ≡ is_format tag.now }
-{
-    matches!(tag, Tag::Prim | Tag::Derived | Tag::Write)
-}
 
 // What an entry gives whose tag suits or doesn't.
 pub fn suited(suits: bool, tag: &Tag) -> Result<(), Cause>

@@ -1,7 +1,6 @@
 // Sites.
 ghost use Rattle.std.specs.Prelude.{◌≡◌, ◌≤◌, length, MatchOption, IfOk, IsTrue, ◌↔◌};
 ghost use Rattle.defmt_intern.specs.declared.entry.Tag.{Tag as AnyTag};
-ghost use Rattle.defmt_values.specs.Entries.{is_logged};
 ghost use Rattle.defmt_macros.specs.Sites.{found, DifferAt, Finds, Answers, GivesOnly, RefusesOnly, Refuses, IsSite};
 ghost use Rattle.defmt_macros.specs.Stamps.{StampSuits};
 ghost use Rattle.defmt_macros.specs.declared.site.SiteFault.{SiteFault as AnyFault};
@@ -10,7 +9,7 @@ use crate::slots::Slots;
 use defmt_encode::stamp_slots;
 use defmt_grammar::{IntSize, Kind, Slot};
 use defmt_intern::{Parsed, Table, Tag};
-use defmt_values::{cut, look_up};
+use defmt_values::{cut, is_logged, look_up};
 use dl_io::Memory;
 use std::alloc::Global;
 
@@ -47,16 +46,6 @@ pub struct Site {
     index: u16,
     tag: Tag,
     slots: Slots,
-}
-
-// Whether messages may have an entry of this tag.
-fn is_logged(tag: &Tag) -> bool
-    ensures { result ≡ is_logged tag.now }
-{
-    matches!(
-        tag,
-        Tag::Trace | Tag::Debug | Tag::Info | Tag::Warn | Tag::Error | Tag::Println
-    )
 }
 
 // The tag of a message's entry and the slots of its text.

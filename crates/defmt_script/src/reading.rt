@@ -17,7 +17,6 @@ ghost use Rattle.defmt_script.specs.Script.{base_of};
 ghost use Rattle.defmt_script.specs.State.{closed, entry_at, no_lines, no_statements, strings_limit};
 ghost use Rattle.defmt_script.specs.Steady.{StaysLawful};
 ghost use Rattle.defmt_spelling.specs.Spelling.{ReadsArguments};
-ghost use Rattle.defmt_values.specs.Entries.{is_logged};
 ghost use Rattle.defmt_values.specs.Fits.{Fits};
 
 use crate::fault::LineFault;
@@ -26,7 +25,7 @@ use defmt_grammar::Text;
 use defmt_intern::{Entry, Table, TableFault, Tag};
 use defmt_lines::{Cause, EntryLine, Form, Line, Settings, StatementLine, is_name, judge};
 use defmt_spelling::{ArgFault, Names, read_args};
-use defmt_values::{Args, Statement};
+use defmt_values::{Args, Statement, is_logged};
 use dl_io::Memory;
 use std::alloc::Global;
 use std::marker::Model;
@@ -139,15 +138,6 @@ fn is_message(table: &Table, index: u16) -> bool
         Some(entry) => is_logged(&entry.tag),
         None => false,
     }
-}
-
-fn is_logged(tag: &Tag) -> bool
-    ensures { result ≡ is_logged tag.now }
-{
-    matches!(
-        tag,
-        Tag::Trace | Tag::Debug | Tag::Info | Tag::Warn | Tag::Error | Tag::Println
-    )
 }
 
 // The arguments that a text spells, or the cause why it spells none.

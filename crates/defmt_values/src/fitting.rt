@@ -1,7 +1,7 @@
 //! The test that statements fit a table.
 ghost use Rattle.std.specs.Prelude.{◌≡◌, ◌+◌, ◌*◌, ◌==◌, ◌%◌, ℕ, nat_lt, ◌∷◌, [], ◌<◌, ◌≤◌, ◌^◌, None, Some, Err, IfOk, IfErr, IfSome, IsOk, OnOk, MatchOption};
 ghost use Rattle.defmt_intern.specs.Body.{body_of};
-ghost use Rattle.defmt_values.specs.Entries.{look, is_format, is_interned};
+ghost use Rattle.defmt_values.specs.Entries.{look, is_format, is_interned, is_logged};
 ghost use Rattle.defmt_values.specs.Scan.{test, uint_cause, int_cause, flag_cause, char_cause, str_cause, istr_cause, bytes_cause, bits_cause, node_cause, list_cause, count_cause, form_at, pick, add, list_form, no_index, scan_val, scan_vals, scan_elems, own_form, own_cause, leaf_cause, opened, started};
 ghost use Rattle.defmt_grammar.specs.Slots.{slots_of};
 ghost use Rattle.defmt_values.specs.Entries.{places_of, places_from};
@@ -44,10 +44,21 @@ pub fn is_format(tag: &Tag) -> bool
     matches!(tag, Tag::Prim | Tag::Derived | Tag::Write)
 }
 
-fn is_interned(tag: &Tag) -> bool
+/// Whether an entry of this tag is an interned string. Takes no memory.
+pub fn is_interned(tag: &Tag) -> bool
     ensures { result ≡ is_interned tag.now }
 {
     matches!(tag, Tag::Interned)
+}
+
+/// Whether messages may have an entry of this tag: it is a level's or println's. Takes no memory.
+pub fn is_logged(tag: &Tag) -> bool
+    ensures { result ≡ is_logged tag.now }
+{
+    matches!(
+        tag,
+        Tag::Trace | Tag::Debug | Tag::Info | Tag::Warn | Tag::Error | Tag::Println
+    )
 }
 
 /// How many bits an integer of a size has. Native integers have 32. Takes no memory.
