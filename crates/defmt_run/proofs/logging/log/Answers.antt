@@ -11,4 +11,4 @@ of_itself s (Ok r) is run = subst (λ (x : Script). IsRun x r.tape.marks r.settl
 of_itself s (Err fault) is run = tt
 
 pub returns-clause-run : goal.returns-clause-run
-returns-clause-run g c = of_itself c.args.script c.run_script.result c.run_script.ensures.script c.run_script.ensures.run
+returns-clause-run g c = of_itself c.args.script c.log_by.result c.log_by.ensures.script c.log_by.ensures.run
