@@ -1,3 +1,4 @@
 pub mod BodyLaws
 pub mod NameLaws
+pub mod Stamps
 pub mod TableLaws

@@ -191,15 +191,15 @@ all_insert table k v P new old q e h = elim (cases_eq q k) [
 ]
 
 -- a stamp of the new table is the new entry or an old stamp
-stamp_of : (table : Map) (k : ℕ) (v : Entry) (q : ℕ) → IsStamp (map.insert table k v) q → ((q ≡ k) × (v.tag ≡ Timestamp)) ⊎ IsStamp table q
-stamp_of table k v q a =
+either_stamp : (table : Map) (k : ℕ) (v : Entry) (q : ℕ) → IsStamp (map.insert table k v) q → ((q ≡ k) × (v.tag ≡ Timestamp)) ⊎ IsStamp table q
+either_stamp table k v q a =
     all_insert table k v (λ i e. e.tag ≡ Timestamp → ((i ≡ k) × (v.tag ≡ Timestamp)) ⊎ IsStamp table i)
     (λ t. inl (refl, t)) (λ i e h t. inr (record { entry = e; there = h; is_stamp = t })) q a.entry a.there a.is_stamp
 
 one_with : (table : Map) (k : ℕ) (v : Entry) → ((i j : ℕ) → IsStamp table i → IsStamp table j → i ≡ j) → (v.tag ≡ Timestamp → (i : ℕ) → IsStamp table i → ⊥) → (i j : ℕ) → IsStamp (map.insert table k v) i → IsStamp (map.insert table k v) j → i ≡ j
-one_with table k v one none i j a b = elim (stamp_of table k v i a) [
-  | inl x ↦ elim (stamp_of table k v j b) [ inl y ↦ x.0 ∙ sym y.0 | inr y ↦ absurd (none x.1 j y) ]
-  | inr x ↦ elim (stamp_of table k v j b) [ inl y ↦ absurd (none y.1 i x) | inr y ↦ one i j x y ]
+one_with table k v one none i j a b = elim (either_stamp table k v i a) [
+  | inl x ↦ elim (either_stamp table k v j b) [ inl y ↦ x.0 ∙ sym y.0 | inr y ↦ absurd (none x.1 j y) ]
+  | inr x ↦ elim (either_stamp table k v j b) [ inl y ↦ absurd (none y.1 i x) | inr y ↦ one i j x y ]
 ]
 
 lawful_insert : (table : Map) (k : ℕ) (v : Entry) → IsLawful table → k < 2 ^ 16 → length v.text ≤ 4096 → (v.tag ≡ Timestamp → (i : ℕ) → IsStamp table i → ⊥) → IsLawful (map.insert table k v)
@@ -223,7 +223,7 @@ kept_stamp table stamp k v kept small h t = record {
 }
 
 stamp_stays : (table : Map) (stamp : Option ℕ) (k : ℕ) (v : Entry) → StampIs table stamp → (IsSome (map.get table k) → ⊥) → (v.tag ≡ Timestamp → ⊥) → StampIs (map.insert table k v) stamp
-stamp_stays table None k v h free n = λ i a. elim (stamp_of table k v i a) [ inl x ↦ n x.1 | inr y ↦ h i y ]
+stamp_stays table None k v h free n = λ i a. elim (either_stamp table k v i a) [ inl x ↦ n x.1 | inr y ↦ h i y ]
 stamp_stays table (Some i) k v h free n =
     let other : i ≢ k = λ e. free (subst IsSome (sym h.there ∙ ap (map.get table) e) refl) in
     record { entry = h.entry; there = apart table k v i other ∙ h.there; is_stamp = h.is_stamp }

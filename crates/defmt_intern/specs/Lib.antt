@@ -1,4 +1,5 @@
 pub mod Body
 pub mod Decided
 pub mod Name
+pub mod Stamp
 pub mod Table

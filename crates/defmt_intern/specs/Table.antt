@@ -1,12 +1,12 @@
--- A table: a finite map from indexes to entries (defmt book, "Interning": the table of format strings and their indexes).
+-- The entries of a table: a finite map from indexes to entries (defmt book, "Interning": the table of format strings and their indexes).
 use Rattle.std.specs.Prelude.{◌≡◌, ◌≤◌, ◌<◌, ◌+◌, ◌^◌, ◌⊎◌, ℕ, List, [], ◌∷◌, length, Option, Some, None, IsSome, Result, Ok, Err}
 use Rattle.std.specs.Ordering.{nat_cmp}
 use Rattle.std.specs.FinMap as map
 use Rattle.defmt_intern.specs.declared.entry.Entry.{Entry}
 use Rattle.defmt_intern.specs.declared.entry.Tag.TheVariants.{Timestamp}
 use Rattle.defmt_intern.specs.declared.kept.Kept.{Kept}
-use Rattle.defmt_intern.specs.declared.table.Cause.{Cause}
-use Rattle.defmt_intern.specs.declared.table.Cause.TheVariants as causes
+use Rattle.defmt_intern.specs.declared.map.Cause.{Cause}
+use Rattle.defmt_intern.specs.declared.map.Cause.TheVariants as causes
 use Rattle.defmt_intern.specs.declared.table.TableFault.{TableFault}
 use Rattle.defmt_intern.specs.declared.table.TableFault.TheVariants as faults
 use Rattle.std.specs.Prelude.{⊤}

@@ -1,19 +1,18 @@
 //! The string table.
 
-ghost use Rattle.std.specs.Prelude.{◌≡◌, ◌≤◌, ℕ, length, OnOk, OnErr, IfOk, IsSome, MatchOption, None, Some, option_map};
+ghost use Rattle.std.specs.Prelude.{◌≡◌, ◌≤◌, ℕ, Option, IfOk, MatchOption, None, Some, option_map};
 ghost use Rattle.std.specs.Option.{option_copied};
 ghost use Rattle.std.specs.FinMap as map;
 ghost use Rattle.defmt_intern.specs.Body.{body_of};
-ghost use Rattle.defmt_intern.specs.Table.{IsLawful, StampIs, IsGreatest, IsNext, InsertRefused, AddRefused, EntryRefused, Puts, PutsUnlessMemory, Adds, RefusesOnly, cause_number, map_of};
+ghost use Rattle.defmt_intern.specs.Stamp.{stamp_of};
+ghost use Rattle.defmt_intern.specs.Table.{Map, IsLawful, StampIs, InsertRefused, AddRefused, Puts, Adds, RefusesOnly};
+ghost use Rattle.defmt_intern.specs.declared.table.Profile.TheVariants.{One};
 
 use crate::entry::Entry;
-use crate::kept::Kept;
-use crate::parsed::{Parsed, body_of};
+use crate::map::{Entries, EntryMap};
+use crate::parsed::Parsed;
 use dl_io::Memory;
 use std::alloc::{AllocFailed, Global};
-use std::collections::BTreeMap;
-use std::collections::btree_map::Iter;
-use std::marker::Model;
 
 /// Why an entry wasn't put into a table.
 #[derive(Clone, Copy, Debug, Drop, PartialEq, Eq)]
@@ -47,288 +46,139 @@ impl<T: Drop> From<AllocFailed<T>> for TableFault {
     }
 }
 
-enum Cause {
-    Full,
-    Double,
-    Long,
-    Stamps,
+/// How the messages of a table are laid out.
+#[derive(Clone, Copy, Debug, Drop, PartialEq, Eq)]
+pub enum Profile {
+    /// A message is its index, its stamp and its arguments.
+    One,
+    /// The number of its mark stands behind the index.
+    Two,
 }
 
-impl Cause {
-    fn number(self) -> u8
-        ensures { result ≡ cause_number self }
-    {
-        match self {
-            Cause::Full => 1,
-            Cause::Double => 2,
-            Cause::Long => 4,
-            Cause::Stamps => 5,
-        }
-    }
-}
-
-/// The entry, and what its text stands for.
-fn kept_of(alloc: Global, entry: Entry) -> Result<Kept, Memory>
-    requires { length entry.text ≤ 4096 }
-    ensures { IfOk result (λ kept. kept.entry ≡ entry) }
-{
-    let parsed = body_of(alloc, &entry)?;
-    Ok(Kept { entry, parsed })
-}
-
-/// Keeps an entry at an index.
-fn keep(entries: &mut BTreeMap<u16, Kept>, index: u16, kept: Kept) -> Result<(), Memory>
-    ensures ok { OnOk result
-        (map_of entries.new.entries ≡ map.insert (map_of entries.old.entries) index kept.entry) }
-    ensures err { OnErr result (map_of entries.new.entries ≡ map_of entries.old.entries) }
-{
-    entries.insert(index, kept)?;
-    Ok(())
-}
-
-/// Keeps a copy of an entry at an index.
-fn keep_copy(
-    alloc: Global,
-    entries: &mut BTreeMap<u16, Kept>,
-    index: u16,
-    entry: &Entry,
-) -> Result<(), Memory>
-    requires { length entry.now.text ≤ 4096 }
-    ensures { OnOk result
-        (map_of entries.new.entries ≡ map.insert (map_of entries.old.entries) index entry.now) }
-{
-    let copy = kept_of(alloc, entry.copy(alloc)?)?;
-    keep(entries, index, copy)
-}
-
-/// The string table: a finite map from indexes to entries.
+/// The string table: a profile, and a finite map from indexes to entries.
 ///
 /// No text in it has more than 4,096 bytes, and at most one entry is a timestamp's.
 #[derive(Drop)]
 pub struct Table {
-    alloc: Global,
-    entries: BTreeMap<u16, Kept>,
-    stamp: Option<u16>,
-}
-
-impl Model for Table {
-    ghost use Rattle.std.specs.FinMap as map;
-    ghost use Rattle.std.specs.Coded.{coded_ℕ};
-    ghost use Rattle.defmt_intern.specs.contracts.entry.Entry.{the_row as entry_row};
-    ghost use Rattle.defmt_intern.specs.Table.{Map, IsKept, map_of};
-
-    ghost Value = { Map };
-
-    ghost coded = { map.code coded_ℕ entry_row.coded };
-
-    ghost view = { λ t. map_of t.entries.entries };
-
-    ghost invariant = { λ t. IsKept (map_of t.entries.entries) t.stamp };
+    entries: EntryMap,
+    profile: Profile,
 }
 
 impl Table {
-    /// An empty table. Takes no memory.
+    /// An empty table of profile One. Takes no memory.
     pub fn new(alloc: Global) -> Table
-        ensures { result ≡ map.empty }
+        ensures entries { result.entries ≡ map.empty }
+        ensures profile { result.profile ≡ One }
     {
         Table {
-            alloc,
-            entries: BTreeMap::new(alloc),
-            stamp: None,
+            entries: EntryMap::new(alloc),
+            profile: Profile::One,
         }
     }
 
     /// What holds of every table: indexes below 65,536, texts of at most 4,096 bytes, at most one timestamp.
     pub fn lawful(&self)
-        ensures { IsLawful self.now }
+        ensures { IsLawful self.now.entries }
     {
-        let _ = &self.entries;
+        self.entries.lawful()
+    }
+
+    /// The table's profile. Takes no memory.
+    pub fn profile(&self) -> Profile
+        ensures { result ≡ self.now.profile }
+    {
+        self.profile
+    }
+
+    /// Gives the table another profile. Takes no memory.
+    pub fn set_profile(&mut self, profile: Profile)
+        ensures profile { self.new.profile ≡ profile }
+        ensures entries { self.new.entries ≡ self.old.entries }
+    {
+        self.profile = profile;
     }
 
     /// The entry at an index. Takes no memory.
     pub fn get(&self, index: u16) -> Option<&Entry>
-        ensures { option_copied result ≡ map.get self.now index }
+        ensures { option_copied result ≡ map.get self.now.entries index }
     {
-        match self.entries.get(&index) {
-            Some(kept) => Some(&kept.entry),
-            None => None,
-        }
+        self.entries.get(index)
     }
 
     /// What the text of the entry at an index stands for. It was parsed when the entry was put there. Takes no memory.
     pub fn parsed(&self, index: u16) -> Option<&Parsed>
-        ensures { option_copied result ≡ option_map body_of (map.get self.now index) }
+        ensures { option_copied result ≡ option_map body_of (map.get self.now.entries index) }
     {
-        match self.entries.get(&index) {
-            Some(kept) => Some(&kept.parsed),
-            None => None,
-        }
+        self.entries.parsed(index)
     }
 
     /// The entry at an index, and what its text stands for. Takes no memory.
     pub fn look(&self, index: u16) -> Option<(&Entry, &Parsed)>
-        ensures { MatchOption result (map.get self.now index ≡ None)
-            (λ p. (map.get self.now index ≡ Some p.0.now) × (p.1.now ≡ body_of p.0.now)) }
+        ensures { MatchOption result (map.get self.now.entries index ≡ None)
+            (λ p. (map.get self.now.entries index ≡ Some p.0.now) × (p.1.now ≡ body_of p.0.now)) }
     {
-        // The entry at the greatest index is found without a search: that is where a script's timestamp stands, which
-        // each statement asks for.
-        if let Some((last, kept)) = self.entries.last_key_value()
-            && *last == index
-        {
-            return Some((&kept.entry, &kept.parsed));
-        }
-        match self.entries.get(&index) {
-            Some(kept) => Some((&kept.entry, &kept.parsed)),
-            None => None,
-        }
+        self.entries.look(index)
     }
 
     /// The index of the timestamp's entry. Takes no memory.
     pub fn stamp(&self) -> Option<u16>
-        ensures { StampIs self.now result }
+        ensures { result ≡ stamp_of self.now.entries }
     {
-        self.stamp
+        self.entries.stamp()
     }
 
     /// The number of entries, at most 65,536. Takes no memory.
     pub fn len(&self) -> u32
-        ensures value { result ≡ map.len self.now }
+        ensures value { result ≡ map.len self.now.entries }
         ensures few { result ≤ 65536 }
     {
-        self.entries.len() as u32
+        self.entries.len()
     }
 
     /// The entries in the order of their indexes. Takes no memory.
     pub fn entries(&self) -> Entries<'_>
-        ensures { result ≡ map.entries self.now }
+        ensures { result ≡ map.entries self.now.entries }
     {
-        Entries {
-            left: self.entries.iter(),
-        }
-    }
-
-    /// Why an entry is refused, whatever its index.
-    fn refusal(&self, entry: &Entry) -> Option<Cause>
-        ensures { MatchOption result ((cause : ℕ) → EntryRefused self.now entry.now cause → ⊥) (λ cause. EntryRefused self.now entry.now (cause_number cause)) }
-    {
-        if entry.text.as_str().len() > 4096 {
-            return Some(Cause::Long);
-        }
-        if entry.is_stamp() && self.stamp.is_some() {
-            return Some(Cause::Stamps);
-        }
-        None
-    }
-
-    fn put(&mut self, index: u16, entry: Entry) -> Result<(), TableFault>
-        requires free { IsSome (map.get self.old index) → ⊥ }
-        requires admitted { (cause : ℕ) → EntryRefused self.old entry cause → ⊥ }
-        ensures { PutsUnlessMemory self.old index entry result self.new }
-    {
-        let is_stamp = entry.is_stamp();
-        let kept = kept_of(self.alloc, entry)?;
-        keep(&mut self.entries, index, kept)?;
-        if is_stamp {
-            self.stamp = Some(index);
-        }
-        Ok(())
+        self.entries.entries()
     }
 
     /// Puts the entry at the index. On a fault the table is unchanged.
     pub fn insert(&mut self, index: u16, entry: Entry) -> Result<(), TableFault>
         // The map afterwards, and a cause only where it is the first that stands.
-        ensures answer { Puts self.old index entry (InsertRefused self.old index entry) result self.new }
+        ensures answer { Puts self.old.entries index entry (InsertRefused self.old.entries index entry) result self.new.entries }
         // Unless memory runs out, the first cause that stands is answered.
-        ensures refused { (cause : ℕ) → InsertRefused self.old index entry cause → RefusesOnly result cause }
+        ensures refused { (cause : ℕ) → InsertRefused self.old.entries index entry cause → RefusesOnly result cause }
+        ensures profile { self.new.profile ≡ self.old.profile }
     {
-        if self.get(index).is_some() {
-            return Err(TableFault::Refused {
-                cause: Cause::Double.number(),
-            });
-        }
-        if let Some(cause) = self.refusal(&entry) {
-            return Err(TableFault::Refused {
-                cause: cause.number(),
-            });
-        }
-        self.put(index, entry)
-    }
-
-    /// The greatest index plus 1, or 1 in an empty table; `None` where the greatest index is 65,535.
-    fn next_index(&self) -> Option<u16>
-        ensures { MatchOption result (IsGreatest self.now 65535) (λ n. IsNext self.now n × (IsSome (map.get self.now n) → ⊥) × (IsGreatest self.now 65535 → ⊥)) }
-    {
-        match self.entries.last_key_value() {
-            None => Some(1),
-            Some((greatest, _)) => greatest.checked_add(1),
-        }
+        self.entries.insert(index, entry)
     }
 
     /// Puts the entry at the greatest index plus 1, at 1 in an empty table, and answers that index. On a fault the
     /// table is unchanged.
     pub fn add(&mut self, entry: Entry) -> Result<u16, TableFault>
         // The map afterwards, and a cause only where it is the first that stands.
-        ensures answer { Adds self.old entry result self.new }
+        ensures answer { Adds self.old.entries entry result self.new.entries }
         // Unless memory runs out, the first cause that stands is answered.
-        ensures refused { (cause : ℕ) → AddRefused self.old entry cause → RefusesOnly result cause }
+        ensures refused { (cause : ℕ) → AddRefused self.old.entries entry cause → RefusesOnly result cause }
+        ensures profile { self.new.profile ≡ self.old.profile }
     {
-        let Some(index) = self.next_index() else {
-            return Err(TableFault::Refused {
-                cause: Cause::Full.number(),
-            });
-        };
-        if let Some(cause) = self.refusal(&entry) {
-            return Err(TableFault::Refused {
-                cause: cause.number(),
-            });
-        }
-        self.put(index, entry)?;
-        Ok(index)
+        self.entries.add(entry)
     }
 
-    /// A table with the same entries.
+    /// A table with the same entries and the same profile.
     pub fn copy(&self) -> Result<Table, Memory>
         ensures { IfOk result (λ copy. copy ≡ self.now) }
     {
-        let mut entries = BTreeMap::new(self.alloc);
-        for (index, kept) in self.entries.iter() {
-            keep_copy(self.alloc, &mut entries, *index, &kept.entry)?;
-        }
         Ok(Table {
-            alloc: self.alloc,
-            entries,
-            stamp: self.stamp,
+            entries: self.entries.copy()?,
+            profile: self.profile,
         })
     }
 }
 
-/// The entries of a table that are still to come, in the order of their indexes.
-#[derive(Drop)]
-pub struct Entries<'a> {
-    left: Iter<'a, u16, Kept>,
-}
-
-impl<'a> Model for Entries<'a> {
-    ghost use Rattle.std.specs.Prelude.{ℕ, List};
-    ghost use Rattle.defmt_intern.specs.declared.entry.Entry.{Entry as AnyEntry};
-    ghost use Rattle.defmt_intern.specs.Table.{pairs};
-
-    ghost Value = { List (ℕ × AnyEntry) };
-
-    ghost view = { λ e. pairs e.left };
-}
-
-impl<'a> Iterator for Entries<'a> {
-    ghost use Rattle.std.specs.Iterator.{YieldsFirstBy, item_count};
-
-    type Item = (u16, &'a Entry);
-
-    ghost next_gives = { YieldsFirstBy (λ x. (x.0, x.1.now)) (λ s. s) };
-
-    ghost remaining = { item_count (λ s. s) };
-
-    fn next(&mut self) -> Option<(u16, &'a Entry)> {
-        let (index, kept) = self.left.next()?;
-        Some((*index, &kept.entry))
-    }
-}
+/// In a lawful table the index that `stamp` tells has the timestamp's entry, or there is none where it tells none; and no
+/// other answer meets this.
+pub fn stamp_is_one()
+    ensures there { (table : Map) → IsLawful table → StampIs table (stamp_of table) }
+    ensures one { (table : Map) (at : Option ℕ) → IsLawful table → StampIs table at → stamp_of table ≡ at }
+{}

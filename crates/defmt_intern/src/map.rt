@@ -1,0 +1,304 @@
+//! The entries of a table by their indexes.
+
+ghost use Rattle.std.specs.Prelude.{◌≡◌, ◌≤◌, ℕ, length, OnOk, OnErr, IfOk, IsSome, MatchOption, None, Some, option_map};
+ghost use Rattle.std.specs.Option.{option_copied};
+ghost use Rattle.std.specs.FinMap as map;
+ghost use Rattle.defmt_intern.specs.Body.{body_of};
+ghost use Rattle.defmt_intern.specs.Stamp.{stamp_of};
+ghost use Rattle.defmt_intern.specs.Table.{IsLawful, IsGreatest, IsNext, InsertRefused, AddRefused, EntryRefused, Puts, PutsUnlessMemory, Adds, RefusesOnly, cause_number, map_of};
+
+use crate::entry::Entry;
+use crate::kept::Kept;
+use crate::parsed::{Parsed, body_of};
+use crate::table::TableFault;
+use dl_io::Memory;
+use std::alloc::Global;
+use std::collections::BTreeMap;
+use std::collections::btree_map::Iter;
+use std::marker::Model;
+
+enum Cause {
+    Full,
+    Double,
+    Long,
+    Stamps,
+}
+
+impl Cause {
+    fn number(self) -> u8
+        ensures { result ≡ cause_number self }
+    {
+        match self {
+            Cause::Full => 1,
+            Cause::Double => 2,
+            Cause::Long => 4,
+            Cause::Stamps => 5,
+        }
+    }
+}
+
+/// The entry, and what its text stands for.
+fn kept_of(alloc: Global, entry: Entry) -> Result<Kept, Memory>
+    requires { length entry.text ≤ 4096 }
+    ensures { IfOk result (λ kept. kept.entry ≡ entry) }
+{
+    let parsed = body_of(alloc, &entry)?;
+    Ok(Kept { entry, parsed })
+}
+
+/// Keeps an entry at an index.
+fn keep(entries: &mut BTreeMap<u16, Kept>, index: u16, kept: Kept) -> Result<(), Memory>
+    ensures ok { OnOk result
+        (map_of entries.new.entries ≡ map.insert (map_of entries.old.entries) index kept.entry) }
+    ensures err { OnErr result (map_of entries.new.entries ≡ map_of entries.old.entries) }
+{
+    entries.insert(index, kept)?;
+    Ok(())
+}
+
+/// Keeps a copy of an entry at an index.
+fn keep_copy(
+    alloc: Global,
+    entries: &mut BTreeMap<u16, Kept>,
+    index: u16,
+    entry: &Entry,
+) -> Result<(), Memory>
+    requires { length entry.now.text ≤ 4096 }
+    ensures { OnOk result
+        (map_of entries.new.entries ≡ map.insert (map_of entries.old.entries) index entry.now) }
+{
+    let copy = kept_of(alloc, entry.copy(alloc)?)?;
+    keep(entries, index, copy)
+}
+
+/// A finite map from indexes to entries.
+///
+/// No text in it has more than 4,096 bytes, and at most one entry is a timestamp's.
+#[derive(Drop)]
+pub(crate) struct EntryMap {
+    alloc: Global,
+    entries: BTreeMap<u16, Kept>,
+    stamp: Option<u16>,
+}
+
+impl Model for EntryMap {
+    ghost use Rattle.std.specs.FinMap as map;
+    ghost use Rattle.std.specs.Coded.{coded_ℕ};
+    ghost use Rattle.defmt_intern.specs.contracts.entry.Entry.{the_row as entry_row};
+    ghost use Rattle.defmt_intern.specs.Table.{Map, IsKept, map_of};
+
+    ghost Value = { Map };
+
+    ghost coded = { map.code coded_ℕ entry_row.coded };
+
+    ghost view = { λ t. map_of t.entries.entries };
+
+    ghost invariant = { λ t. IsKept (map_of t.entries.entries) t.stamp };
+}
+
+impl EntryMap {
+    /// An empty map. Takes no memory.
+    pub fn new(alloc: Global) -> EntryMap
+        ensures { result ≡ map.empty }
+    {
+        EntryMap {
+            alloc,
+            entries: BTreeMap::new(alloc),
+            stamp: None,
+        }
+    }
+
+    /// What holds of every map: indexes below 65,536, texts of at most 4,096 bytes, at most one timestamp.
+    pub fn lawful(&self)
+        ensures { IsLawful self.now }
+    {
+        let _ = &self.entries;
+    }
+
+    /// The entry at an index. Takes no memory.
+    pub fn get(&self, index: u16) -> Option<&Entry>
+        ensures { option_copied result ≡ map.get self.now index }
+    {
+        match self.entries.get(&index) {
+            Some(kept) => Some(&kept.entry),
+            None => None,
+        }
+    }
+
+    /// What the text of the entry at an index stands for. It was parsed when the entry was put there. Takes no memory.
+    pub fn parsed(&self, index: u16) -> Option<&Parsed>
+        ensures { option_copied result ≡ option_map body_of (map.get self.now index) }
+    {
+        match self.entries.get(&index) {
+            Some(kept) => Some(&kept.parsed),
+            None => None,
+        }
+    }
+
+    /// The entry at an index, and what its text stands for. Takes no memory.
+    pub fn look(&self, index: u16) -> Option<(&Entry, &Parsed)>
+        ensures { MatchOption result (map.get self.now index ≡ None)
+            (λ p. (map.get self.now index ≡ Some p.0.now) × (p.1.now ≡ body_of p.0.now)) }
+    {
+        // The entry at the greatest index is found without a search: that is where a script's timestamp stands, which
+        // each statement asks for.
+        if let Some((last, kept)) = self.entries.last_key_value()
+            && *last == index
+        {
+            return Some((&kept.entry, &kept.parsed));
+        }
+        match self.entries.get(&index) {
+            Some(kept) => Some((&kept.entry, &kept.parsed)),
+            None => None,
+        }
+    }
+
+    /// The index of the timestamp's entry. Takes no memory.
+    pub fn stamp(&self) -> Option<u16>
+        ensures { result ≡ stamp_of self.now }
+    {
+        self.stamp
+    }
+
+    /// The number of entries, at most 65,536. Takes no memory.
+    pub fn len(&self) -> u32
+        ensures value { result ≡ map.len self.now }
+        ensures few { result ≤ 65536 }
+    {
+        self.entries.len() as u32
+    }
+
+    /// The entries in the order of their indexes. Takes no memory.
+    pub fn entries(&self) -> Entries<'_>
+        ensures { result ≡ map.entries self.now }
+    {
+        Entries {
+            left: self.entries.iter(),
+        }
+    }
+
+    /// Why an entry is refused, whatever its index.
+    fn refusal(&self, entry: &Entry) -> Option<Cause>
+        ensures { MatchOption result ((cause : ℕ) → EntryRefused self.now entry.now cause → ⊥) (λ cause. EntryRefused self.now entry.now (cause_number cause)) }
+    {
+        if entry.text.as_str().len() > 4096 {
+            return Some(Cause::Long);
+        }
+        if entry.is_stamp() && self.stamp.is_some() {
+            return Some(Cause::Stamps);
+        }
+        None
+    }
+
+    fn put(&mut self, index: u16, entry: Entry) -> Result<(), TableFault>
+        requires free { IsSome (map.get self.old index) → ⊥ }
+        requires admitted { (cause : ℕ) → EntryRefused self.old entry cause → ⊥ }
+        ensures { PutsUnlessMemory self.old index entry result self.new }
+    {
+        let is_stamp = entry.is_stamp();
+        let kept = kept_of(self.alloc, entry)?;
+        keep(&mut self.entries, index, kept)?;
+        if is_stamp {
+            self.stamp = Some(index);
+        }
+        Ok(())
+    }
+
+    /// Puts the entry at the index. On a fault the map is unchanged.
+    pub fn insert(&mut self, index: u16, entry: Entry) -> Result<(), TableFault>
+        // The map afterwards, and a cause only where it is the first that stands.
+        ensures answer { Puts self.old index entry (InsertRefused self.old index entry) result self.new }
+        // Unless memory runs out, the first cause that stands is answered.
+        ensures refused { (cause : ℕ) → InsertRefused self.old index entry cause → RefusesOnly result cause }
+    {
+        if self.get(index).is_some() {
+            return Err(TableFault::Refused {
+                cause: Cause::Double.number(),
+            });
+        }
+        if let Some(cause) = self.refusal(&entry) {
+            return Err(TableFault::Refused {
+                cause: cause.number(),
+            });
+        }
+        self.put(index, entry)
+    }
+
+    /// The greatest index plus 1, or 1 in an empty map; `None` where the greatest index is 65,535.
+    fn next_index(&self) -> Option<u16>
+        ensures { MatchOption result (IsGreatest self.now 65535) (λ n. IsNext self.now n × (IsSome (map.get self.now n) → ⊥) × (IsGreatest self.now 65535 → ⊥)) }
+    {
+        match self.entries.last_key_value() {
+            None => Some(1),
+            Some((greatest, _)) => greatest.checked_add(1),
+        }
+    }
+
+    /// Puts the entry at the greatest index plus 1, at 1 in an empty map, and answers that index. On a fault the
+    /// map is unchanged.
+    pub fn add(&mut self, entry: Entry) -> Result<u16, TableFault>
+        // The map afterwards, and a cause only where it is the first that stands.
+        ensures answer { Adds self.old entry result self.new }
+        // Unless memory runs out, the first cause that stands is answered.
+        ensures refused { (cause : ℕ) → AddRefused self.old entry cause → RefusesOnly result cause }
+    {
+        let Some(index) = self.next_index() else {
+            return Err(TableFault::Refused {
+                cause: Cause::Full.number(),
+            });
+        };
+        if let Some(cause) = self.refusal(&entry) {
+            return Err(TableFault::Refused {
+                cause: cause.number(),
+            });
+        }
+        self.put(index, entry)?;
+        Ok(index)
+    }
+
+    /// A map with the same entries.
+    pub fn copy(&self) -> Result<EntryMap, Memory>
+        ensures { IfOk result (λ copy. copy ≡ self.now) }
+    {
+        let mut entries = BTreeMap::new(self.alloc);
+        for (index, kept) in self.entries.iter() {
+            keep_copy(self.alloc, &mut entries, *index, &kept.entry)?;
+        }
+        Ok(EntryMap {
+            alloc: self.alloc,
+            entries,
+            stamp: self.stamp,
+        })
+    }
+}
+
+/// The entries of a table that are still to come, in the order of their indexes.
+#[derive(Drop)]
+pub struct Entries<'a> {
+    left: Iter<'a, u16, Kept>,
+}
+
+impl<'a> Model for Entries<'a> {
+    ghost use Rattle.std.specs.Prelude.{ℕ, List};
+    ghost use Rattle.defmt_intern.specs.declared.entry.Entry.{Entry as AnyEntry};
+    ghost use Rattle.defmt_intern.specs.Table.{pairs};
+
+    ghost Value = { List (ℕ × AnyEntry) };
+
+    ghost view = { λ e. pairs e.left };
+}
+
+impl<'a> Iterator for Entries<'a> {
+    ghost use Rattle.std.specs.Iterator.{YieldsFirstBy, item_count};
+
+    type Item = (u16, &'a Entry);
+
+    ghost next_gives = { YieldsFirstBy (λ x. (x.0, x.1.now)) (λ s. s) };
+
+    ghost remaining = { item_count (λ s. s) };
+
+    fn next(&mut self) -> Option<(u16, &'a Entry)> {
+        let (index, kept) = self.left.next()?;
+        Some((*index, &kept.entry))
+    }
+}
