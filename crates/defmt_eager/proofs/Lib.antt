@@ -2,4 +2,3 @@ pub mod Appends
 pub mod Bits
 pub mod Bounds
 pub mod Lengths
-pub mod Stamps

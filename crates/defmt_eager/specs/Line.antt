@@ -1,11 +1,9 @@
 -- The printed line of a statement: its stamp, its level and its text (defmt book, the display of log frames).
-use Rattle.std.specs.Prelude.{◌<◌, ◌⊎◌, ℕ, Bool, true, false, codes, List, [], ◌++◌, length, Option, None, Some}
-use Rattle.std.specs.FinMap as map
-use Rattle.std.specs.List.{find}
+use Rattle.std.specs.Prelude.{◌<◌, ◌⊎◌, ℕ, codes, List, [], ◌++◌, length, Option, None, Some}
 use Rattle.std.specs.Option.{option_and_then}
 use Rattle.defmt_eager.specs.Show.{eager_text}
+use Rattle.defmt_intern.specs.Stamp.{stamp_of}
 use Rattle.defmt_intern.specs.Table.{Map}
-use Rattle.defmt_intern.specs.declared.entry.Entry.{Entry}
 use Rattle.defmt_intern.specs.declared.entry.Tag.{Tag}
 use Rattle.defmt_intern.specs.declared.entry.Tag.TheVariants as tags
 use Rattle.defmt_values.specs.Entries.{look}
@@ -14,18 +12,6 @@ use Rattle.defmt_values.specs.Plain.{Vals}
 -- the most bytes of the text of a statement, and of that of a stamp
 abbrev pub text_limit : ℕ
 text_limit = 65536
-
-abbrev pub is_timestamp : Tag → Bool
-is_timestamp tags.Timestamp = true
-is_timestamp tag = false
-
-abbrev pub is_stamp : Option Entry → Bool
-is_stamp None = false
-is_stamp (Some e) = is_timestamp e.tag
-
--- the index of the timestamp's entry, where the table has one
-unfoldable pub stamp_at : Map → Option ℕ
-stamp_at t = find (λ index. is_stamp (map.get t index)) (map.keys t)
 
 -- the name of a level, left in five places; what is no level has none
 abbrev pub level_text : Tag → Option (List ℕ)
@@ -57,7 +43,7 @@ front_text t at stamp (Some level) = (stamp_text t at stamp ++ stamp_space at) +
 
 -- the line of a statement, without a newline at its end
 abbrev pub eager_line : Map → Vals → ℕ → Vals → List ℕ
-eager_line t stamp index vs = front_text t (stamp_at t) stamp (level_at t index) ++ eager_text t index vs
+eager_line t stamp index vs = front_text t (stamp_of t) stamp (level_at t index) ++ eager_text t index vs
 
 -- the text has too many bytes
 abbrev pub IsLong : List ℕ → Type 0
@@ -65,4 +51,4 @@ IsLong text = text_limit < length text
 
 -- the stamp's text or the statement's has too many bytes
 abbrev pub IsWide : Map → Vals → ℕ → Vals → Type 0
-IsWide t stamp index vs = IsLong (stamp_text t (stamp_at t) stamp) ⊎ IsLong (eager_text t index vs)
+IsWide t stamp index vs = IsLong (stamp_text t (stamp_of t) stamp) ⊎ IsLong (eager_text t index vs)

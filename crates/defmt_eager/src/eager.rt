@@ -37,8 +37,8 @@ impl From<Memory> for EagerFault {
 /// # Errors
 /// `EagerFault::Wide` exactly where the text has more than 65,536 bytes. `EagerFault::Memory` where memory runs out.
 pub fn text_of(alloc: Global, table: &Table, stm: &Statement) -> Result<Text, EagerFault>
-    requires { Fits table.now stm.now.index stm.now.args }
-    ensures { GivesText result table.now stm.now.index stm.now.args }
+    requires { Fits table.now.entries stm.now.index stm.now.args }
+    ensures { GivesText result table.now.entries stm.now.index stm.now.args }
 {
     let mut out = Text::new(alloc);
     push_statement(table, &mut out, LIMIT, stm.index, &stm.args)?;

@@ -11,5 +11,5 @@ mod values;
 mod wide;
 
 pub use eager::{EagerFault, text_of};
-pub use printed::{line, stamp_at, stamp_is_one};
+pub use printed::line;
 pub use wide::is_wide;

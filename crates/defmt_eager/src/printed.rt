@@ -1,10 +1,10 @@
 //! The printed line of a statement.
-ghost use Rattle.std.specs.Prelude.{◌≡◌, ◌≤◌, ◌++◌, [], ℕ, length, Option, IfOk, IfSome, OnOk};
+ghost use Rattle.std.specs.Prelude.{◌≡◌, ◌≤◌, ◌++◌, [], length, IfOk, IfSome, OnOk};
 ghost use Rattle.std.specs.Option.{option_map, ForSome};
 ghost use Rattle.defmt_eager.specs.Answers.{Shows, GivesFront, GivesLine};
-ghost use Rattle.defmt_eager.specs.Line.{level_text, level_at, stamp_at, stamp_text, stamp_space};
+ghost use Rattle.defmt_eager.specs.Line.{level_text, level_at, stamp_text, stamp_space};
 ghost use Rattle.defmt_eager.specs.Show.{own_pieces};
-ghost use Rattle.defmt_intern.specs.Table.{Map, IsLawful, StampIs};
+ghost use Rattle.defmt_intern.specs.Stamp.{stamp_of};
 ghost use Rattle.defmt_values.specs.Fits.{Fits, FitsStamp, IsLogged};
 
 use crate::eager::{EagerFault, LIMIT};
@@ -31,23 +31,14 @@ fn level_text(tag: &Tag) -> Option<&'static str>
 
 // The level of an index's entry, and the pieces of its text. It is looked up once for both.
 fn parts_at(table: &Table, index: u16) -> (Option<&'static str>, &[Piece])
-    ensures level { option_map (λ level. level.now) result.0 ≡ level_at table.now index }
+    ensures level { option_map (λ level. level.now) result.0 ≡ level_at table.now.entries index }
     ensures width { IfSome result.0 (λ level. length level.now ≡ 5) }
-    ensures pieces { result.1.now ≡ own_pieces table.now index }
+    ensures pieces { result.1.now ≡ own_pieces table.now.entries index }
 {
     match look_up(table, index) {
         None => (None, &[]),
         Some((entry, body)) => (level_text(&entry.tag), pieces_of(body)),
     }
-}
-
-/// The index of the timestamp's entry, to which the stamp of a line fits; `None` where the table has no such entry.
-/// Takes no memory.
-pub fn stamp_at(table: &Table) -> Option<u16>
-    ensures { result ≡ stamp_at table.now }
-{
-    table.lawful();
-    table.stamp()
 }
 
 // Appends the text of the stamp, where there is a timestamp's entry.
@@ -58,7 +49,7 @@ fn push_stamp(
     stamp: &Args,
 ) -> Result<(), EagerFault>
     requires { length out.old ≤ 65536 }
-    ensures { Shows 65536 out.old out.new result (stamp_text table.now at stamp.now) }
+    ensures { Shows 65536 out.old out.new result (stamp_text table.now.entries at stamp.now) }
 {
     match at {
         None => Ok(()),
@@ -92,7 +83,7 @@ fn front_of(
     level: Option<&str>,
 ) -> Result<Text, EagerFault>
     requires { ForSome level (λ l. length l.now ≡ 5) }
-    ensures { GivesFront result table.now at stamp.now (option_map (λ l. l.now) level.entry) }
+    ensures { GivesFront result table.now.entries at stamp.now (option_map (λ l. l.now) level.entry) }
 {
     let mut out = roomy(alloc)?;
     push_stamp(table, &mut out, at, stamp)?;
@@ -116,19 +107,14 @@ fn front_of(
 /// `EagerFault::Wide` exactly where the text of the stamp or that of the statement has more than 65,536 bytes, also
 /// where the stamp isn't printed. `EagerFault::Memory` where memory runs out.
 pub fn line(alloc: Global, table: &Table, stamp: &Args, stm: &Statement) -> Result<Text, EagerFault>
-    requires stamp { FitsStamp table.now (stamp_at table.now) stamp.now }
-    requires fits { Fits table.now stm.now.index stm.now.args }
-    requires logged { IsLogged table.now stm.now.index }
-    ensures { GivesLine result table.now stamp.now stm.now.index stm.now.args }
+    requires stamp { FitsStamp table.now.entries (stamp_of table.now.entries) stamp.now }
+    requires fits { Fits table.now.entries stm.now.index stm.now.args }
+    requires logged { IsLogged table.now.entries stm.now.index }
+    ensures { GivesLine result table.now.entries stamp.now stm.now.index stm.now.args }
 {
     let (level, pieces) = parts_at(table, stm.index);
-    let mut out = front_of(alloc, table, stamp_at(table), stamp, level)?;
+    let mut out = front_of(alloc, table, table.stamp(), stamp, level)?;
     let limit = out.len() + LIMIT;
     push_pieces(table, &mut out, limit, Hint::Plain, pieces, &stm.args)?;
     Ok(out)
 }
-
-/// The index that the printed line takes for the timestamp's is the table's own.
-pub fn stamp_is_one()
-    ensures { (table : Map) (at : Option ℕ) → IsLawful table → StampIs table at → stamp_at table ≡ at }
-{}

@@ -17,7 +17,7 @@ use defmt_values::{Args, Item, Items, Value, cut, form_of, look_up, pick};
 
 /// The text of an interned string.
 fn interned_text(table: &Table, index: u16) -> &str
-    ensures { result.now ≡ interned_text (look table.now index) }
+    ensures { result.now ≡ interned_text (look table.now.entries index) }
 {
     match look_up(table, index) {
         None => "",
@@ -27,7 +27,7 @@ fn interned_text(table: &Table, index: u16) -> &str
 
 /// The pieces of the text of a Format value.
 fn node_pieces(table: &Table, index: u16, variant: Option<u8>) -> &[Piece]
-    ensures { result.now ≡ node_pieces table.now index variant }
+    ensures { result.now ≡ node_pieces table.now.entries index variant }
 {
     match form_of(table, index) {
         Err(_) => &[],
@@ -50,7 +50,7 @@ pub fn pieces_of(body: &Parsed) -> &[Piece]
 
 /// The pieces of the text of a statement.
 pub fn own_pieces(table: &Table, index: u16) -> &[Piece]
-    ensures { result.now ≡ own_pieces table.now index }
+    ensures { result.now ≡ own_pieces table.now.entries index }
 {
     match look_up(table, index) {
         None => &[],
@@ -86,7 +86,7 @@ fn push_value(
     value: &Value,
 ) -> Result<(), EagerFault>
     requires { length out.old ≤ limit }
-    ensures { Shows limit out.old out.new result (show_val table.now (plain value.now) kind hint) }
+    ensures { Shows limit out.old out.new result (show_val table.now.entries (plain value.now) kind hint) }
 {
     match value {
         Value::Uint(n) => push_uint(out, limit, *n, &hint),
@@ -117,7 +117,7 @@ fn push_param(
 ) -> Result<(), EagerFault>
     requires { length out.old ≤ limit }
     ensures { Shows limit out.old out.new result
-        (param_text outer (shows table.now args.now) param.position param.kind param.hint) }
+        (param_text outer (shows table.now.entries args.now) param.position param.kind param.hint) }
 {
     match args.get(param.position) {
         None => Ok(()),
@@ -138,7 +138,7 @@ fn push_piece(
     args: &Args,
 ) -> Result<(), EagerFault>
     requires { length out.old ≤ limit }
-    ensures { Shows limit out.old out.new result (piece_text outer piece.now (shows table.now args.now)) }
+    ensures { Shows limit out.old out.new result (piece_text outer piece.now (shows table.now.entries args.now)) }
 {
     match piece {
         Piece::Literal(text) => push(out, limit, text.as_str()),
@@ -157,7 +157,7 @@ pub fn push_pieces(
     args: &Args,
 ) -> Result<(), EagerFault>
     requires { length out.old ≤ limit }
-    ensures { Shows limit out.old out.new result (pieces_text outer pieces.now (shows table.now args.now)) }
+    ensures { Shows limit out.old out.new result (pieces_text outer pieces.now (shows table.now.entries args.now)) }
 {
     let mut rest = pieces;
     'each: while let Some((piece, more)) = cut(rest) {
@@ -180,7 +180,7 @@ fn push_item(
 ) -> Result<(), EagerFault>
     requires { length out.old ≤ limit }
     ensures { Shows limit out.old out.new result
-        (comma first ++ pieces_text hint (node_pieces table.now index item.now.variant) (shows table.now item.now.args)) }
+        (comma first ++ pieces_text hint (node_pieces table.now.entries index item.now.variant) (shows table.now.entries item.now.args)) }
 {
     push(out, limit, comma(first))?;
     let pieces = node_pieces(table, index, item.variant);
@@ -198,7 +198,7 @@ fn push_items(
     items: &Items,
 ) -> Result<(), EagerFault>
     requires { length out.old ≤ limit }
-    ensures { Shows limit out.old out.new result (parted (show_elems table.now index hint items.now)) }
+    ensures { Shows limit out.old out.new result (parted (show_elems table.now.entries index hint items.now)) }
 {
     let mut rest = items.as_slice();
     let mut first = true;
@@ -221,7 +221,7 @@ fn push_list(
     items: &Items,
 ) -> Result<(), EagerFault>
     requires { length out.old ≤ limit }
-    ensures { Shows limit out.old out.new result (list_text (show_elems table.now index hint items.now)) }
+    ensures { Shows limit out.old out.new result (list_text (show_elems table.now.entries index hint items.now)) }
 {
     push(out, limit, "[")?;
     push_items(table, out, limit, hint, index, items)?;
@@ -237,7 +237,7 @@ pub fn push_statement(
     args: &Args,
 ) -> Result<(), EagerFault>
     requires { length out.old ≤ limit }
-    ensures { Shows limit out.old out.new result (eager_text table.now index args.now) }
+    ensures { Shows limit out.old out.new result (eager_text table.now.entries index args.now) }
 {
     push_pieces(
         table,

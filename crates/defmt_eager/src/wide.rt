@@ -96,8 +96,8 @@ fn is_short(pieces: &[Piece], args: &Args) -> bool
 /// # Errors
 /// `Memory` where memory runs out.
 pub fn is_wide(alloc: Global, table: &Table, stm: &Statement) -> Result<bool, Memory>
-    requires { Fits table.now stm.now.index stm.now.args }
-    ensures { IfOk result (λ wide. wide ≡ nat_lt text_limit (length (eager_text table.now stm.now.index stm.now.args))) }
+    requires { Fits table.now.entries stm.now.index stm.now.args }
+    ensures { IfOk result (λ wide. wide ≡ nat_lt text_limit (length (eager_text table.now.entries stm.now.index stm.now.args))) }
 {
     if is_short(own_pieces(table, stm.index), &stm.args) {
         return Ok(false);

@@ -31,8 +31,8 @@ fn test(holds: bool, cause: u8) -> Result<(), u8>
 
 /// The entry at an index, and what its text stands for. Takes no memory.
 pub fn look_up(table: &Table, index: u16) -> Option<(&Entry, &Parsed)>
-    ensures { MatchOption result (look table.now index ≡ None)
-        (λ p. (look table.now index ≡ Some p.0.now) × (p.1.now ≡ body_of p.0.now)) }
+    ensures { MatchOption result (look table.now.entries index ≡ None)
+        (λ p. (look table.now.entries index ≡ Some p.0.now) × (p.1.now ≡ body_of p.0.now)) }
 {
     table.look(index)
 }
@@ -138,7 +138,7 @@ fn check_str(slot: Slot) -> Result<(), u8>
 }
 
 fn check_istr(table: &Table, slot: Slot, index: u16) -> Result<(), u8>
-    ensures { result ≡ istr_cause table.now slot index }
+    ensures { result ≡ istr_cause table.now.entries slot index }
 {
     match slot {
         Slot::One(Kind::Istr) => match look_up(table, index) {
@@ -232,7 +232,7 @@ fn check_count(slot: Slot, count: usize) -> Result<(), u8>
 /// What the entry of a Format value stands for; 5 where there is none that suits, 8 where its text was refused.
 /// Takes no memory.
 pub fn form_of(table: &Table, index: u16) -> Result<&Parsed, u8>
-    ensures { now_of result ≡ form_at table.now index }
+    ensures { now_of result ≡ form_at table.now.entries index }
 {
     let Some((entry, parsed)) = look_up(table, index) else {
         return Err(5);
@@ -275,7 +275,7 @@ fn add(weight: usize, sum: usize) -> Result<usize, u8>
 
 // The form of the entry of a list's elements.
 fn list_form(table: &Table, index: Option<u16>) -> Result<&Parsed, u8>
-    ensures { now_of result ≡ list_form table.now index }
+    ensures { now_of result ≡ list_form table.now.entries index }
 {
     match index {
         None => Err(5),
@@ -295,7 +295,7 @@ fn no_index(index: Option<u16>) -> Result<(), u8>
 
 // Tests a value without values inside by its slot.
 fn check_leaf(table: &Table, slot: Slot, value: &Value) -> Result<(), u8>
-    ensures { result ≡ leaf_cause table.now slot (plain value.now) }
+    ensures { result ≡ leaf_cause table.now.entries slot (plain value.now) }
 {
     match value {
         Value::Uint(n) => check_uint(slot, *n),
@@ -320,7 +320,7 @@ fn open<'t>(
     sum: usize,
 ) -> Result<(&'t Pieces, usize), u8>
     requires { sum ≤ 8192 }
-    ensures value { pair_now result ≡ opened table.now left slot weight sum node.now.index node.now.variant }
+    ensures value { pair_now result ≡ opened table.now.entries left slot weight sum node.now.index node.now.variant }
     ensures small { IfOk result (λ r. (r.1 ≤ 8192) × (0 < left)) }
 {
     check_node(slot)?;
@@ -333,7 +333,7 @@ fn open<'t>(
 
 // The form of a list's elements, where it has some.
 fn start<'t>(table: &'t Table, slot: Slot, seq: &Seq, left: u8) -> Result<Option<&'t Parsed>, u8>
-    ensures value { option_now result ≡ started table.now left slot seq.now.index (elems_empty seq.now.items) }
+    ensures value { option_now result ≡ started table.now.entries left slot seq.now.index (elems_empty seq.now.items) }
     ensures deep { IfOk result (λ o. IfSome o (λ _. 0 < left)) }
 {
     check_list(slot)?;
@@ -359,7 +359,7 @@ fn check_value(
     sum: usize,
 ) -> Result<usize, u8>
     requires sum { sum ≤ 8192 }
-    ensures value { result ≡ scan_val table.now left slot weight sum (plain value.now) }
+    ensures value { result ≡ scan_val table.now.entries left slot weight sum (plain value.now) }
     ensures small { IfOk result (λ s. s ≤ 8192) }
 {
     match value {
@@ -393,7 +393,7 @@ fn check_args(
     sum: usize,
 ) -> Result<usize, u8>
     requires sum { sum ≤ 8192 }
-    ensures value { result ≡ scan_vals table.now left (places_of pieces.now) weight sum args.now }
+    ensures value { result ≡ scan_vals table.now.entries left (places_of pieces.now) weight sum args.now }
     ensures small { IfOk result (λ s. s ≤ 8192) }
 {
     let mut values = args.as_slice();
@@ -427,7 +427,7 @@ fn check_items(
     sum: usize,
 ) -> Result<usize, u8>
     requires sum { sum ≤ 8192 }
-    ensures value { result ≡ scan_elems table.now left form.now weight sum items.now }
+    ensures value { result ≡ scan_elems table.now.entries left form.now weight sum items.now }
     ensures small { IfOk result (λ s. s ≤ 8192) }
 {
     let mut rest = items.as_slice();
@@ -444,7 +444,7 @@ fn check_items(
 /// The pieces of a statement's own entry, whatever its tag. The error is 5 where there is no entry or it is an
 /// interned string, 8 where its text was refused, 4 where it is an enum. Takes no memory.
 pub fn own_form(table: &Table, index: u16) -> Result<&Pieces, u8>
-    ensures { now_of result ≡ own_form (look table.now index) }
+    ensures { now_of result ≡ own_form (look table.now.entries index) }
 {
     match look_up(table, index) {
         None => Err(5),
@@ -458,7 +458,7 @@ pub fn own_form(table: &Table, index: u16) -> Result<&Pieces, u8>
 }
 
 fn first_cause(table: &Table, stm: &Statement) -> Result<(), u8>
-    ensures { result ≡ own_cause table.now stm.now.index stm.now.args }
+    ensures { result ≡ own_cause table.now.entries stm.now.index stm.now.args }
 {
     let pieces = own_form(table, stm.index)?;
     check_args(table, pieces, &stm.args, 16, 1, 0)?;
@@ -474,11 +474,11 @@ fn first_cause(table: &Table, stm: &Statement) -> Result<(), u8>
 /// 7 the weights pass 8,192; 8 an entry whose text was refused.
 pub fn check(table: &Table, stm: &Statement) -> Result<(), u8>
     // The cause is the first from left to right, and the first is answered.
-    ensures refused { IfErr result (λ cause. StatementFault table.now stm.now.index stm.now.args cause) }
-    ensures first { (cause : ℕ) → StatementFault table.now stm.now.index stm.now.args cause → result ≡ Err cause }
+    ensures refused { IfErr result (λ cause. StatementFault table.now.entries stm.now.index stm.now.args cause) }
+    ensures first { (cause : ℕ) → StatementFault table.now.entries stm.now.index stm.now.args cause → result ≡ Err cause }
     // None stands exactly where the statement fits.
-    ensures passed { OnOk result (Fits table.now stm.now.index stm.now.args) }
-    ensures fits { Fits table.now stm.now.index stm.now.args → IsOk result }
+    ensures passed { OnOk result (Fits table.now.entries stm.now.index stm.now.args) }
+    ensures fits { Fits table.now.entries stm.now.index stm.now.args → IsOk result }
 {
     first_cause(table, stm)
 }

@@ -32,7 +32,7 @@ abbrev pub invariant-push_pieces-each : goal.invariant-push_pieces-each
 invariant-push_pieces-each l = record {
   done : List ℕ;
   appended : Appended l.limit l.initial.out l.out done;
-  joins : done ++ pieces_text l.outer l.rest (shows l.table l.args) ≡ pieces_text l.outer l.pieces (shows l.table l.args);
+  joins : done ++ pieces_text l.outer l.rest (shows l.table.entries l.args) ≡ pieces_text l.outer l.pieces (shows l.table.entries l.args);
 }
 
 abbrev pub decreases-push_pieces-each : goal.decreases-push_pieces-each
@@ -43,7 +43,7 @@ invariant-push_items-each l = record {
   smaller : elems_size (elems_of l.rest) ≤ elems_size l.items;
   done : List ℕ;
   appended : Appended l.limit l.initial.out l.out done;
-  joins : done ++ joined l.first (show_elems l.table l.index l.hint (elems_of l.rest)) ≡ parted (show_elems l.table l.index l.hint l.items);
+  joins : done ++ joined l.first (show_elems l.table.entries l.index l.hint (elems_of l.rest)) ≡ parted (show_elems l.table.entries l.index l.hint l.items);
 }
 
 abbrev pub decreases-push_items-each : goal.decreases-push_items-each

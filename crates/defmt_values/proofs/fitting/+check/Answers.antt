@@ -5,49 +5,49 @@ use Rattle.defmt_values.proofs.fitting.+check.Goals as goal
 
 pub check_args-returns-in_default-cut-clause-value : goal.check_args-returns-in_default-cut-clause-value
 check_args-returns-in_default-cut-clause-value t c =
-    scans.too_many c.args.table.now c.args.left c.args.weight c.args.pieces.now c.each.position c.each.slots.now c.each.total c.each.values.now c.in-Some.value.now c.in-Some.more.now c.in-Some.ensures c.in_default-cut.ensures ∙ c.each.invariant.same
+    scans.too_many c.args.table.now.entries c.args.left c.args.weight c.args.pieces.now c.each.position c.each.slots.now c.each.total c.each.values.now c.in-Some.value.now c.in-Some.more.now c.in-Some.ensures c.in_default-cut.ensures ∙ c.each.invariant.same
 
 pub check_args-returns-in_err-total-clause-value : goal.check_args-returns-in_err-total-clause-value
 check_args-returns-in_err-total-clause-value t c =
     let p = err_from_is_err_and c.from_residual.result c.from_residual.ensures.1 in
-    rw (p.1, p.2) (scans.refused c.args.table.now c.args.left c.args.weight c.args.pieces.now c.each.position c.each.slots.now c.each.total c.each.values.now c.in-Some.value.now c.in-Some.more.now c.in-Some-cut.slot.now c.in-Some-cut.others.now c.in_err-total.field-0.0 c.saturating_mul-weight_there.result c.in-Some.ensures c.in-Some-cut.ensures (rw (← c.uses.ensures) c.saturating_mul-weight_there.ensures) c.in_err-total.ensures.value ∙ c.each.invariant.same)
+    rw (p.1, p.2) (scans.refused c.args.table.now.entries c.args.left c.args.weight c.args.pieces.now c.each.position c.each.slots.now c.each.total c.each.values.now c.in-Some.value.now c.in-Some.more.now c.in-Some-cut.slot.now c.in-Some-cut.others.now c.in_err-total.field-0.0 c.saturating_mul-weight_there.result c.in-Some.ensures c.in-Some-cut.ensures (rw (← c.uses.ensures) c.saturating_mul-weight_there.ensures) c.in_err-total.ensures.value ∙ c.each.invariant.same)
 
 pub check_args-each-preserved : goal.check_args-each-preserved
 check_args-each-preserved t c = record {
   small = c.in_ok-total.ensures.small;
   few = scans.few_left c.each.position c.each.slots.now c.in-Some-cut.slot.now c.in-Some-cut.others.now c.in-Some-cut.ensures c.each.invariant.few;
-  same = scans.passed c.args.table.now c.args.left c.args.weight c.args.pieces.now c.each.position c.each.slots.now c.each.total c.each.values.now c.in-Some.value.now c.in-Some.more.now c.in-Some-cut.slot.now c.in-Some-cut.others.now c.in_ok-total.total c.saturating_mul-weight_there.result c.in-Some.ensures c.in-Some-cut.ensures (rw (← c.uses.ensures) c.saturating_mul-weight_there.ensures) c.in_ok-total.ensures.value ∙ c.each.invariant.same;
+  same = scans.passed c.args.table.now.entries c.args.left c.args.weight c.args.pieces.now c.each.position c.each.slots.now c.each.total c.each.values.now c.in-Some.value.now c.in-Some.more.now c.in-Some-cut.slot.now c.in-Some-cut.others.now c.in_ok-total.total c.saturating_mul-weight_there.result c.in-Some.ensures c.in-Some-cut.ensures (rw (← c.uses.ensures) c.saturating_mul-weight_there.ensures) c.in_ok-total.ensures.value ∙ c.each.invariant.same;
 }
 
 pub check_args-returns-in-None-clause-value : goal.check_args-returns-in-None-clause-value
 check_args-returns-in-None-clause-value t c =
-    scans.ended c.args.table.now c.args.left c.args.weight c.args.pieces.now c.each.position c.each.slots.now c.each.total c.each.values.now c.in_default.ensures c.in-None.ensures ∙ c.each.invariant.same
+    scans.ended c.args.table.now.entries c.args.left c.args.weight c.args.pieces.now c.each.position c.each.slots.now c.each.total c.each.values.now c.in_default.ensures c.in-None.ensures ∙ c.each.invariant.same
 
 pub check_args-returns-in-Some-cut-2-clause-value : goal.check_args-returns-in-Some-cut-2-clause-value
 check_args-returns-in-Some-cut-2-clause-value t c =
-    scans.too_few c.args.table.now c.args.left c.args.weight c.args.pieces.now c.each.position c.each.slots.now c.each.total c.each.values.now c.in-Some-cut-2.field-0.0.now c.in-Some-cut-2.field-0.1.now c.in_default.ensures c.in-Some-cut-2.ensures ∙ c.each.invariant.same
+    scans.too_few c.args.table.now.entries c.args.left c.args.weight c.args.pieces.now c.each.position c.each.slots.now c.each.total c.each.values.now c.in-Some-cut-2.field-0.0.now c.in-Some-cut-2.field-0.1.now c.in_default.ensures c.in-Some-cut-2.ensures ∙ c.each.invariant.same
 
 pub check_items-returns-in_err-total-clause-value : goal.check_items-returns-in_err-total-clause-value
 check_items-returns-in_err-total-clause-value t c =
     let p = err_from_is_err_and c.from_residual.result c.from_residual.ensures.1 in
-    rw (p.1, p.2) (scans.too_heavy c.args.table.now c.args.left c.args.weight c.args.form.now c.each.total c.each.rest.now c.in-Some.item.now c.in-Some.more.now c.in-Some.ensures c.in_err-total.field-0.0 c.in_err-total.ensures.value ∙ c.each.invariant.same)
+    rw (p.1, p.2) (scans.too_heavy c.args.table.now.entries c.args.left c.args.weight c.args.form.now c.each.total c.each.rest.now c.in-Some.item.now c.in-Some.more.now c.in-Some.ensures c.in_err-total.field-0.0 c.in_err-total.ensures.value ∙ c.each.invariant.same)
 
 pub check_items-returns-in_err-pieces-clause-value : goal.check_items-returns-in_err-pieces-clause-value
 check_items-returns-in_err-pieces-clause-value t c =
     let p = err_from_is_err_and c.from_residual-in_err-pieces.result c.from_residual-in_err-pieces.ensures.1 in
-    rw (p.1, p.2) (scans.not_there c.args.table.now c.args.left c.args.weight c.args.form.now c.each.total c.each.rest.now c.in-Some.item.now c.in-Some.more.now c.in-Some.ensures c.in_ok-total.total c.in_err-pieces.field-0.0 c.in_ok-total.ensures.value c.in_err-pieces.ensures ∙ c.each.invariant.same)
+    rw (p.1, p.2) (scans.not_there c.args.table.now.entries c.args.left c.args.weight c.args.form.now c.each.total c.each.rest.now c.in-Some.item.now c.in-Some.more.now c.in-Some.ensures c.in_ok-total.total c.in_err-pieces.field-0.0 c.in_ok-total.ensures.value c.in_err-pieces.ensures ∙ c.each.invariant.same)
 
 pub check_items-returns-in_err-total-2-clause-value : goal.check_items-returns-in_err-total-2-clause-value
 check_items-returns-in_err-total-2-clause-value t c =
     let p = err_from_is_err_and c.from_residual-in_err-total-2.result c.from_residual-in_err-total-2.ensures.1 in
-    rw (p.1, p.2) (scans.elem_refused c.args.table.now c.args.left c.args.weight c.args.form.now c.each.total c.each.rest.now c.in-Some.item.now c.in-Some.more.now c.in-Some.ensures c.in_ok-total.total c.in_err-total-2.field-0.0 c.in_ok-pieces.pieces.now c.in_ok-total.ensures.value c.in_ok-pieces.ensures c.in_err-total-2.ensures.value ∙ c.each.invariant.same)
+    rw (p.1, p.2) (scans.elem_refused c.args.table.now.entries c.args.left c.args.weight c.args.form.now c.each.total c.each.rest.now c.in-Some.item.now c.in-Some.more.now c.in-Some.ensures c.in_ok-total.total c.in_err-total-2.field-0.0 c.in_ok-pieces.pieces.now c.in_ok-total.ensures.value c.in_ok-pieces.ensures c.in_err-total-2.ensures.value ∙ c.each.invariant.same)
 
 pub check_items-each-preserved : goal.check_items-each-preserved
 check_items-each-preserved t c = record {
   small = c.in_ok-total-2.ensures.small;
-  same = scans.elem_passed c.args.table.now c.args.left c.args.weight c.args.form.now c.each.total c.each.rest.now c.in-Some.item.now c.in-Some.more.now c.in-Some.ensures c.in_ok-total.total c.in_ok-total-2.total c.in_ok-pieces.pieces.now c.in_ok-total.ensures.value c.in_ok-pieces.ensures c.in_ok-total-2.ensures.value ∙ c.each.invariant.same;
+  same = scans.elem_passed c.args.table.now.entries c.args.left c.args.weight c.args.form.now c.each.total c.each.rest.now c.in-Some.item.now c.in-Some.more.now c.in-Some.ensures c.in_ok-total.total c.in_ok-total-2.total c.in_ok-pieces.pieces.now c.in_ok-total.ensures.value c.in_ok-pieces.ensures c.in_ok-total-2.ensures.value ∙ c.each.invariant.same;
 }
 
 pub check_items-returns-clause-value : goal.check_items-returns-clause-value
 check_items-returns-clause-value t c =
-    scans.elems_ended c.args.table.now c.args.left c.args.weight c.args.form.now c.each.total c.each.rest.now c.in_default.ensures ∙ c.each.invariant.same
+    scans.elems_ended c.args.table.now.entries c.args.left c.args.weight c.args.form.now c.each.total c.each.rest.now c.in_default.ensures ∙ c.each.invariant.same

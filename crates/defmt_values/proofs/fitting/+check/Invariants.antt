@@ -17,7 +17,7 @@ abbrev pub invariant-check_args-each : goal.invariant-check_args-each
 invariant-check_args-each l = record {
   small : l.total ≤ 8192;
   few : l.position + length l.slots ≤ 16;
-  same : scan_vals l.table l.left (places_from l.pieces l.position l.slots) l.weight l.total (vals_of (map plain l.values)) ≡ scan_vals l.table l.left (places_of l.pieces) l.weight l.sum l.args;
+  same : scan_vals l.table.entries l.left (places_from l.pieces l.position l.slots) l.weight l.total (vals_of (map plain l.values)) ≡ scan_vals l.table.entries l.left (places_of l.pieces) l.weight l.sum l.args;
 }
 
 abbrev pub decreases-check_args-each : goal.decreases-check_args-each
@@ -26,7 +26,7 @@ decreases-check_args-each l = length l.values
 abbrev pub invariant-check_items-each : goal.invariant-check_items-each
 invariant-check_items-each l = record {
   small : l.total ≤ 8192;
-  same : scan_elems l.table l.left l.form l.weight l.total (elems_of l.rest) ≡ scan_elems l.table l.left l.form l.weight l.sum l.items;
+  same : scan_elems l.table.entries l.left l.form l.weight l.total (elems_of l.rest) ≡ scan_elems l.table.entries l.left l.form l.weight l.sum l.items;
 }
 
 abbrev pub decreases-check_items-each : goal.decreases-check_items-each
