@@ -2,6 +2,8 @@
 use Rattle.std.proofs.Common.{◌≡◌, ℕ, List, Result, Ok, Err, refl, sym, ap, subst, ◌∙◌}
 use Rattle.std.specs.FinMap as map
 use Rattle.defmt_intern.specs.Table.{Map}
+use Rattle.defmt_intern.specs.declared.table.Profile.{Profile}
+use Rattle.defmt_intern.specs.declared.table.Table.{Table}
 use Rattle.elf_section.specs.Checks.{Refused}
 use Rattle.elf_section.specs.Checks.{Refusal}
 use Rattle.elf_section.specs.Symbol.{PlainSymbol}
@@ -13,11 +15,15 @@ use Rattle.elf_table.specs.Names.{IsTableOf, NamesRefused, NamesTable, SymbolRef
 use Rattle.elf_table.proofs.TableLaws.{one_table, one_check, made_all}
 use Rattle.elf_section.specs.Listed.{Lists}
 
-abbrev elf : Refusal → Result Map LoadFault
+abbrev elf : Refusal → Result Table LoadFault
 elf f = Err (faults.Elf f.cause f.part f.place)
 
-abbrev names : ℕ → ℕ → Result Map LoadFault
+abbrev names : ℕ → ℕ → Result Table LoadFault
 names c p = Err (faults.Names c p)
+
+-- tables of the same entries and the same profile are one
+same_table : (a b : Table) → a.entries ≡ b.entries → a.profile ≡ b.profile → a ≡ b
+same_table a b e p = λ i. record { entries = e i; profile = p i }
 
 -- the two refusals of one list are one
 one_name_refusal : (symbols : List PlainSymbol) (c d p q : ℕ) → NamesRefused symbols c p → NamesRefused symbols d q → (c ≡ d) × (p ≡ q)
@@ -28,30 +34,32 @@ one_name_refusal symbols c d p q x y =
 no_refusal : (symbols : List PlainSymbol) (table : Map) (c p : ℕ) → IsTableOf symbols table → NamesRefused symbols c p → ⊥
 no_refusal symbols table c p t r = r.first.fails (t.passes r.check)
 
-pub names_only : (file : List ℕ) (r : Result Map LoadFault) (table : Map) → ReadsTable file r → NamesTable file table → AnswersOnly r (Ok table)
+pub names_only : (file : List ℕ) (r : Result Table LoadFault) (table : Table) → ReadsTable file r → NamesTable file table → AnswersOnly r (Ok table)
 names_only file (Ok one) table h n =
-    ap Ok (one_table n.symbols one table (subst (λ (s : List PlainSymbol). IsTableOf s one) (one_list file h.symbols n.symbols h.lists n.lists) h.table_of) n.table_of)
+    ap Ok (same_table one table
+    (one_table n.symbols one.entries table.entries (subst (λ (s : List PlainSymbol). IsTableOf s one.entries) (one_list file h.symbols n.symbols h.lists n.lists) h.table_of) n.table_of)
+    (h.profile ∙ sym n.profile))
 names_only file (Err (faults.Elf cause part place')) table h n = absurd (never_both file (record { cause = cause; part = part; place = place' }) n.lists.passes h)
 names_only file (Err (faults.Names cause symbol)) table h n =
-    absurd (no_refusal n.symbols table cause symbol n.table_of (subst (λ (s : List PlainSymbol). NamesRefused s cause symbol) (one_list file h.symbols n.symbols h.lists n.lists) h.refused))
+    absurd (no_refusal n.symbols table.entries cause symbol n.table_of (subst (λ (s : List PlainSymbol). NamesRefused s cause symbol) (one_list file h.symbols n.symbols h.lists n.lists) h.refused))
 names_only file (Err faults.Memory) table h n = tt
 
-pub elf_only : (file : List ℕ) (r : Result Map LoadFault) (fault : Refusal) → ReadsTable file r → Refused file fault → AnswersOnly r (Err (faults.Elf fault.cause fault.part fault.place))
+pub elf_only : (file : List ℕ) (r : Result Table LoadFault) (fault : Refusal) → ReadsTable file r → Refused file fault → AnswersOnly r (Err (faults.Elf fault.cause fault.part fault.place))
 elf_only file (Ok one) fault h f = absurd (never_both file fault h.lists.passes f)
 elf_only file (Err (faults.Elf cause part place')) fault h f = ap (λ (g : Refusal). elf g) (one_refusal file (record { cause = cause; part = part; place = place' }) fault h f)
 elf_only file (Err (faults.Names cause symbol)) fault h f = absurd (never_both file fault h.lists.passes f)
 elf_only file (Err faults.Memory) fault h f = tt
 
-pub symbol_only : (file : List ℕ) (r : Result Map LoadFault) (c p : ℕ) → ReadsTable file r → SymbolRefused file c p → AnswersOnly r (Err (faults.Names c p))
-symbol_only file (Ok one) c p h f = absurd (no_refusal f.symbols one c p (subst (λ (s : List PlainSymbol). IsTableOf s one) (one_list file h.symbols f.symbols h.lists f.lists) h.table_of) f.refused)
+pub symbol_only : (file : List ℕ) (r : Result Table LoadFault) (c p : ℕ) → ReadsTable file r → SymbolRefused file c p → AnswersOnly r (Err (faults.Names c p))
+symbol_only file (Ok one) c p h f = absurd (no_refusal f.symbols one.entries c p (subst (λ (s : List PlainSymbol). IsTableOf s one.entries) (one_list file h.symbols f.symbols h.lists f.lists) h.table_of) f.refused)
 symbol_only file (Err (faults.Elf cause part place')) c p h f = absurd (never_both file (record { cause = cause; part = part; place = place' }) f.lists.passes h)
 symbol_only file (Err (faults.Names cause symbol)) c p h f =
     let same = one_name_refusal f.symbols cause c symbol p (subst (λ (s : List PlainSymbol). NamesRefused s cause symbol) (one_list file h.symbols f.symbols h.lists f.lists) h.refused) f.refused in
     ap (λ (n : ℕ). names n symbol) same.0 ∙ ap (names c) same.1
 symbol_only file (Err faults.Memory) c p h f = tt
 
-pub reads_by_making : (file : List ℕ) (symbols : List PlainSymbol) (r : Result Map LoadFault) → Lists file symbols → Makes symbols r → ReadsTable file r
-reads_by_making file symbols (Ok table) l m = record { symbols = symbols; lists = l; table_of = made_all symbols table m }
+pub reads_by_making : (file : List ℕ) (symbols : List PlainSymbol) (r : Result Table LoadFault) → Lists file symbols → Makes symbols r → ReadsTable file r
+reads_by_making file symbols (Ok table) l m = record { symbols = symbols; lists = l; table_of = made_all symbols table.entries m.0; profile = m.1 }
 reads_by_making file symbols (Err (faults.Elf cause part place')) l m = absurd m
 reads_by_making file symbols (Err (faults.Names cause symbol)) l m = record { symbols = symbols; lists = l; refused = m }
 reads_by_making file symbols (Err faults.Memory) l m = tt

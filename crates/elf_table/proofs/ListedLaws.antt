@@ -14,6 +14,8 @@ use Rattle.defmt_intern.specs.declared.entry.Entry.{Entry}
 use Rattle.defmt_intern.specs.declared.entry.Tag.TheVariants.{Timestamp}
 use Rattle.defmt_intern.specs.Name.{Names, written}
 use Rattle.defmt_intern.specs.Table.{Map, IsLawful}
+use Rattle.defmt_intern.specs.declared.table.Profile.TheVariants as profiles
+use Rattle.defmt_intern.specs.declared.table.Table.{Table}
 use Rattle.defmt_intern.proofs.NameLaws.{one_name}
 use Rattle.elf_section.specs.Listed.{Lists}
 use Rattle.elf_section.specs.Symbol.{PlainSymbol, plain, plain_all}
@@ -104,8 +106,14 @@ module _ (table : Map) (lawful : IsLawful table) (spelled : AreSpelled table) (n
     only = only;
   }
 
-  pub names_table : (file : List ℕ) (xs : List PlainSymbol) → xs ≡ symbols_in table → Lists file xs → NamesTable file table
-  names_table file xs e lists = record { symbols = symbols_in table; lists = subst (Lists file) e lists; table_of = table_listed }
+pub names_table : (t : Table) → IsLawful t.entries → AreSpelled t.entries → All IsNamed (map.entries t.entries)
+    → (file : List ℕ) (xs : List PlainSymbol) → xs ≡ symbols_in t.entries → Lists file xs → t.profile ≡ profiles.One → NamesTable file t
+names_table t lawful spelled named file xs e lists one = record {
+  symbols = symbols_in t.entries;
+  lists = subst (Lists file) e lists;
+  table_of = table_listed t.entries lawful spelled named;
+  profile = one;
+}
 
 -- ---- they can be written
 

@@ -6,6 +6,8 @@ use Rattle.defmt_intern.specs.declared.entry.Entry.{Entry}
 use Rattle.defmt_intern.specs.declared.entry.Tag.TheVariants.{Timestamp}
 use Rattle.defmt_intern.specs.Name.{Names}
 use Rattle.defmt_intern.specs.Table.{Map, InsertRefused}
+use Rattle.defmt_intern.specs.declared.table.Profile.TheVariants as profiles
+use Rattle.defmt_intern.specs.declared.table.Table.{Table}
 use Rattle.elf_section.specs.Checks.{Refused}
 use Rattle.elf_section.specs.Listed.{Lists}
 use Rattle.elf_section.specs.Symbol.{PlainSymbol}
@@ -70,11 +72,12 @@ pub record NamesRefused (symbols : List PlainSymbol) (cause : ℕ) (symbol : ℕ
   pub cause_is : cause ≡ cause_of check
   pub symbol_is : symbol ≡ (place check).row
 
--- the file names the table
-pub record NamesTable (file : List ℕ) (table : Map) : Type 0 where
+-- the file names the table; a file says nothing of a profile, so its table has the first
+pub record NamesTable (file : List ℕ) (table : Table) : Type 0 where
   pub symbols : List PlainSymbol
   pub lists : Lists file symbols
-  pub table_of : IsTableOf symbols table
+  pub table_of : IsTableOf symbols table.entries
+  pub profile : table.profile ≡ profiles.One
 
 -- one of its symbols is refused
 pub record SymbolRefused (file : List ℕ) (cause symbol : ℕ) : Type 0 where
@@ -84,14 +87,14 @@ pub record SymbolRefused (file : List ℕ) (cause symbol : ℕ) : Type 0 where
 
 -- ---- answers
 
-abbrev pub ReadsTable : List ℕ → Result Map LoadFault → Type 0
+abbrev pub ReadsTable : List ℕ → Result Table LoadFault → Type 0
 ReadsTable file (Ok table) = NamesTable file table
 ReadsTable file (Err (faults.Elf cause part place)) = Refused file (record { cause = cause; part = part; place = place })
 ReadsTable file (Err (faults.Names cause symbol)) = SymbolRefused file cause symbol
 ReadsTable file (Err faults.Memory) = Unit {0}
 
 -- this answer, unless memory runs out
-abbrev pub AnswersOnly : Result Map LoadFault → Result Map LoadFault → Type 0
+abbrev pub AnswersOnly : Result Table LoadFault → Result Table LoadFault → Type 0
 AnswersOnly (Ok table) wanted = Ok table ≡ wanted
 AnswersOnly (Err (faults.Elf cause part place)) wanted = Err (faults.Elf cause part place) ≡ wanted
 AnswersOnly (Err (faults.Names cause symbol)) wanted = Err (faults.Names cause symbol) ≡ wanted
@@ -128,8 +131,8 @@ Steps old s (Ok done) new = Puts old new s
 Steps old s (Err (steps.Refused cause)) new = StepRefused old s (cause_number cause)
 Steps old s (Err steps.Memory) new = Unit {0}
 
-abbrev pub Makes : List PlainSymbol → Result Map LoadFault → Type 0
-Makes symbols (Ok table) = Made symbols (length symbols) table
+abbrev pub Makes : List PlainSymbol → Result Table LoadFault → Type 0
+Makes symbols (Ok table) = Made symbols (length symbols) table.entries × (table.profile ≡ profiles.One)
 Makes symbols (Err (faults.Elf cause part place)) = ⊥
 Makes symbols (Err (faults.Names cause symbol)) = NamesRefused symbols cause symbol
 Makes symbols (Err faults.Memory) = Unit {0}

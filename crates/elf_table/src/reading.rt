@@ -1,7 +1,7 @@
 //! The table that a file names.
 
 ghost use Rattle.std.specs.Prelude.{◌≡◌, ◌<◌, ◌^◌, ℕ, length, Ok, Err};
-ghost use Rattle.defmt_intern.specs.Table.{Map};
+ghost use Rattle.defmt_intern.specs.declared.table.Table.{Table as AnyTable};
 ghost use Rattle.elf_section.specs.Checks.{Refusal, Refused};
 ghost use Rattle.elf_section.specs.Symbol.{plain, plain_all};
 ghost use Rattle.elf_table.specs.Names.{ReadsTable, AnswersOnly, NamesTable, SymbolRefused, Steps, Makes};
@@ -14,7 +14,8 @@ use std::alloc::Global;
 
 /// Puts the entry that a symbol names into the table.
 fn put_symbol(alloc: Global, table: &mut Table, symbol: &Symbol) -> Result<(), StepFault>
-    ensures { Steps table.old (plain symbol.now) result table.new }
+    ensures steps { Steps table.old.entries (plain symbol.now) result table.new.entries }
+    ensures profile { table.new.profile ≡ table.old.profile }
 {
     let entry = match read_name(alloc, symbol.name.as_slice()) {
         Ok(entry) => entry,
@@ -78,7 +79,7 @@ pub fn read_table(alloc: Global, file: &[u8]) -> Result<Table, LoadFault>
     ensures answer { ReadsTable file.now result }
 
     // Unless memory runs out, the table that the file names is answered, and its refusal.
-    ensures named { (table : Map) → NamesTable file.now table → AnswersOnly result (Ok table) }
+    ensures named { (table : AnyTable) → NamesTable file.now table → AnswersOnly result (Ok table) }
     ensures elf { (refusal : Refusal) → Refused file.now refusal
         → AnswersOnly result (Err (OfElf refusal.cause refusal.part refusal.place)) }
     ensures names { (cause symbol : ℕ) → SymbolRefused file.now cause symbol

@@ -5,6 +5,7 @@ ghost use Rattle.std.specs.FinMap as map;
 ghost use Rattle.std.specs.Option.{SomeIff};
 ghost use Rattle.defmt_intern.specs.Table.{Map};
 ghost use Rattle.defmt_intern.specs.declared.entry.Entry.{Entry as AnyEntry};
+ghost use Rattle.defmt_intern.specs.declared.table.Profile.TheVariants as profiles;
 ghost use Rattle.elf_section.specs.Symbol.{plain, plain_all};
 ghost use Rattle.elf_section.specs.Written.{written};
 ghost use Rattle.elf_table.specs.Listed.{symbol_of, symbols_in, entry_size, size_of, AreSpelled, IsNamed};
@@ -34,7 +35,7 @@ fn left_behind(left: usize, entry: &Entry) -> Option<usize>
 /// Whether the packages, texts, disambiguators and names of `Other` tags of all entries together have at most 64 MiB, as
 /// `write_table` asks. Takes no memory.
 pub fn is_writable(table: &Table) -> bool
-    ensures { IsTrue result ↔ (size_of table.now ≤ 2 ^ 26) }
+    ensures { IsTrue result ↔ (size_of table.now.entries ≤ 2 ^ 26) }
 {
     let mut left = MAX_SIZE;
     for (_, entry) in table.entries() {
@@ -69,9 +70,9 @@ fn symbol_for(alloc: Global, entry: &Entry, index: u16) -> Result<Symbol, Memory
 
 /// The symbols of the entries, in the order of their indexes.
 fn symbols_of(alloc: Global, table: &Table) -> Result<Vec<Symbol>, Memory>
-    ensures value { IfOk result (λ symbols. plain_all symbols.items ≡ symbols_in table.now) }
-    ensures named { IfOk result (λ _. All IsNamed (map.entries table.now)) }
-    ensures few { IfOk result (λ _. map.len table.now ≤ 65536) }
+    ensures value { IfOk result (λ symbols. plain_all symbols.items ≡ symbols_in table.now.entries) }
+    ensures named { IfOk result (λ _. All IsNamed (map.entries table.now.entries)) }
+    ensures few { IfOk result (λ _. map.len table.now.entries ≤ 65536) }
 {
     let mut symbols = Vec::with_capacity(alloc, table.len() as usize)?;
     for (index, entry) in table.entries() {
@@ -80,17 +81,19 @@ fn symbols_of(alloc: Global, table: &Table) -> Result<Vec<Symbol>, Memory>
     Ok(symbols)
 }
 
-/// The ELF32 file that names the table: one symbol for each entry, in the order of their indexes.
+/// The ELF32 file that names the table: one symbol for each entry, in the order of their indexes. It says nothing of the
+/// profile.
 ///
 /// The packages, texts, disambiguators and names of `Other` tags of all entries together have at most 64 MiB.
 pub fn write_table(alloc: Global, table: &Table) -> Result<Bytes, Memory>
-    requires { size_of table.now ≤ 2 ^ 26 }
+    requires { size_of table.now.entries ≤ 2 ^ 26 }
 
     // The file has just these symbols.
-    ensures bytes { IfOk result (λ file. file.items ≡ written (symbols_in table.now)) }
+    ensures bytes { IfOk result (λ file. file.items ≡ written (symbols_in table.now.entries)) }
 
-    // It names the table, so `read_table` gives the table back, unless an `Other` spells one of the eleven tags.
-    ensures read_back { IfOk result (λ file. AreSpelled table.now → NamesTable file.items table.now) }
+    // It names a table of profile One, so `read_table` gives the table back, unless an `Other` spells one of the eleven tags.
+    ensures read_back { IfOk result (λ file. AreSpelled table.now.entries → table.now.profile ≡ profiles.One
+        → NamesTable file.items table.now) }
 {
     table.lawful();
     let symbols = symbols_of(alloc, table)?;

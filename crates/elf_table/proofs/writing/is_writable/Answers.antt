@@ -9,8 +9,8 @@ pub returns-in-None-left_behind : goal.returns-in-None-left_behind
 returns-in-None-left_behind c =
     let x : ℕ × Bor Entry = (c.in-Some.field-0-0, c.in-Some.entry) in
     let next : c.loop-entry.entry-iterator ≡ item_of x ∷ c.next.new.self = rest_more item_of _ _ c.next.result x c.in-Some.is c.next.ensures.steps in
-    let begun : c.into_iter-entry-iterator.result ≡ map.entries c.args.table.now = search rules in
-    let split : map.entries c.args.table.now ≡ map_list item_of c.loop-entry.yielded ++ item_of x ∷ c.next.new.self =
+    let begun : c.into_iter-entry-iterator.result ≡ map.entries c.args.table.now.entries = search rules in
+    let split : map.entries c.args.table.now.entries ≡ map_list item_of c.loop-entry.yielded ++ item_of x ∷ c.next.new.self =
     sym begun ∙ rest_so_far item_of c.loop-entry.yielded _ _ c.loop-entry.yielded_by ∙ ap (λ (es : List (ℕ × Entry)). map_list item_of c.loop-entry.yielded ++ es) next in
-    let within = size_within c.args.table.now (map_list item_of c.loop-entry.yielded) (item_of x) c.next.new.self split in
+    let within = size_within c.args.table.now.entries (map_list item_of c.loop-entry.yielded) (item_of x) c.next.new.self split in
     ((λ f. absurd cc), λ le. absurd (c.in-None-left_behind.ensures (omega (arith, within, le, c.loop-entry.invariant.left))))

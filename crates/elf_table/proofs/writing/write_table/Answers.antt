@@ -7,12 +7,12 @@ use Rattle.elf_table.proofs.ListedLaws.{writable, are_braced, names_table}
 use Rattle.elf_table.proofs.writing.write_table.Goals as goal
 
 pub write_symbols-requires : goal.write_symbols-requires
-write_symbols-requires c = writable c.args.table.now (plain_all c.deref.result.now) (ap plain_all c.deref.ensures.value ∙ c.in_ok-symbols.ensures.value) c.lawful.ensures c.in_ok-symbols.ensures.few c.requires
+write_symbols-requires c = writable c.args.table.now.entries (plain_all c.deref.result.now) (ap plain_all c.deref.ensures.value ∙ c.in_ok-symbols.ensures.value) c.lawful.ensures c.in_ok-symbols.ensures.few c.requires
 
 pub returns-clause-bytes : goal.returns-clause-bytes
 returns-clause-bytes c = IfOk-weaker c.write_symbols.result _ _ (λ file is. is ∙ ap written (ap plain_all c.deref.ensures.value ∙ c.in_ok-symbols.ensures.value)) c.write_symbols.ensures.bytes
 
 pub returns-clause-read_back : goal.returns-clause-read_back
 returns-clause-read_back c =
-    let same : plain_all c.deref.result.now ≡ symbols_in c.args.table.now = ap plain_all c.deref.ensures.value ∙ c.in_ok-symbols.ensures.value in
-    IfOk-weaker c.write_symbols.result _ _ (λ file back spelled. names_table c.args.table.now c.lawful.ensures spelled c.in_ok-symbols.ensures.named file.items (plain_all c.deref.result.now) same (back (are_braced c.args.table.now (plain_all c.deref.result.now) same))) c.write_symbols.ensures.read_back_whole
+    let same : plain_all c.deref.result.now ≡ symbols_in c.args.table.now.entries = ap plain_all c.deref.ensures.value ∙ c.in_ok-symbols.ensures.value in
+    IfOk-weaker c.write_symbols.result _ _ (λ file back spelled one. names_table c.args.table.now c.lawful.ensures spelled c.in_ok-symbols.ensures.named file.items (plain_all c.deref.result.now) same (back (are_braced c.args.table.now.entries (plain_all c.deref.result.now) same)) one) c.write_symbols.ensures.read_back_whole
