@@ -16,7 +16,7 @@ use Rattle.defmt_encode.specs.Heard.{IsHeard}
 use Rattle.defmt_encode.specs.Lengths.{LengthsFit}
 use Rattle.defmt_encode.specs.Read.{Read, ◌⇒◌, number_at, value_at, each_at, logged_of, stamp_form, stamp_at, all_zero, is_padding, padded, message_at}
 use Rattle.defmt_values.specs.Sound.{AreSound}
-use Rattle.defmt_encode.specs.Stamp.{stamp_of}
+use Rattle.defmt_intern.specs.Stamp.{stamp_of}
 use Rattle.defmt_encode.specs.declared.cause.Cause.TheVariants as causes
 use Rattle.defmt_encode.proofs.Back.{vals_back}
 use Rattle.defmt_encode.proofs.Chains.{done, same, bound, chosen}

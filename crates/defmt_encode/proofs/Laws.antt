@@ -17,7 +17,7 @@ use Rattle.defmt_encode.specs.Met.{Meets, IsMet}
 use Rattle.defmt_encode.specs.Read.{all_zero, message_at}
 use Rattle.defmt_encode.specs.Reads.{ReadsMessage, Answers, GivesOnly, RefusesOnly, answered}
 use Rattle.defmt_values.specs.Sound.{AreSound}
-use Rattle.defmt_encode.specs.Stamp.{stamp_of}
+use Rattle.defmt_intern.specs.Stamp.{stamp_of}
 use Rattle.defmt_encode.specs.declared.cause.Cause.{Cause}
 use Rattle.defmt_encode.specs.declared.cause.Fault.{Fault}
 use Rattle.defmt_encode.specs.declared.cause.Fault.TheVariants.{Bad, Memory}

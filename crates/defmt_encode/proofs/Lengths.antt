@@ -9,7 +9,7 @@ use Rattle.defmt_values.specs.Plain.{Val, uint, int, flag, char, str, istr, byte
 use Rattle.defmt_values.specs.Scan.{index_or}
 use Rattle.defmt_encode.specs.Carry.{length_bytes, variant_byte, count_bytes, index_bytes, node_slots, own_slots, stamp_slots, bytes_val, bytes_vals, bytes_elems, message_head, message_of}
 use Rattle.defmt_encode.specs.Lengths.{CountFits, LengthFits, LengthsFit, ElemsLengthsFit, MessageLengthsFit}
-use Rattle.defmt_encode.specs.Stamp.{stamp_of}
+use Rattle.defmt_intern.specs.Stamp.{stamp_of}
 
 count_fits : (slot : Slot) (count : ℕ) → count < 2 ^ 32 → CountFits slot count
 count_fits (slots.One (kinds.Uint size)) count h = tt

@@ -20,7 +20,7 @@ use Rattle.defmt_encode.specs.Lengths.{LengthsFit, ElemsLengthsFit}
 use Rattle.defmt_encode.specs.Met.{MetBool, MetChar, MetBytes, MetStr, MetIstr, MetVariant, OneMet, Level, no_level, level, MetEach, MetElem, MetElems, MetNode, MetList, MetSome, MetSlot, met_at, MetStamp, MetBehind, Meets}
 use Rattle.defmt_encode.specs.Read.{Read, ◌⇒◌, OneAt, number_at, signed_at, chunk_at, flag_of, char_of, text_of, bytes_at, text_at, interned_of, flag_at, char_at, istr_at, there, variant_of, add, form_of, each_at, elem_at, elems_at, node_at, list_at, some_at, slot_at, value_at, below, logged_of, stamp_form, stamp_at, padded, message_at}
 use Rattle.defmt_values.specs.Sound.{AreSound, ElemsSound}
-use Rattle.defmt_encode.specs.Stamp.{stamp_of}
+use Rattle.defmt_intern.specs.Stamp.{stamp_of}
 use Rattle.defmt_encode.specs.declared.cause.Cause.{Cause}
 use Rattle.defmt_encode.specs.declared.cause.Cause.TheVariants as causes
 use Rattle.defmt_encode.proofs.Back.{val_back, vals_back, elem_from}

@@ -18,7 +18,7 @@ use Rattle.defmt_values.specs.Plain.{uint, int, flag, char, str, istr, bytes, bi
 use Rattle.defmt_encode.specs.Carry.{size_bytes, variant_byte, node_slots, stamp_slots, bytes_val, bytes_vals}
 use Rattle.defmt_encode.specs.Met.{IsCut, HasForm, MetBool, MetChar, MetBytes, MetStr, MetIstr, MetVariant, OneMet, Level, no_level, level, MetEach, MetElem, MetElems, MetNode, MetList, MetSome, MetSlot, met_at, MetStamp, MetBehind, Meets}
 use Rattle.defmt_encode.specs.Read.{◌⇒◌, OneAt, number_at, signed_at, chunk_at, flag_of, char_of, text_of, bytes_at, text_at, interned_of, uint_at, int_at, flag_at, char_at, str_at, istr_at, slice_at, array_at, window_at, there, variant_of, add, form_of, each_at, elem_at, elems_at, node_at, list_at, some_at, slot_at, value_at, logged_of, stamp_form, stamp_at, is_padding, padded, message_at}
-use Rattle.defmt_encode.specs.Stamp.{stamp_of}
+use Rattle.defmt_intern.specs.Stamp.{stamp_of}
 use Rattle.defmt_encode.specs.declared.cause.Cause.{Cause}
 use Rattle.defmt_encode.specs.declared.cause.Cause.TheVariants as causes
 use Rattle.defmt_encode.proofs.Chains.{refused, same_cause, bound, broken, not_chosen, add_found, add_broken, before_last}

@@ -14,7 +14,7 @@ use Rattle.defmt_values.specs.View.{plain, vals_of}
 use Rattle.defmt_values.specs.declared.value.Value.{Value}
 use Rattle.defmt_encode.specs.Carry.{size_bytes, uint_width, int_width, length_bytes, bytes_val, bytes_vals, stamp_slots, stamp_args, own_slots, message_of}
 use Rattle.defmt_encode.specs.Out.{HasAtMost, HaveAtMost, Puts, Writes}
-use Rattle.defmt_encode.specs.Stamp.{stamp_of}
+use Rattle.defmt_intern.specs.Stamp.{stamp_of}
 use Rattle.defmt_encode.specs.declared.put.Long.{Long}
 use Rattle.defmt_encode.proofs.Numbers.{length_little}
 

@@ -13,7 +13,7 @@ use Rattle.defmt_intern.specs.Table.{Map}
 use Rattle.defmt_values.specs.Entries.{look, Place}
 use Rattle.defmt_values.specs.Plain.{Val, uint, int, flag, char, str, istr, bytes, bits, format, seq, Vals, no_vals, val, Elems, no_elems, elem, elems_len}
 use Rattle.defmt_values.specs.Scan.{◌>>=◌, form_at, pick, own_form, index_or}
-use Rattle.defmt_encode.specs.Stamp.{stamp_of}
+use Rattle.defmt_intern.specs.Stamp.{stamp_of}
 use Rattle.rzcobs_core.specs.Canon.{frame}
 
 -- how many bytes an integer of a size has; native integers are those of a 32-bit device

@@ -13,7 +13,7 @@ use Rattle.defmt_values.specs.Plain.{Val, Vals, Elems}
 use Rattle.defmt_encode.specs.Carry.{bytes_val, bytes_vals, bytes_elems, slots_at, stamp_slots}
 use Rattle.defmt_values.specs.Sound.{IsSound, AreSound, ElemsSound}
 use Rattle.defmt_encode.specs.Lengths.{LengthFits, LengthsFit, ElemsLengthsFit}
-use Rattle.defmt_encode.specs.Stamp.{stamp_of}
+use Rattle.defmt_intern.specs.Stamp.{stamp_of}
 use Rattle.defmt_grammar.specs.declared.slot.Slot.{Slot}
 
 -- a number of so many bytes, its lowest byte first

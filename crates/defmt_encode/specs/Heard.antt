@@ -7,7 +7,7 @@ use Rattle.defmt_encode.specs.Carry.{message_of}
 use Rattle.defmt_encode.specs.Lengths.{MessageLengthsFit}
 use Rattle.defmt_encode.specs.Read.{all_zero}
 use Rattle.defmt_values.specs.Sound.{AreSound}
-use Rattle.defmt_encode.specs.Stamp.{stamp_of}
+use Rattle.defmt_intern.specs.Stamp.{stamp_of}
 
 -- The stamp and the statement fit, the statement is logged, the lengths of texts and bytes fit in the
 -- four bytes that tell them, and the bytes are their message and at most six zeros, those that a code's

@@ -8,7 +8,7 @@ use Rattle.defmt_intern.specs.Table.{Map}
 use Rattle.defmt_values.specs.Plain.{Val, uint, int, flag, char, str, istr, bytes, bits, format, seq, Vals, no_vals, val, Elems, no_elems, elem}
 use Rattle.defmt_values.specs.Scan.{index_or}
 use Rattle.defmt_encode.specs.Carry.{node_slots, own_slots, stamp_slots}
-use Rattle.defmt_encode.specs.Stamp.{stamp_of}
+use Rattle.defmt_intern.specs.Stamp.{stamp_of}
 
 -- of bytes: four bytes in front of them tell their number, but not that of a byte array's, which has as many as its slot says
 abbrev pub CountFits : Slot → ℕ → Type 0

@@ -7,4 +7,3 @@ pub mod Met
 pub mod Out
 pub mod Read
 pub mod Reads
-pub mod Stamp

@@ -20,7 +20,7 @@ use Rattle.defmt_encode.specs.Carry.{size_bytes, variant_byte}
 use Rattle.defmt_encode.specs.Cause.{cause_number}
 use Rattle.defmt_encode.specs.Fields.{IsNumber, IsChunk, FoundVals, FoundElems, FoundStamp, IsOwn}
 use Rattle.defmt_encode.specs.Read.{tag_cause, is_padding}
-use Rattle.defmt_encode.specs.Stamp.{stamp_of}
+use Rattle.defmt_intern.specs.Stamp.{stamp_of}
 use Rattle.defmt_encode.specs.declared.cause.Cause.{Cause}
 use Rattle.defmt_encode.specs.declared.cause.Cause.TheVariants as causes
 

@@ -18,7 +18,7 @@ use Rattle.defmt_intern.specs.declared.parsed.Parsed.TheVariants.{One, Variants}
 use Rattle.defmt_values.specs.Entries.{look, is_format, is_interned, is_logged, variant_at, Place, places_of}
 use Rattle.defmt_values.specs.Plain.{Val, uint, int, flag, char, str, istr, bytes as byte_list, bits, format, seq, Vals, no_vals, val, Elems, no_elems, elem}
 use Rattle.defmt_encode.specs.Carry.{size_bytes}
-use Rattle.defmt_encode.specs.Stamp.{stamp_of}
+use Rattle.defmt_intern.specs.Stamp.{stamp_of}
 use Rattle.defmt_encode.specs.declared.cause.Cause.{Cause}
 use Rattle.defmt_encode.specs.declared.cause.Cause.TheVariants as causes
 

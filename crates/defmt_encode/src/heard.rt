@@ -7,12 +7,11 @@ ghost use Rattle.defmt_encode.specs.Met.{IsMet};
 ghost use Rattle.defmt_encode.specs.Read.{one_in, logged_of, stamp_form, stamp_at, all_zero, is_padding, message_at};
 ghost use Rattle.defmt_encode.specs.Reads.{now_of, ReadsStamp, ReadsMessage, Answers, GivesOnly, RefusesOnly, answered, told, with_stamp};
 ghost use Rattle.defmt_encode.specs.declared.heard.Heard.{Heard as AnyHeard};
-ghost use Rattle.defmt_encode.specs.Stamp.{stamp_of};
+ghost use Rattle.defmt_intern.specs.Stamp.{stamp_of};
 
 use crate::cause::{Cause, Fault};
 use crate::field::index;
 use crate::read::{read_own, suited};
-use crate::writing::stamp_index;
 use defmt_grammar::Pieces;
 use defmt_intern::{Parsed, Table};
 use defmt_values::{Args, Statement, cut, is_logged, look_up};
@@ -68,7 +67,7 @@ fn one_in(body: &Parsed) -> Result<&Pieces, Cause>
 
 // The pieces of a frame's own entry.
 fn logged(table: &Table, index: u16) -> Result<&Pieces, Cause>
-    ensures { now_of result ≡ logged_of (look table.now index) }
+    ensures { now_of result ≡ logged_of (look table.now.entries index) }
 {
     let Some((entry, body)) = look_up(table, index) else {
         return Err(Cause::NoEntry);
@@ -78,7 +77,7 @@ fn logged(table: &Table, index: u16) -> Result<&Pieces, Cause>
 }
 
 fn stamp_form(table: &Table, index: u16) -> Result<&Pieces, Cause>
-    ensures { now_of result ≡ stamp_form (look table.now index) }
+    ensures { now_of result ≡ stamp_form (look table.now.entries index) }
 {
     match look_up(table, index) {
         None => Err(Cause::Unsupported),
@@ -92,9 +91,9 @@ fn read_stamp<'b>(
     bytes: &'b [u8],
     stamp: &mut Args,
 ) -> Result<&'b [u8], Fault>
-    ensures { ReadsStamp (with_stamp stamp.new result) (stamp_at table.now (stamp_of table.now) bytes.now) }
+    ensures { ReadsStamp (with_stamp stamp.new result) (stamp_at table.now.entries (stamp_of table.now.entries) bytes.now) }
 {
-    match stamp_index(table) {
+    match table.stamp() {
         None => {
             stamp.clear();
             Ok(bytes)
@@ -123,7 +122,7 @@ fn is_padding(bytes: &[u8]) -> bool
 }
 
 fn read_whole(alloc: Global, table: &Table, bytes: &[u8], heard: &mut Heard) -> Result<(), Fault>
-    ensures { ReadsMessage (told heard.new result) (message_at table.now bytes.now) }
+    ensures { ReadsMessage (told heard.new result) (message_at table.now.entries bytes.now) }
 {
     let (index, rest) = index(bytes)?;
     let pieces = logged(table, index)?;
@@ -176,10 +175,10 @@ impl Heard {
     #[inline(never)]
     pub fn hear(&mut self, alloc: Global, table: &Table, bytes: &[u8]) -> Result<(), ReadCause>
         // A statement is answered only where it is heard, and a cause only where it is met.
-        ensures answer { Answers table.now bytes.now (told self.new result) }
+        ensures answer { Answers table.now.entries bytes.now (told self.new result) }
         // Unless memory runs out, what is heard is answered, and the cause that is met.
-        ensures heard { (stamp : Vals) (index : ℕ) (vs : Vals) → IsHeard table.now bytes.now stamp index vs → GivesOnly (told self.new result) stamp index vs }
-        ensures met { (number : ℕ) → IsMet table.now bytes.now number → RefusesOnly (told self.new result) number }
+        ensures heard { (stamp : Vals) (index : ℕ) (vs : Vals) → IsHeard table.now.entries bytes.now stamp index vs → GivesOnly (told self.new result) stamp index vs }
+        ensures met { (number : ℕ) → IsMet table.now.entries bytes.now number → RefusesOnly (told self.new result) number }
     {
         answered(read_whole(alloc, table, bytes, self))
     }
@@ -195,10 +194,10 @@ impl Heard {
 /// where memory runs out.
 pub fn read_message(alloc: Global, table: &Table, bytes: &[u8]) -> Result<Heard, ReadCause>
     // A statement is answered only where it is heard, and a cause only where it is met.
-    ensures answer { Answers table.now bytes.now result }
+    ensures answer { Answers table.now.entries bytes.now result }
     // Unless memory runs out, what is heard is answered, and the cause that is met.
-    ensures heard { (stamp : Vals) (index : ℕ) (vs : Vals) → IsHeard table.now bytes.now stamp index vs → GivesOnly result stamp index vs }
-    ensures met { (number : ℕ) → IsMet table.now bytes.now number → RefusesOnly result number }
+    ensures heard { (stamp : Vals) (index : ℕ) (vs : Vals) → IsHeard table.now.entries bytes.now stamp index vs → GivesOnly result stamp index vs }
+    ensures met { (number : ℕ) → IsMet table.now.entries bytes.now number → RefusesOnly result number }
 {
     let mut heard = Heard::new(alloc);
     heard.hear(alloc, table, bytes)?;

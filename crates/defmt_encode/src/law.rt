@@ -10,7 +10,7 @@ ghost use Rattle.defmt_encode.specs.Heard.{IsHeard, SameStatement};
 ghost use Rattle.defmt_encode.specs.Lengths.{MessageLengthsFit};
 ghost use Rattle.defmt_encode.specs.Met.{IsMet};
 ghost use Rattle.defmt_values.specs.Sound.{AreSound};
-ghost use Rattle.defmt_encode.specs.Stamp.{stamp_of};
+ghost use Rattle.defmt_intern.specs.Stamp.{stamp_of};
 
 /// In given bytes at most one stamp and statement is heard, and at most one cause is met; never both.
 pub fn one_answer()

@@ -33,7 +33,7 @@ pub fn suited(suits: bool, tag: &Tag) -> Result<(), Cause>
 }
 
 fn interned(table: &Table, index: u16) -> Result<(), Cause>
-    ensures { result ≡ interned_of (look table.now index) }
+    ensures { result ≡ interned_of (look table.now.entries index) }
 {
     match look_up(table, index) {
         None => Err(Cause::NoEntry),
@@ -52,7 +52,7 @@ fn form_in(body: &Parsed) -> Result<&Parsed, Cause>
 
 // What the entry of a Format value stands for.
 fn form_for(table: &Table, index: u16) -> Result<&Parsed, Cause>
-    ensures { now_of result ≡ form_of (look table.now index) }
+    ensures { now_of result ≡ form_of (look table.now.entries index) }
 {
     let Some((entry, body)) = look_up(table, index) else {
         return Err(Cause::NoEntry);
@@ -158,7 +158,7 @@ fn read_istr<'b>(
     bytes: &'b [u8],
 ) -> Result<(Value, u128, &'b [u8]), Fault>
     requires { sum ≤ 8192 }
-    ensures value { ReadsVal result (istr_at table.now sum bytes.now) }
+    ensures value { ReadsVal result (istr_at table.now.entries sum bytes.now) }
     ensures small { SumSmall result }
 {
     let (index, rest) = index(bytes)?;
@@ -210,7 +210,7 @@ fn read_leaf<'b>(
     requires slot { IsSound slot }
     requires leaf { IsLeaf slot }
     requires sum { sum ≤ 8192 }
-    ensures value { (below : Option OneAt) (weight : ℕ) → ReadsVal result (slot_at table.now below slot weight sum bytes.now) }
+    ensures value { (below : Option OneAt) (weight : ℕ) → ReadsVal result (slot_at table.now.entries below slot weight sum bytes.now) }
     ensures small { SumSmall result }
 {
     match slot {
@@ -242,7 +242,7 @@ fn read_value<'b>(
     requires slot { IsSound slot }
     requires weight { weight < 2 ^ 80 }
     requires sum { sum ≤ 8192 }
-    ensures value { ReadsVal result (slot_at table.now (below table.now left) slot weight sum bytes.now) }
+    ensures value { ReadsVal result (slot_at table.now.entries (below table.now.entries left) slot weight sum bytes.now) }
     ensures small { SumSmall result }
 {
     match slot {
@@ -281,7 +281,7 @@ fn read_node<'b>(
 ) -> Result<(Value, u128, &'b [u8]), Fault>
     requires weight { weight < 2 ^ 80 }
     requires sum { sum ≤ 8192 }
-    ensures value { ReadsVal result (node_at table.now (value_at table.now left) weight sum bytes.now) }
+    ensures value { ReadsVal result (node_at table.now.entries (value_at table.now.entries left) weight sum bytes.now) }
     ensures small { SumSmall result }
 {
     let (index, rest) = index(bytes)?;
@@ -312,7 +312,7 @@ fn read_some<'b>(
 ) -> Result<(Value, u128, &'b [u8]), Fault>
     requires weight { weight < 2 ^ 80 }
     requires sum { sum ≤ 8192 }
-    ensures value { ReadsVal result (some_at table.now (below table.now left) count weight sum bytes.now) }
+    ensures value { ReadsVal result (some_at table.now.entries (below table.now.entries left) count weight sum bytes.now) }
     ensures small { SumSmall result }
 {
     if count == 0 {
@@ -341,7 +341,7 @@ fn read_list<'b>(
 ) -> Result<(Value, u128, &'b [u8]), Fault>
     requires weight { weight < 2 ^ 80 }
     requires sum { sum ≤ 8192 }
-    ensures value { ReadsVal result (list_at table.now (value_at table.now left) count weight sum bytes.now) }
+    ensures value { ReadsVal result (list_at table.now.entries (value_at table.now.entries left) count weight sum bytes.now) }
     ensures small { SumSmall result }
 {
     let (index, rest) = index(bytes)?;
@@ -371,7 +371,7 @@ fn read_into<'b>(
 ) -> Result<(u128, &'b [u8]), Fault>
     requires weight { weight ≤ 8192 }
     requires sum { sum ≤ 8192 }
-    ensures value { ReadsVals (with_vals args.new result) (each_at (value_at table.now left) (places_of pieces.now) weight sum bytes.now) }
+    ensures value { ReadsVals (with_vals args.new result) (each_at (value_at table.now.entries left) (places_of pieces.now) weight sum bytes.now) }
     ensures small { SumSmall (with_vals args.new result) }
 {
     args.clear();
@@ -413,7 +413,7 @@ fn read_items<'b>(
 ) -> Result<(Items, u128, &'b [u8]), Fault>
     requires weight { weight < 2 ^ 80 }
     requires sum { sum ≤ 8192 }
-    ensures value { ReadsElems result (elems_at (value_at table.now left) form.now count weight sum bytes.now) }
+    ensures value { ReadsElems result (elems_at (value_at table.now.entries left) form.now count weight sum bytes.now) }
     ensures small { SumSmall result }
 {
     let mut items = Items::new(alloc);
@@ -441,7 +441,7 @@ fn read_item<'b>(
 ) -> Result<(Item, u128, &'b [u8]), Fault>
     requires weight { weight < 2 ^ 80 }
     requires sum { sum ≤ 8192 }
-    ensures value { ReadsElem result (elem_at (value_at table.now left) form.now weight sum bytes.now) }
+    ensures value { ReadsElem result (elem_at (value_at table.now.entries left) form.now weight sum bytes.now) }
     ensures small { SumSmall result }
 {
     let sum = add(weight, sum)?;
@@ -497,7 +497,7 @@ pub fn read_own<'b>(
     bytes: &'b [u8],
     args: &mut Args,
 ) -> Result<(u128, &'b [u8]), Fault>
-    ensures { ReadsVals (with_vals args.new result) (each_at (value_at table.now 16) (places_of pieces.now) 1 0 bytes.now) }
+    ensures { ReadsVals (with_vals args.new result) (each_at (value_at table.now.entries 16) (places_of pieces.now) 1 0 bytes.now) }
 {
     match only_uint(pieces.slots()) {
         Some(size) => read_only(size, bytes, args),

@@ -3,7 +3,7 @@ ghost use Rattle.std.specs.Prelude.{◌≡◌, ◌≤◌, ◌++◌, ◌/◌, ◌
 ghost use Rattle.byteorder.specs.Endian.{little_bytes};
 ghost use Rattle.defmt_encode.specs.Carry.{size_bytes, uint_width, int_width, flag_byte, length_bytes, window_width, window_first, variant_byte, count_bytes, index_bytes, node_slots, own_slots, stamp_slots, stamp_args, bytes_val, bytes_vals, bytes_elems, message_of};
 ghost use Rattle.defmt_encode.specs.Out.{HasAtMost, HaveAtMost, Puts, Writes};
-ghost use Rattle.defmt_encode.specs.Stamp.{stamp_of};
+ghost use Rattle.defmt_intern.specs.Stamp.{stamp_of};
 ghost use Rattle.defmt_values.specs.Scan.{index_or};
 ghost use Rattle.defmt_values.specs.View.{plain};
 
@@ -70,7 +70,7 @@ fn shifted(n: u128, bytes: u8) -> u128
 
 // The slots of the arguments of a Format value, or of an element.
 fn node_slots(table: &Table, index: u16, variant: Option<u8>) -> &[Slot]
-    ensures { result.now ≡ node_slots table.now index variant }
+    ensures { result.now ≡ node_slots table.now.entries index variant }
 {
     match form_of(table, index) {
         Err(_) => &[],
@@ -83,7 +83,7 @@ fn node_slots(table: &Table, index: u16, variant: Option<u8>) -> &[Slot]
 
 // The slots of the arguments of an entry's own text.
 fn own_slots(table: &Table, index: u16) -> &[Slot]
-    ensures { result.now ≡ own_slots table.now index }
+    ensures { result.now ≡ own_slots table.now.entries index }
 {
     match own_form(table, index) {
         Err(_) => &[],
@@ -193,7 +193,7 @@ pub fn put_value(
     at: usize,
 ) -> Result<usize, Long>
     requires { (2000 ≤ length out.old) × (at ≤ 2000) }
-    ensures { Puts out.old out.new at result (bytes_val table.now slot (plain value.now)) }
+    ensures { Puts out.old out.new at result (bytes_val table.now.entries slot (plain value.now)) }
 {
     match value {
         Value::Uint(n) => put_number(out, at, *n, uint_width(slot)),
@@ -233,7 +233,7 @@ pub fn put_args(
     at: usize,
 ) -> Result<usize, Long>
     requires { (2000 ≤ length out.old) × (at ≤ 2000) }
-    ensures { Puts out.old out.new at result (bytes_vals table.now slots.now args.now) }
+    ensures { Puts out.old out.new at result (bytes_vals table.now.entries slots.now args.now) }
 {
     let mut values = args.as_slice();
     let mut slots_left = slots;
@@ -259,7 +259,7 @@ fn put_item(
     at: usize,
 ) -> Result<usize, Long>
     requires { (2000 ≤ length out.old) × (at ≤ 2000) }
-    ensures { Puts out.old out.new at result (variant_byte item.now.variant ++ bytes_vals table.now (node_slots table.now index item.now.variant) item.now.args) }
+    ensures { Puts out.old out.new at result (variant_byte item.now.variant ++ bytes_vals table.now.entries (node_slots table.now.entries index item.now.variant) item.now.args) }
 {
     let at = put_variant(out, at, item.variant)?;
     put_args(
@@ -280,7 +280,7 @@ fn put_items(
     at: usize,
 ) -> Result<usize, Long>
     requires { (2000 ≤ length out.old) × (at ≤ 2000) }
-    ensures { Puts out.old out.new at result (bytes_elems table.now index items.now) }
+    ensures { Puts out.old out.new at result (bytes_elems table.now.entries index items.now) }
 {
     let mut rest = items.as_slice();
     let mut end = at;
@@ -291,19 +291,11 @@ fn put_items(
     Ok(end)
 }
 
-// The index of the timestamp's entry.
-pub fn stamp_index(table: &Table) -> Option<u16>
-    ensures { result ≡ stamp_of table.now }
-{
-    table.lawful();
-    table.stamp()
-}
-
 /// The slots of the stamp's arguments, none where the table has no timestamp. Takes no memory.
 pub fn stamp_slots(table: &Table) -> &[Slot]
-    ensures { result.now ≡ stamp_slots table.now (stamp_of table.now) }
+    ensures { result.now ≡ stamp_slots table.now.entries (stamp_of table.now.entries) }
 {
-    match stamp_index(table) {
+    match table.stamp() {
         None => &[],
         Some(index) => own_slots(table, index),
     }
@@ -313,7 +305,7 @@ pub fn stamp_slots(table: &Table) -> &[Slot]
 #[tactic(auto, unfolding(crate::specs::Carry::bytes_vals))]
 fn put_stamp(table: &Table, stamp: Option<u64>, out: &mut [u8], at: usize) -> Result<usize, Long>
     requires { (2000 ≤ length out.old) × (at ≤ 2000) }
-    ensures { Puts out.old out.new at result (bytes_vals table.now (stamp_slots table.now (stamp_of table.now)) (stamp_args stamp)) }
+    ensures { Puts out.old out.new at result (bytes_vals table.now.entries (stamp_slots table.now.entries (stamp_of table.now.entries)) (stamp_args stamp)) }
 {
     let Some(n) = stamp else {
         return Ok(at);
@@ -361,7 +353,7 @@ fn put_message(
     out: &mut [u8],
 ) -> Result<usize, Long>
     requires { 2000 ≤ length out.old }
-    ensures { Puts out.old out.new 0 result (message_of table.now (stamp_args stamp) stm.now.index stm.now.args) }
+    ensures { Puts out.old out.new 0 result (message_of table.now.entries (stamp_args stamp) stm.now.index stm.now.args) }
 {
     let at = put_number(out, 0, u128::from(stm.index), 2)?;
     let at = put_stamp(table, stamp, out, at)?;
@@ -377,7 +369,7 @@ fn message_by_copy(
     out: &mut [u8],
 ) -> Result<usize, Long>
     requires { 2000 ≤ length out.old }
-    ensures { Writes out.old out.new result (message_of table.now (stamp_args stamp) stm.now.index stm.now.args) }
+    ensures { Writes out.old out.new result (message_of table.now.entries (stamp_args stamp) stm.now.index stm.now.args) }
 {
     let mut whole = [0u8; 2000];
     let count = put_message(table, stamp, stm, &mut whole)?;
@@ -388,7 +380,7 @@ fn message_by_copy(
 // The same of a message that is written to a buffer of its own.
 #[inline(never)]
 fn is_long_by_copy(table: &Table, stamp: Option<u64>, stm: &Statement) -> bool
-    ensures { result ≡ nat_lt 2000 (length (message_of table.now (stamp_args stamp) stm.now.index stm.now.args)) }
+    ensures { result ≡ nat_lt 2000 (length (message_of table.now.entries (stamp_args stamp) stm.now.index stm.now.args)) }
 {
     let mut whole = [0u8; 2000];
     match put_message(table, stamp, stm, &mut whole) {
@@ -399,7 +391,7 @@ fn is_long_by_copy(table: &Table, stamp: Option<u64>, stm: &Statement) -> bool
 
 /// Whether the message of a statement has more than 2,000 bytes: whether `message` refuses it. Takes no memory.
 pub fn is_long(table: &Table, stamp: Option<u64>, stm: &Statement) -> bool
-    ensures { result ≡ nat_lt 2000 (length (message_of table.now (stamp_args stamp) stm.now.index stm.now.args)) }
+    ensures { result ≡ nat_lt 2000 (length (message_of table.now.entries (stamp_args stamp) stm.now.index stm.now.args)) }
 {
     if most_of(&stm.args) <= SHORT {
         return false;
@@ -424,7 +416,7 @@ pub fn message(
     out: &mut [u8],
 ) -> Result<usize, Long>
     requires { 2000 ≤ length out.old }
-    ensures { Writes out.old out.new result (message_of table.now (stamp_args stamp) stm.now.index stm.now.args) }
+    ensures { Writes out.old out.new result (message_of table.now.entries (stamp_args stamp) stm.now.index stm.now.args) }
 {
     if most_of(&stm.args) <= SHORT {
         return put_message(table, stamp, stm, out);

@@ -31,7 +31,7 @@ invariant-read_into-each l = record {
   small : l.total ≤ 8192;
   few : l.position + length l.slots ≤ 16;
   sound : All IsSound l.slots;
-  same : before_vals l.args (each_at (value_at l.table l.left) (places_from l.pieces l.position l.slots) l.weight l.total l.rest) ≡ each_at (value_at l.table l.left) (places_of l.pieces) l.weight l.sum l.bytes;
+  same : before_vals l.args (each_at (value_at l.table.entries l.left) (places_from l.pieces l.position l.slots) l.weight l.total l.rest) ≡ each_at (value_at l.table.entries l.left) (places_of l.pieces) l.weight l.sum l.bytes;
 }
 
 abbrev pub decreases-read_into-each : goal.decreases-read_into-each
@@ -40,5 +40,5 @@ decreases-read_into-each l = length l.slots
 abbrev pub invariant-read_items-each : goal.invariant-read_items-each
 invariant-read_items-each l = record {
   small : l.total ≤ 8192;
-  same : before_elems l.items (elems_at (value_at l.table l.left) l.form (l.count - l.counter) l.weight l.total l.rest) ≡ elems_at (value_at l.table l.left) l.form l.count l.weight l.sum l.bytes;
+  same : before_elems l.items (elems_at (value_at l.table.entries l.left) l.form (l.count - l.counter) l.weight l.total l.rest) ≡ elems_at (value_at l.table.entries l.left) l.form l.count l.weight l.sum l.bytes;
 }

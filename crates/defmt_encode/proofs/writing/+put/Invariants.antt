@@ -23,7 +23,7 @@ invariant-put_args-each l = record {
   smaller : vals_size (vals_of (map plain l.values)) ≤ vals_size l.args;
   done : List ℕ;
   wrote : Wrote l.initial.out l.out l.at l.end done;
-  joins : done ++ bytes_vals l.table l.slots_left (vals_of (map plain l.values)) ≡ bytes_vals l.table l.slots l.args;
+  joins : done ++ bytes_vals l.table.entries l.slots_left (vals_of (map plain l.values)) ≡ bytes_vals l.table.entries l.slots l.args;
 }
 
 abbrev pub decreases-put_args-each : goal.decreases-put_args-each
@@ -35,7 +35,7 @@ invariant-put_items-each l = record {
   smaller : elems_size (elems_of l.rest) ≤ elems_size l.items;
   done : List ℕ;
   wrote : Wrote l.initial.out l.out l.at l.end done;
-  joins : done ++ bytes_elems l.table l.index (elems_of l.rest) ≡ bytes_elems l.table l.index l.items;
+  joins : done ++ bytes_elems l.table.entries l.index (elems_of l.rest) ≡ bytes_elems l.table.entries l.index l.items;
 }
 
 abbrev pub decreases-put_items-each : goal.decreases-put_items-each
