@@ -177,7 +177,7 @@ pub fn str_value(alloc: Global, slot: Slot, inside: &str) -> Result<Value, ArgFa
 }
 
 fn is_interned(table: &Table, index: u16) -> bool
-    ensures { result ≡ interned_of (look table.now index) }
+    ensures { result ≡ interned_of (look table.now.entries index) }
 {
     match look_up(table, index) {
         Some((entry, _)) => matches!(entry.tag, Tag::Interned),
@@ -187,7 +187,7 @@ fn is_interned(table: &Table, index: u16) -> bool
 
 /// An interned text of this name.
 pub fn istr_value(names: &Names, table: &Table, slot: Slot, name: &str) -> Result<Value, ArgFault>
-    ensures { GivesLeaf result (istr (index_of names.now name.now)) (istr_cause table.now slot (index_of names.now name.now)) }
+    ensures { GivesLeaf result (istr (index_of names.now name.now)) (istr_cause table.now.entries slot (index_of names.now name.now)) }
 {
     match slot {
         Slot::One(Kind::Istr) => {

@@ -198,7 +198,7 @@ pub fn print_args(
 ) -> Result<Text, dl_io::Memory>
     ensures text { IfOk result (λ text. text ≡ printed_arguments names.now stm.now.args) }
     // Where the statement fits and each of its indexes has a name that is spelled as names are, the text reads back as the arguments.
-    ensures back { Fits table.now stm.now.index stm.now.args → AreNamed names.now stm.now.args → IfOk result (λ text. ReadsArguments names.now table.now stm.now.index text (Ok stm.now.args)) }
+    ensures back { Fits table.now.entries stm.now.index stm.now.args → AreNamed names.now stm.now.args → IfOk result (λ text. ReadsArguments names.now table.now.entries stm.now.index text (Ok stm.now.args)) }
 {
     let _ = table;
     args_are_sound(&stm.args);

@@ -74,7 +74,7 @@ fn find_form<'a>(
     left: u8,
     name: &str,
 ) -> Result<(u16, &'a Parsed), ArgFault>
-    ensures form { GivesForm names.now table.now left name.now result }
+    ensures form { GivesForm names.now table.now.entries left name.now result }
     ensures deep { OnOk result (0 < left) }
 {
     if left == 0 {
@@ -120,7 +120,7 @@ fn read_leaf(
     requires sum { sum ≤ 8192 }
     requires sound { IsSound slot }
     requires leaf { IsLeaf spelling }
-    ensures value { (left weight : ℕ) (s : AnyShape) → Tells spelling.entry s → GivesValue result (meant_val names.now table.now slot s) (scan_val table.now left slot weight sum (meant_val names.now table.now slot s)) }
+    ensures value { (left weight : ℕ) (s : AnyShape) → Tells spelling.entry s → GivesValue result (meant_val names.now table.now.entries slot s) (scan_val table.now.entries left slot weight sum (meant_val names.now table.now.entries slot s)) }
     ensures small { SmallValue result }
 {
     match spelling {
@@ -151,7 +151,7 @@ fn read_value(
 ) -> Result<(Value, usize), ArgFault>
     requires sum { sum ≤ 8192 }
     requires sound { IsSound slot }
-    ensures value { (s : AnyShape) → Tells spelling.entry s → GivesValue result (meant_val names.now table.now slot s) (scan_val table.now left slot weight sum (meant_val names.now table.now slot s)) }
+    ensures value { (s : AnyShape) → Tells spelling.entry s → GivesValue result (meant_val names.now table.now.entries slot s) (scan_val table.now.entries left slot weight sum (meant_val names.now table.now.entries slot s)) }
     ensures small { SmallValue result }
 {
     match spelling {
@@ -184,7 +184,7 @@ fn read_node(
     inside: &str,
 ) -> Result<(Value, usize), ArgFault>
     requires sum { sum ≤ 8192 }
-    ensures value { (v : Option ℕ) (ss : Shapes) → HoldsVariant variant v → SpellsShapes inside.now ss → GivesValue result (meant_val names.now table.now slot (call name.now v ss)) (scan_val table.now left slot weight sum (meant_val names.now table.now slot (call name.now v ss))) }
+    ensures value { (v : Option ℕ) (ss : Shapes) → HoldsVariant variant v → SpellsShapes inside.now ss → GivesValue result (meant_val names.now table.now.entries slot (call name.now v ss)) (scan_val table.now.entries left slot weight sum (meant_val names.now table.now.entries slot (call name.now v ss))) }
     ensures small { SmallValue result }
 {
     check_node(slot)?;
@@ -225,7 +225,7 @@ fn read_list(
     inside: &str,
 ) -> Result<(Value, usize), ArgFault>
     requires sum { sum ≤ 8192 }
-    ensures value { (items : AnyItems) → StartsThere inside.now → SpellsItems inside.now items → GivesValue result (meant_val names.now table.now slot (sequence name.now items)) (scan_val table.now left slot weight sum (meant_val names.now table.now slot (sequence name.now items))) }
+    ensures value { (items : AnyItems) → StartsThere inside.now → SpellsItems inside.now items → GivesValue result (meant_val names.now table.now.entries slot (sequence name.now items)) (scan_val table.now.entries left slot weight sum (meant_val names.now table.now.entries slot (sequence name.now items))) }
     ensures small { SmallValue result }
 {
     check_list(slot)?;
@@ -254,7 +254,7 @@ fn read_items(
     text: &str,
 ) -> Result<(Items, usize), ArgFault>
     requires sum { sum ≤ 8192 }
-    ensures value { (index : ℕ) (items : AnyItems) → form_at table.now index ≡ Ok form.now → SpellsItems text.now items → GivesElems result (meant_elems names.now table.now index items) (scan_elems table.now left form.now weight sum (meant_elems names.now table.now index items)) }
+    ensures value { (index : ℕ) (items : AnyItems) → form_at table.now.entries index ≡ Ok form.now → SpellsItems text.now items → GivesElems result (meant_elems names.now table.now.entries index items) (scan_elems table.now.entries left form.now weight sum (meant_elems names.now table.now.entries index items)) }
     ensures small { SmallValue result }
 {
     let mut items = Items::new(alloc);
@@ -293,7 +293,7 @@ fn read_item(
     inside: &str,
 ) -> Result<(Item, usize), ArgFault>
     requires sum { sum ≤ 8192 }
-    ensures value { (v : Option ℕ) (ss : Shapes) → HoldsVariant variant v → SpellsShapes inside.now ss → GivesItem result v (meant_inside names.now table.now form.now v ss) (item_scan table.now left form.now weight sum v (meant_inside names.now table.now form.now v ss)) }
+    ensures value { (v : Option ℕ) (ss : Shapes) → HoldsVariant variant v → SpellsShapes inside.now ss → GivesItem result v (meant_inside names.now table.now.entries form.now v ss) (item_scan table.now.entries left form.now weight sum v (meant_inside names.now table.now.entries form.now v ss)) }
     ensures small { SmallValue result }
 {
     let sum = add(weight, sum)?;
@@ -315,7 +315,7 @@ fn read_values(
     text: &str,
 ) -> Result<(Args, usize), ArgFault>
     requires sum { sum ≤ 8192 }
-    ensures value { ReadsValues names.now table.now left weight (places_of pieces.now) sum text.now result }
+    ensures value { ReadsValues names.now table.now.entries left weight (places_of pieces.now) sum text.now result }
     ensures small { SmallValue result }
 {
     let mut args = Args::new(alloc);
@@ -362,7 +362,7 @@ fn read_front<'a>(
 ) -> Result<(Value, usize, &'a str), ArgFault>
     requires sum { sum ≤ 8192 }
     requires sound { IsSound slot }
-    ensures value { ReadsFront names.now table.now left slot weight sum text.now result }
+    ensures value { ReadsFront names.now table.now.entries left slot weight sum text.now result }
     ensures small { SmallFront result }
     ensures utf8 { IfOk result (λ r. IsUtf8 r.2.now) }
 {
@@ -384,7 +384,7 @@ fn read_whole(
     index: u16,
     text: &str,
 ) -> Result<Args, ArgFault>
-    ensures { Reads names.now table.now index text.now result }
+    ensures { Reads names.now table.now.entries index text.now result }
 {
     let pieces = own_form(table, index)?;
     let (args, _) = read_values(alloc, names, table, pieces, 16, 1, 0, text)?;
@@ -405,11 +405,11 @@ pub fn read_args(
     text: &str,
 ) -> Result<Args, ArgFault>
     // Only what the text spells, and a cause only where it is the first.
-    ensures answer { Reads names.now table.now index text.now result }
+    ensures answer { Reads names.now table.now.entries index text.now result }
     // Unless memory runs out, what the text reads as is answered.
-    ensures reads { (read : Result Vals ℕ) → ReadsArguments names.now table.now index text.now read → GivesOnly result read }
+    ensures reads { (read : Result Vals ℕ) → ReadsArguments names.now table.now.entries index text.now read → GivesOnly result read }
     // The statement fits the table.
-    ensures fits { IfOk result (λ args. Fits table.now index args) }
+    ensures fits { IfOk result (λ args. Fits table.now.entries index args) }
 {
     read_whole(alloc, names, table, index, text)
 }

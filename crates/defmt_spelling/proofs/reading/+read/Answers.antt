@@ -17,71 +17,71 @@ use Rattle.defmt_spelling.proofs.reading.+read.Goals as goal
 pub read_node-returns-in_err-check_node-clause-value : goal.read_node-returns-in_err-check_node-clause-value
 read_node-returns-in_err-check_node-clause-value t c = λ v ss m s.
     let p = err_from_is_err_and c.from_residual.result c.from_residual.ensures.1 in
-    rw (p.1, p.2) (exits.node_kind_exit c.args.names.now c.args.table.now c.args.left c.args.weight c.args.sum c.args.slot c.args.name.now v ss _ c.in_err-check_node.ensures)
+    rw (p.1, p.2) (exits.node_kind_exit c.args.names.now c.args.table.now.entries c.args.left c.args.weight c.args.sum c.args.slot c.args.name.now v ss _ c.in_err-check_node.ensures)
 
 pub read_node-returns-in_err-index-clause-value : goal.read_node-returns-in_err-index-clause-value
 read_node-returns-in_err-index-clause-value t c = λ v ss m s.
     let p = err_from_is_err_and c.from_residual-in_err-index.result c.from_residual-in_err-index.ensures.1 in
-    rw (p.1, p.2) (exits.node_entry_exit c.args.names.now c.args.table.now c.args.left c.args.weight c.args.sum c.args.slot c.args.name.now v ss _ c.in_ok-check_node.ensures c.in_err-index.ensures.form)
+    rw (p.1, p.2) (exits.node_entry_exit c.args.names.now c.args.table.now.entries c.args.left c.args.weight c.args.sum c.args.slot c.args.name.now v ss _ c.in_ok-check_node.ensures c.in_err-index.ensures.form)
 
 pub read_node-returns-in_err-item-clause-value : goal.read_node-returns-in_err-item-clause-value
 read_node-returns-in_err-item-clause-value t c = λ v ss m s.
     let p = err_from_is_err_and c.from_residual-in_err-item.result c.from_residual-in_err-item.ensures.1 in
-    rw (p.1, p.2) (exits.node_item_exit c.args.names.now c.args.table.now c.args.left c.args.weight c.args.sum c.args.slot c.args.name.now v ss _ c.in_ok-index.form.now c.in_ok-check_node.ensures c.in_ok-index.ensures.form.1 (c.in_err-item.ensures.value v ss m s))
+    rw (p.1, p.2) (exits.node_item_exit c.args.names.now c.args.table.now.entries c.args.left c.args.weight c.args.sum c.args.slot c.args.name.now v ss _ c.in_ok-index.form.now c.in_ok-check_node.ensures c.in_ok-index.ensures.form.1 (c.in_err-item.ensures.value v ss m s))
 
 pub read_node-returns-clause-value : goal.read_node-returns-clause-value
 read_node-returns-clause-value t c = λ v ss m s.
-    exits.node_end c.args.names.now c.args.table.now c.args.left c.args.weight c.args.sum c.args.slot c.args.name.now v ss c.in_ok-index.index c.in_ok-index.form.now _ _ _ c.in_ok-check_node.ensures c.in_ok-index.ensures.form (c.in_ok-item.ensures.value v ss m s)
+    exits.node_end c.args.names.now c.args.table.now.entries c.args.left c.args.weight c.args.sum c.args.slot c.args.name.now v ss c.in_ok-index.index c.in_ok-index.form.now _ _ _ c.in_ok-check_node.ensures c.in_ok-index.ensures.form (c.in_ok-item.ensures.value v ss m s)
 
 pub read_list-returns-in_err-check_list-clause-value : goal.read_list-returns-in_err-check_list-clause-value
 read_list-returns-in_err-check_list-clause-value t c = λ items n s.
     let p = err_from_is_err_and c.from_residual.result c.from_residual.ensures.1 in
-    rw (p.1, p.2) (exits.list_kind_exit c.args.names.now c.args.table.now c.args.left c.args.weight c.args.sum c.args.slot c.args.name.now c.args.inside.now items n s _ c.in_err-check_list.ensures)
+    rw (p.1, p.2) (exits.list_kind_exit c.args.names.now c.args.table.now.entries c.args.left c.args.weight c.args.sum c.args.slot c.args.name.now c.args.inside.now items n s _ c.in_err-check_list.ensures)
 
 pub read_list-returns-in_err-index-clause-value : goal.read_list-returns-in_err-index-clause-value
 read_list-returns-in_err-index-clause-value t c = λ items n s.
     let p = err_from_is_err_and c.from_residual-in_err-index.result c.from_residual-in_err-index.ensures.1 in
-    rw (p.1, p.2) (exits.list_entry_exit c.args.names.now c.args.table.now c.args.left c.args.weight c.args.sum c.args.slot c.args.name.now c.args.inside.now items n s _ c.in_ok-check_list.ensures c.in_err-index.ensures.form)
+    rw (p.1, p.2) (exits.list_entry_exit c.args.names.now c.args.table.now.entries c.args.left c.args.weight c.args.sum c.args.slot c.args.name.now c.args.inside.now items n s _ c.in_ok-check_list.ensures c.in_err-index.ensures.form)
 
 pub read_list-returns-in_err-items-clause-value : goal.read_list-returns-in_err-items-clause-value
 read_list-returns-in_err-items-clause-value t c = λ items n s.
     let p = err_from_is_err_and c.from_residual-in_err-items.result c.from_residual-in_err-items.ensures.1 in
-    rw (p.1, p.2) (exits.list_items_exit c.args.names.now c.args.table.now c.args.left c.args.weight c.args.sum c.args.slot c.args.name.now c.args.inside.now items n s _ c.in_ok-index.form.now c.in_ok-check_list.ensures c.in_ok-index.ensures.form.1
-    (c.in_err-items.ensures.value (index_of c.args.names.now c.args.name.now) items (arms.form_there c.args.table.now c.args.left _ c.in_ok-index.form.now c.in_ok-index.ensures.form.1) s))
+    rw (p.1, p.2) (exits.list_items_exit c.args.names.now c.args.table.now.entries c.args.left c.args.weight c.args.sum c.args.slot c.args.name.now c.args.inside.now items n s _ c.in_ok-index.form.now c.in_ok-check_list.ensures c.in_ok-index.ensures.form.1
+    (c.in_err-items.ensures.value (index_of c.args.names.now c.args.name.now) items (arms.form_there c.args.table.now.entries c.args.left _ c.in_ok-index.form.now c.in_ok-index.ensures.form.1) s))
 
 pub read_list-returns-in_err-check_count-clause-value : goal.read_list-returns-in_err-check_count-clause-value
 read_list-returns-in_err-check_count-clause-value t c = λ items n s.
     let p = err_from_is_err_and c.from_residual-in_err-check_count.result c.from_residual-in_err-check_count.ensures.1 in
-    rw (p.1, p.2) (exits.list_count_exit c.args.names.now c.args.table.now c.args.left c.args.weight c.args.sum c.args.slot c.args.name.now c.args.inside.now items n s _ c.in_ok-index.form.now c.in_ok-items.items c.in_ok-items.sum c.len.result c.in_ok-check_list.ensures c.in_ok-index.ensures.form.1
-    (c.in_ok-items.ensures.value (index_of c.args.names.now c.args.name.now) items (arms.form_there c.args.table.now c.args.left _ c.in_ok-index.form.now c.in_ok-index.ensures.form.1) s) c.len.ensures c.in_err-check_count.ensures)
+    rw (p.1, p.2) (exits.list_count_exit c.args.names.now c.args.table.now.entries c.args.left c.args.weight c.args.sum c.args.slot c.args.name.now c.args.inside.now items n s _ c.in_ok-index.form.now c.in_ok-items.items c.in_ok-items.sum c.len.result c.in_ok-check_list.ensures c.in_ok-index.ensures.form.1
+    (c.in_ok-items.ensures.value (index_of c.args.names.now c.args.name.now) items (arms.form_there c.args.table.now.entries c.args.left _ c.in_ok-index.form.now c.in_ok-index.ensures.form.1) s) c.len.ensures c.in_err-check_count.ensures)
 
 pub read_list-returns-clause-value : goal.read_list-returns-clause-value
 read_list-returns-clause-value t c = λ items n s.
-    exits.list_end c.args.names.now c.args.table.now c.args.left c.args.weight c.args.sum c.args.slot c.args.name.now c.args.inside.now items n s c.in_ok-index.index c.in_ok-index.form.now c.in_ok-items.items c.in_ok-items.sum c.len.result c.in_ok-check_list.ensures c.in_ok-index.ensures.form
-    (c.in_ok-items.ensures.value (index_of c.args.names.now c.args.name.now) items (arms.form_there c.args.table.now c.args.left _ c.in_ok-index.form.now c.in_ok-index.ensures.form.1) s) c.len.ensures c.in_ok-check_count.ensures
+    exits.list_end c.args.names.now c.args.table.now.entries c.args.left c.args.weight c.args.sum c.args.slot c.args.name.now c.args.inside.now items n s c.in_ok-index.index c.in_ok-index.form.now c.in_ok-items.items c.in_ok-items.sum c.len.result c.in_ok-check_list.ensures c.in_ok-index.ensures.form
+    (c.in_ok-items.ensures.value (index_of c.args.names.now c.args.name.now) items (arms.form_there c.args.table.now.entries c.args.left _ c.in_ok-index.form.now c.in_ok-index.ensures.form.1) s) c.len.ensures c.in_ok-check_count.ensures
 
 pub read_front-returns-in_default-clause-value : goal.read_front-returns-in_default-clause-value
 read_front-returns-in_default-clause-value t c =
-    rw c.into-in_default.ensures (loops.front_unspelled c.args.names.now c.args.table.now c.args.left c.args.slot c.args.weight c.args.sum c.args.text.now c.skip_spaces-text.result.now c.skip_spaces-text.ensures.rest c.if-is_empty.ensures
+    rw c.into-in_default.ensures (loops.front_unspelled c.args.names.now c.args.table.now.entries c.args.left c.args.slot c.args.weight c.args.sum c.args.text.now c.skip_spaces-text.result.now c.skip_spaces-text.ensures.rest c.if-is_empty.ensures
     (subst (λ o. IsValue c.skip_spaces-text.result.now o) c.in_default.is c.in_ok-spelling.ensures.value))
 
 pub read_item-returns-in_err-args-clause-value : goal.read_item-returns-in_err-args-clause-value
 read_item-returns-in_err-args-clause-value t c = λ v ss m s.
     let p = err_from_is_err_and c.from_residual-in_err-args.result c.from_residual-in_err-args.ensures.1 in
-    let inside = loops.inside_gives c.args.names.now c.args.table.now c.args.left c.args.weight one_head (places_of c.in_ok-pieces.pieces.now) c.in_ok-sum.sum c.args.inside.now (Err c.in_err-args.field-0.0) c.in_err-args.ensures.value ss s in
-    rw (p.1, p.2) (exits.item_values_exit c.args.names.now c.args.table.now c.args.left c.args.weight c.args.sum c.args.form.now v ss c.in_err-args.field-0.0 c.in_ok-sum.sum c.in_ok-pieces.pieces.now c.in_ok-sum.ensures.value (c.in_ok-pieces.ensures v m).0 inside)
+    let inside = loops.inside_gives c.args.names.now c.args.table.now.entries c.args.left c.args.weight one_head (places_of c.in_ok-pieces.pieces.now) c.in_ok-sum.sum c.args.inside.now (Err c.in_err-args.field-0.0) c.in_err-args.ensures.value ss s in
+    rw (p.1, p.2) (exits.item_values_exit c.args.names.now c.args.table.now.entries c.args.left c.args.weight c.args.sum c.args.form.now v ss c.in_err-args.field-0.0 c.in_ok-sum.sum c.in_ok-pieces.pieces.now c.in_ok-sum.ensures.value (c.in_ok-pieces.ensures v m).0 inside)
 
 pub read_item-returns-clause-value : goal.read_item-returns-clause-value
 read_item-returns-clause-value t c = λ v ss m s.
-    let inside = loops.inside_gives c.args.names.now c.args.table.now c.args.left c.args.weight one_head (places_of c.in_ok-pieces.pieces.now) c.in_ok-sum.sum c.args.inside.now (Ok (c.in_ok-args.args, c.in_ok-args.sum)) c.in_ok-args.ensures.value ss s in
-    exits.item_end c.args.names.now c.args.table.now c.args.left c.args.weight c.args.sum c.args.form.now v ss c.in_ok-sum.sum c.in_ok-pieces.pieces.now c.in_ok-pieces.variant c.in_ok-args.args c.in_ok-args.sum c.in_ok-sum.ensures.value (c.in_ok-pieces.ensures v m) inside
+    let inside = loops.inside_gives c.args.names.now c.args.table.now.entries c.args.left c.args.weight one_head (places_of c.in_ok-pieces.pieces.now) c.in_ok-sum.sum c.args.inside.now (Ok (c.in_ok-args.args, c.in_ok-args.sum)) c.in_ok-args.ensures.value ss s in
+    exits.item_end c.args.names.now c.args.table.now.entries c.args.left c.args.weight c.args.sum c.args.form.now v ss c.in_ok-sum.sum c.in_ok-pieces.pieces.now c.in_ok-pieces.variant c.in_ok-args.args c.in_ok-args.sum c.in_ok-sum.ensures.value (c.in_ok-pieces.ensures v m) inside
 
 pub read_items-returns-in_err-item-clause-value : goal.read_items-returns-in_err-item-clause-value
 read_items-returns-in_err-item-clause-value t c = λ index items there s.
     let p = err_from_is_err_and c.from_residual-in_err-item.result c.from_residual-in_err-item.ensures.1 in
     let f = c.each.invariant.left index items there s in
     let told = loops.told_item one_item c.each.rest.now c.skip_spaces.result.now f.others c.in_ok-told.field-0 c.in-Some.told c.in-Some.more c.skip_spaces.ensures.rest c.in_ok-told.ensures.item c.in-Some.is f.spelled in
-    rw (p.1, p.2) (loops.item_exit c.args.names.now c.args.table.now c.args.left c.args.weight c.args.form.now index c.args.sum items there c.each.items c.each.total c.each.rest.now f told.variant told.shapes told.more told.is _ (c.in_err-item.ensures.value told.variant told.shapes told.holds told.spelled))
+    rw (p.1, p.2) (loops.item_exit c.args.names.now c.args.table.now.entries c.args.left c.args.weight c.args.form.now index c.args.sum items there c.each.items c.each.total c.each.rest.now f told.variant told.shapes told.more told.is _ (c.in_err-item.ensures.value told.variant told.shapes told.holds told.spelled))
 
 pub read_items-each-preserved : goal.read_items-each-preserved
 read_items-each-preserved t c = record {
@@ -91,7 +91,7 @@ read_items-each-preserved t c = record {
       let f = c.each.invariant.left index items there s in
       let told = loops.told_item one_item c.each.rest.now c.skip_spaces.result.now f.others c.in_ok-told.field-0 c.in-Some.told c.in-Some.more c.skip_spaces.ensures.rest c.in_ok-told.ensures.item c.in-Some.is f.spelled in
       let v = c.in_ok-item.ensures.value told.variant told.shapes told.holds told.spelled in
-      loops.item_done c.args.names.now c.args.table.now c.args.left c.args.weight c.args.form.now index c.args.sum items there c.each.items c.each.total c.each.rest.now f told.variant told.shapes told.more told.is c.in_ok-item.item.variant c.in_ok-item.item.args c.in_ok-item.next c.push.new.self c.in-Some.more.now v.0 v.1 v.2 c.in_ok-push.ensures.ok told.later;
+      loops.item_done c.args.names.now c.args.table.now.entries c.args.left c.args.weight c.args.form.now index c.args.sum items there c.each.items c.each.total c.each.rest.now f told.variant told.shapes told.more told.is c.in_ok-item.item.variant c.in_ok-item.item.args c.in_ok-item.next c.push.new.self c.in-Some.more.now v.0 v.1 v.2 c.in_ok-push.ensures.ok told.later;
 }
 
 pub read_items-each-smaller : goal.read_items-each-smaller
@@ -100,13 +100,13 @@ read_items-each-smaller t c = loops.told_shorter c.each.rest.now c.skip_spaces.r
 pub read_items-returns-clause-value : goal.read_items-returns-clause-value
 read_items-returns-clause-value t c = λ index items there s.
     let f = c.each.invariant.left index items there s in
-    loops.no_items_left c.args.names.now c.args.table.now c.args.left c.args.weight c.args.form.now index c.args.sum items there c.each.items c.each.total c.each.rest.now f
+    loops.no_items_left c.args.names.now c.args.table.now.entries c.args.left c.args.weight c.args.form.now index c.args.sum items there c.each.items c.each.total c.each.rest.now f
     (loops.told_none c.each.rest.now c.skip_spaces.result.now f.others c.in_ok-told.field-0 c.skip_spaces.ensures.rest c.in_ok-told.ensures.item c.in_default.is f.spelled)
 
 pub read_values-returns-in_err-value-clause-value : goal.read_values-returns-in_err-value-clause-value
 read_values-returns-in_err-value-clause-value t c =
     let p = err_from_is_err_and c.from_residual.result c.from_residual.ensures.1 in
-    rw (p.1, p.2) (loops.one_exit c.args.names.now c.args.table.now c.args.left c.args.weight c.args.pieces.now (places_of c.args.pieces.now) c.args.sum c.args.text.now c.each.args c.each.position c.each.slots.now c.each.total c.each.rest.now c.each.invariant.follows
+    rw (p.1, p.2) (loops.one_exit c.args.names.now c.args.table.now.entries c.args.left c.args.weight c.args.pieces.now (places_of c.args.pieces.now) c.args.sum c.args.text.now c.each.args c.each.position c.each.slots.now c.each.total c.each.rest.now c.each.invariant.follows
     c.in-Some.slot.now c.in-Some.others.now c.saturating_mul-weight_there.result _ c.in-Some.ensures (rw (← c.uses.ensures) c.saturating_mul-weight_there.ensures) c.in_err-value.ensures.value)
 
 pub read_values-each-preserved : goal.read_values-each-preserved
@@ -115,16 +115,16 @@ read_values-each-preserved t c = record {
   few = scans.few_left c.each.position c.each.slots.now c.in-Some.slot.now c.in-Some.others.now c.in-Some.ensures c.each.invariant.few;
   utf8 = c.in_ok-value.ensures.utf8;
   sound = loops.sound_others c.each.slots.now c.in-Some.others.now c.in-Some.slot.now c.in-Some.ensures c.each.invariant.sound;
-  follows = loops.one_done c.args.names.now c.args.table.now c.args.left c.args.weight c.args.pieces.now (places_of c.args.pieces.now) c.args.sum c.args.text.now c.each.args c.each.position c.each.slots.now c.each.total c.each.rest.now c.each.invariant.follows
+  follows = loops.one_done c.args.names.now c.args.table.now.entries c.args.left c.args.weight c.args.pieces.now (places_of c.args.pieces.now) c.args.sum c.args.text.now c.each.args c.each.position c.each.slots.now c.each.total c.each.rest.now c.each.invariant.follows
       c.in-Some.slot.now c.in-Some.others.now c.saturating_mul-weight_there.result (plain c.in_ok-value.value) c.in_ok-value.next c.in_ok-value.after.now c.push.new.self c.in-Some.ensures (rw (← c.uses.ensures) c.saturating_mul-weight_there.ensures) c.in_ok-value.ensures.value c.in_ok-push.ensures.ok;
 }
 
 pub read_values-returns-then-is_empty-clause-value : goal.read_values-returns-then-is_empty-clause-value
 read_values-returns-then-is_empty-clause-value t c =
-    loops.all_done c.args.names.now c.args.table.now c.args.left c.args.weight c.args.pieces.now (places_of c.args.pieces.now) c.args.sum c.args.text.now c.each.args c.each.position c.each.slots.now c.each.total c.each.rest.now c.each.invariant.follows
+    loops.all_done c.args.names.now c.args.table.now.entries c.args.left c.args.weight c.args.pieces.now (places_of c.args.pieces.now) c.args.sum c.args.text.now c.each.args c.each.position c.each.slots.now c.each.total c.each.rest.now c.each.invariant.follows
     c.in_default.ensures (sym c.skip_spaces.ensures.rest ∙ loops.empty_is c.skip_spaces.result.now (sym c.if-is_empty.ensures))
 
 pub read_values-returns-else-is_empty-clause-value : goal.read_values-returns-else-is_empty-clause-value
 read_values-returns-else-is_empty-clause-value t c =
-    rw c.into.ensures (loops.one_too_many c.args.names.now c.args.table.now c.args.left c.args.weight c.args.pieces.now (places_of c.args.pieces.now) c.args.sum c.args.text.now c.each.args c.each.position c.each.slots.now c.each.total c.each.rest.now c.each.invariant.follows
+    rw c.into.ensures (loops.one_too_many c.args.names.now c.args.table.now.entries c.args.left c.args.weight c.args.pieces.now (places_of c.args.pieces.now) c.args.sum c.args.text.now c.each.args c.each.position c.each.slots.now c.each.total c.each.rest.now c.each.invariant.follows
     c.in_default.ensures (loops.starts_is c.each.rest.now (rw (← c.skip_spaces.ensures.rest) (sym c.if-is_empty.ensures))))

@@ -34,7 +34,7 @@ invariant-read_values-each l = record {
   few : l.position + length l.slots ≤ 16;
   utf8 : IsUtf8 l.rest;
   sound : All IsSound l.slots;
-  follows : Follows l.names l.table l.left l.weight (places_of l.pieces) l.sum l.text l.args (places_from l.pieces l.position l.slots) l.total l.rest;
+  follows : Follows l.names l.table.entries l.left l.weight (places_of l.pieces) l.sum l.text l.args (places_from l.pieces l.position l.slots) l.total l.rest;
 }
 
 abbrev pub decreases-read_values-each : goal.decreases-read_values-each
@@ -44,7 +44,7 @@ abbrev pub invariant-read_items-each : goal.invariant-read_items-each
 invariant-read_items-each l = record {
   small : l.total ≤ 8192;
   utf8 : IsUtf8 l.rest;
-  left : (index : ℕ) (items : Items) → form_at l.table index ≡ Ok l.form → SpellsItems l.text items → ItemsLeft l.names l.table l.left l.weight l.form index l.sum items l.items l.total l.rest;
+  left : (index : ℕ) (items : Items) → form_at l.table.entries index ≡ Ok l.form → SpellsItems l.text items → ItemsLeft l.names l.table.entries l.left l.weight l.form index l.sum items l.items l.total l.rest;
 }
 
 abbrev pub decreases-read_items-each : goal.decreases-read_items-each
