@@ -1,0 +1,261 @@
+-- The nine lines that set up a generated script, and the state behind them.
+use Rattle.std.proofs.Common.{◌≡◌, ◌+◌, ℕ, Bool, true, false, List, [], ◌∷◌, ◌++◌, Option, Some, None, Result, Ok, Err, refl, sym, ap, subst, ◌∙◌, inl, inr, lit≤}
+use Rattle.std.specs.Prelude.{codes, if◌then◌else◌, is_some, nat_lt, not}
+use Rattle.std.specs.FinMap as map
+use Rattle.std.specs.Cmp.{nat_cmp_total}
+use Rattle.std.specs.Cmp.Lexicographic.{nat_list_cmp_total, slice_cmp}
+use Rattle.std.specs.Ordering.{nat_cmp}
+use Rattle.defmt_generated.proofs.Fields.{said}
+use Rattle.defmt_generated.proofs.Texts.{tested}
+use Rattle.defmt_generated.proofs.Words.{boot_pieces, boot_spells, fail_pieces, fail_spells, link_pieces, link_spells, temp_pieces, temp_spells, tick_pieces, tick_spells}
+use Rattle.defmt_generated.specs.Lines.{head_lines}
+use Rattle.defmt_grammar.specs.Cut.{cut}
+use Rattle.defmt_grammar.specs.declared.fault.Mode.TheVariants.{Strict}
+use Rattle.defmt_intern.specs.Table.{Map}
+use Rattle.defmt_intern.specs.declared.entry.Entry.{Entry}
+use Rattle.defmt_intern.specs.declared.entry.Tag.{Tag}
+use Rattle.defmt_intern.specs.declared.entry.Tag.TheVariants as tags
+use Rattle.defmt_lines.specs.Form.{in_order}
+use Rattle.defmt_lines.specs.Line.{Line, entry, entry_of, field_and_rest, is_name, line_of, mode, one_field, reader, ring, stamp, two_fields, worded}
+use Rattle.defmt_lines.specs.Number.{has_leading_zero, is_digits, number_within, within}
+use Rattle.defmt_lines.specs.Settings.{with_mode, with_reader, with_ring, with_stamp}
+use Rattle.defmt_lines.specs.Verdict.{Judges}
+use Rattle.defmt_lines.specs.declared.cause.Cause.{Cause}
+use Rattle.defmt_lines.specs.declared.cause.Cause.TheVariants as causes
+use Rattle.defmt_lines.specs.declared.form.Form.{Form}
+use Rattle.defmt_lines.specs.declared.form.Form.TheVariants as forms
+use Rattle.defmt_lines.specs.declared.settings.RingMode.TheVariants.{Block}
+use Rattle.defmt_script.specs.Reads.{ReadsLines, Takes, TakesString, admits_string, takes_string, with_string}
+use Rattle.defmt_script.specs.Script.{Refusal, Script}
+use Rattle.defmt_script.specs.State.{State, entry_at, no_lines, no_statements, stamp_entry, strings_limit}
+use Rattle.defmt_spelling.specs.Names.{NameMap}
+
+abbrev Answer : Type 0
+Answer = Result Script Refusal
+
+abbrev Taken : Type 0
+Taken = Result State Cause
+
+-- ---- states
+
+-- the settings so far, and no string
+abbrev settled : Form → Option (ℕ × ℕ) → State
+settled form stamps = record {
+  first = form;
+  strings = 0;
+  statements = 0;
+  script = record {
+    settings = record { ring = 1024; mode = Block; late = false; stamp = stamps };
+    table = map.empty;
+    names = map.empty;
+    writers = no_statements;
+  };
+}
+
+abbrev s0 : State
+s0 = settled forms.Entry (Some (1000, 250))
+
+abbrev s1 : State
+s1 = with_string s0 (codes "boot") tags.Info (codes "boot {=u8}")
+
+abbrev s2 : State
+s2 = with_string s1 (codes "temp") tags.Debug (codes "temp {=i16} of {=[u8]:02x}")
+
+abbrev s3 : State
+s3 = with_string s2 (codes "link") tags.Warn (codes "link {=bool} {=str:?}")
+
+abbrev s4 : State
+s4 = with_string s3 (codes "fail") tags.Error (codes "fail {=u32:#010x}")
+
+-- behind the nine lines
+abbrev pub ready : State
+ready = with_string s4 (codes "tick") tags.Trace (codes "tick {=u64}")
+
+-- ---- names and entries
+
+abbrev Named : Type 0
+Named = List (List ℕ × ℕ)
+
+abbrev names1 : Named
+names1 = (codes "boot", 1) ∷ []
+
+abbrev names2 : Named
+names2 = (codes "temp", 2) ∷ names1
+
+abbrev names3 : Named
+names3 = (codes "link", 3) ∷ names2
+
+abbrev names4 : Named
+names4 = (codes "fail", 4) ∷ names3
+
+abbrev names5 : Named
+names5 = (codes "tick", 5) ∷ names4
+
+abbrev pub all_names : NameMap
+all_names = map.from_entries names5
+
+abbrev Entries : Type 0
+Entries = List (ℕ × Entry)
+
+abbrev entries : Entries
+entries =
+    (6, stamp_entry 6)
+    ∷ (5, entry_at 5 tags.Trace (codes "tick {=u64}"))
+    ∷ (4, entry_at 4 tags.Error (codes "fail {=u32:#010x}"))
+    ∷ (3, entry_at 3 tags.Warn (codes "link {=bool} {=str:?}"))
+    ∷ (2, entry_at 2 tags.Debug (codes "temp {=i16} of {=[u8]:02x}"))
+    ∷ (1, entry_at 1 tags.Info (codes "boot {=u8}")) ∷ []
+
+abbrev pub full_table : Map
+full_table = map.from_entries entries
+
+pub name_there : (name : List ℕ) (index : Option ℕ) → map.find (slice_cmp nat_cmp) name names5 ≡ index → map.get all_names name ≡ index
+name_there name index is = map.get-from_entries nat_list_cmp_total names5 name ∙ is
+
+pub entry_there : (index : ℕ) (o : Option Entry) → map.find nat_cmp index entries ≡ o → map.get full_table index ≡ o
+entry_there index o is = map.get-from_entries nat_cmp_total entries index ∙ is
+
+new_name : (es : Named) (name : List ℕ) → map.find (slice_cmp nat_cmp) name es ≡ None → map.get (map.from_entries {R = slice_cmp nat_cmp} es) name ≡ None
+new_name es name none = map.get-from_entries nat_list_cmp_total es name ∙ none
+
+-- ---- a line
+
+line_taken : (before after : State) (number : ℕ) (bytes : List ℕ) (line : Line) (more : List (List ℕ)) (read : Answer)
+    → line_of bytes ≡ line → Takes before line (Ok after) → ReadsLines after (number + 1) more read → ReadsLines before number (bytes ∷ more) read
+line_taken before after number bytes line more read is takes rest = inl (after, subst (λ (l : Line). Takes before l (Ok after)) (sym is) takes, rest)
+
+-- ---- settings
+
+ring_taken : Takes no_lines (ring (codes "1024")) (Ok (settled forms.Mode None))
+unfolding with_ring number_within is_digits has_leading_zero within
+ring_taken = refl
+
+mode_taken : Takes (settled forms.Mode None) (mode (codes "block")) (Ok (settled forms.Reader None))
+unfolding with_mode
+mode_taken = refl
+
+reader_taken : Takes (settled forms.Reader None) (reader (codes "live")) (Ok (settled forms.Stamp None))
+unfolding with_reader
+reader_taken = refl
+
+stamp_taken : Takes (settled forms.Stamp None) (stamp (codes "1000") (codes "250")) (Ok s0)
+unfolding with_stamp number_within is_digits has_leading_zero within
+stamp_taken = refl
+
+ring_said : line_of (codes "ring 1024") ≡ ring (codes "1024")
+unfolding worded one_field cut
+ring_said = said (codes "ring 1024") (ring (codes "1024")) (tested (codes "ring 1024") refl) refl
+
+mode_said : line_of (codes "mode block") ≡ mode (codes "block")
+unfolding worded one_field cut
+mode_said = said (codes "mode block") (mode (codes "block")) (tested (codes "mode block") refl) refl
+
+reader_said : line_of (codes "reader live") ≡ reader (codes "live")
+unfolding worded one_field cut
+reader_said = said (codes "reader live") (reader (codes "live")) (tested (codes "reader live") refl) refl
+
+stamp_said : line_of (codes "stamp 1000 250") ≡ stamp (codes "1000") (codes "250")
+unfolding worded one_field two_fields cut
+stamp_said = said (codes "stamp 1000 250") (stamp (codes "1000") (codes "250")) (tested (codes "stamp 1000 250") refl) refl
+
+-- ---- strings
+
+abbrev Admitted : Type 0
+Admitted = Result (Unit {0}) Cause
+
+abbrev admits : Admitted
+admits = Ok tt
+
+abbrev refuses : Cause → Admitted
+refuses cause = Err cause
+
+admitted : (a b c : Bool) → a ≡ true → b ≡ true → c ≡ false → (if not a then refuses causes.Line else if not b then refuses causes.Name else if c then refuses causes.Double else admits) ≡ admits
+admitted true true false e f g = refl
+admitted true true true e f g = absurd (cc g)
+admitted true false c e f g = absurd (cc f)
+admitted false b c e f g = absurd (cc e)
+
+string_taken : (s : State) (name : List ℕ) (tag : Tag) (text : List ℕ) → in_order s.first forms.Entry ≡ true → is_name name ≡ true → map.get s.script.names name ≡ None
+    → nat_lt s.strings strings_limit ≡ true → Judges tag text None → Takes s (entry name tag text) (Ok (with_string s name tag text))
+string_taken s name tag text first spelled new few judged =
+    let taken : Taken = Ok (with_string s name tag text) in
+    let fits : admits_string s name ≡ admits = admitted (in_order s.first forms.Entry) (is_name name) (is_some (map.get s.script.names name)) first spelled (ap is_some new) in
+    let here : taken ≡ takes_string s name tag text None = rw few refl in
+    subst (λ (a : Admitted). TakesString s name tag text a taken) (sym fits) (None, judged, here)
+
+boot_judged : Judges tags.Info (codes "boot {=u8}") None
+unfolding Judges
+boot_judged = inr (lit≤ tt, inl (boot_pieces, boot_spells Strict, refl))
+
+boot_taken : Takes s0 (entry (codes "boot") tags.Info (codes "boot {=u8}")) (Ok s1)
+boot_taken = string_taken s0 (codes "boot") tags.Info (codes "boot {=u8}") refl refl (new_name [] (codes "boot") refl) refl boot_judged
+
+boot_said : line_of (codes "s boot defmt_info boot {=u8}") ≡ entry (codes "boot") tags.Info (codes "boot {=u8}")
+unfolding worded entry_of field_and_rest cut
+boot_said = said (codes "s boot defmt_info boot {=u8}") (entry (codes "boot") tags.Info (codes "boot {=u8}")) (tested (codes "s boot defmt_info boot {=u8}") refl) refl
+
+temp_judged : Judges tags.Debug (codes "temp {=i16} of {=[u8]:02x}") None
+unfolding Judges
+temp_judged = inr (lit≤ tt, inl (temp_pieces, temp_spells Strict, refl))
+
+temp_taken : Takes s1 (entry (codes "temp") tags.Debug (codes "temp {=i16} of {=[u8]:02x}")) (Ok s2)
+temp_taken = string_taken s1 (codes "temp") tags.Debug (codes "temp {=i16} of {=[u8]:02x}") refl refl (new_name names1 (codes "temp") refl) refl temp_judged
+
+temp_said : line_of (codes "s temp defmt_debug temp {=i16} of {=[u8]:02x}") ≡ entry (codes "temp") tags.Debug (codes "temp {=i16} of {=[u8]:02x}")
+unfolding worded entry_of field_and_rest cut
+temp_said = said (codes "s temp defmt_debug temp {=i16} of {=[u8]:02x}") (entry (codes "temp") tags.Debug (codes "temp {=i16} of {=[u8]:02x}")) (tested (codes "s temp defmt_debug temp {=i16} of {=[u8]:02x}") refl) refl
+
+link_judged : Judges tags.Warn (codes "link {=bool} {=str:?}") None
+unfolding Judges
+link_judged = inr (lit≤ tt, inl (link_pieces, link_spells Strict, refl))
+
+link_taken : Takes s2 (entry (codes "link") tags.Warn (codes "link {=bool} {=str:?}")) (Ok s3)
+link_taken = string_taken s2 (codes "link") tags.Warn (codes "link {=bool} {=str:?}") refl refl (new_name names2 (codes "link") refl) refl link_judged
+
+link_said : line_of (codes "s link defmt_warn link {=bool} {=str:?}") ≡ entry (codes "link") tags.Warn (codes "link {=bool} {=str:?}")
+unfolding worded entry_of field_and_rest cut
+link_said = said (codes "s link defmt_warn link {=bool} {=str:?}") (entry (codes "link") tags.Warn (codes "link {=bool} {=str:?}")) (tested (codes "s link defmt_warn link {=bool} {=str:?}") refl) refl
+
+fail_judged : Judges tags.Error (codes "fail {=u32:#010x}") None
+unfolding Judges
+fail_judged = inr (lit≤ tt, inl (fail_pieces, fail_spells Strict, refl))
+
+fail_taken : Takes s3 (entry (codes "fail") tags.Error (codes "fail {=u32:#010x}")) (Ok s4)
+fail_taken = string_taken s3 (codes "fail") tags.Error (codes "fail {=u32:#010x}") refl refl (new_name names3 (codes "fail") refl) refl fail_judged
+
+fail_said : line_of (codes "s fail defmt_error fail {=u32:#010x}") ≡ entry (codes "fail") tags.Error (codes "fail {=u32:#010x}")
+unfolding worded entry_of field_and_rest cut
+fail_said = said (codes "s fail defmt_error fail {=u32:#010x}") (entry (codes "fail") tags.Error (codes "fail {=u32:#010x}")) (tested (codes "s fail defmt_error fail {=u32:#010x}") refl) refl
+
+tick_judged : Judges tags.Trace (codes "tick {=u64}") None
+unfolding Judges
+tick_judged = inr (lit≤ tt, inl (tick_pieces, tick_spells Strict, refl))
+
+tick_taken : Takes s4 (entry (codes "tick") tags.Trace (codes "tick {=u64}")) (Ok ready)
+tick_taken = string_taken s4 (codes "tick") tags.Trace (codes "tick {=u64}") refl refl (new_name names4 (codes "tick") refl) refl tick_judged
+
+tick_said : line_of (codes "s tick defmt_trace tick {=u64}") ≡ entry (codes "tick") tags.Trace (codes "tick {=u64}")
+unfolding worded entry_of field_and_rest cut
+tick_said = said (codes "s tick defmt_trace tick {=u64}") (entry (codes "tick") tags.Trace (codes "tick {=u64}")) (tested (codes "s tick defmt_trace tick {=u64}") refl) refl
+
+-- ---- all nine
+
+pub head_read : (more : List (List ℕ)) (read : Answer) → ReadsLines ready 10 more read → ReadsLines no_lines 1 (head_lines ++ more) read
+head_read more read rest =
+    let from_tick : List (List ℕ) = codes "s tick defmt_trace tick {=u64}" ∷ more in
+    let tick_on : ReadsLines s4 9 from_tick read = line_taken s4 ready 9 (codes "s tick defmt_trace tick {=u64}") (entry (codes "tick") tags.Trace (codes "tick {=u64}")) more read tick_said tick_taken rest in
+    let from_fail : List (List ℕ) = codes "s fail defmt_error fail {=u32:#010x}" ∷ from_tick in
+    let fail_on : ReadsLines s3 8 from_fail read = line_taken s3 s4 8 (codes "s fail defmt_error fail {=u32:#010x}") (entry (codes "fail") tags.Error (codes "fail {=u32:#010x}")) from_tick read fail_said fail_taken tick_on in
+    let from_link : List (List ℕ) = codes "s link defmt_warn link {=bool} {=str:?}" ∷ from_fail in
+    let link_on : ReadsLines s2 7 from_link read = line_taken s2 s3 7 (codes "s link defmt_warn link {=bool} {=str:?}") (entry (codes "link") tags.Warn (codes "link {=bool} {=str:?}")) from_fail read link_said link_taken fail_on in
+    let from_temp : List (List ℕ) = codes "s temp defmt_debug temp {=i16} of {=[u8]:02x}" ∷ from_link in
+    let temp_on : ReadsLines s1 6 from_temp read = line_taken s1 s2 6 (codes "s temp defmt_debug temp {=i16} of {=[u8]:02x}") (entry (codes "temp") tags.Debug (codes "temp {=i16} of {=[u8]:02x}")) from_link read temp_said temp_taken link_on in
+    let from_boot : List (List ℕ) = codes "s boot defmt_info boot {=u8}" ∷ from_temp in
+    let boot_on : ReadsLines s0 5 from_boot read = line_taken s0 s1 5 (codes "s boot defmt_info boot {=u8}") (entry (codes "boot") tags.Info (codes "boot {=u8}")) from_temp read boot_said boot_taken temp_on in
+    let from_stamp : List (List ℕ) = codes "stamp 1000 250" ∷ from_boot in
+    let stamp_on : ReadsLines (settled forms.Stamp None) 4 from_stamp read = line_taken (settled forms.Stamp None) s0 4 (codes "stamp 1000 250") (stamp (codes "1000") (codes "250")) from_boot read stamp_said stamp_taken boot_on in
+    let from_reader : List (List ℕ) = codes "reader live" ∷ from_stamp in
+    let reader_on : ReadsLines (settled forms.Reader None) 3 from_reader read = line_taken (settled forms.Reader None) (settled forms.Stamp None) 3 (codes "reader live") (reader (codes "live")) from_stamp read reader_said reader_taken stamp_on in
+    let from_mode : List (List ℕ) = codes "mode block" ∷ from_reader in
+    let mode_on : ReadsLines (settled forms.Mode None) 2 from_mode read = line_taken (settled forms.Mode None) (settled forms.Reader None) 2 (codes "mode block") (mode (codes "block")) from_reader read mode_said mode_taken reader_on in
+    line_taken no_lines (settled forms.Mode None) 1 (codes "ring 1024") (ring (codes "1024")) from_mode read ring_said ring_taken mode_on
