@@ -52,47 +52,47 @@ settled form stamps = record {
   };
 }
 
-abbrev s0 : State
-s0 = settled forms.Entry (Some (1000, 250))
+abbrev no_strings : State
+no_strings = settled forms.Entry (Some (1000, 250))
 
-abbrev s1 : State
-s1 = with_string s0 (codes "boot") tags.Info (codes "boot {=u8}")
+abbrev one_string : State
+one_string = with_string no_strings (codes "boot") tags.Info (codes "boot {=u8}")
 
-abbrev s2 : State
-s2 = with_string s1 (codes "temp") tags.Debug (codes "temp {=i16} of {=[u8]:02x}")
+abbrev two_strings : State
+two_strings = with_string one_string (codes "temp") tags.Debug (codes "temp {=i16} of {=[u8]:02x}")
 
-abbrev s3 : State
-s3 = with_string s2 (codes "link") tags.Warn (codes "link {=bool} {=str:?}")
+abbrev three_strings : State
+three_strings = with_string two_strings (codes "link") tags.Warn (codes "link {=bool} {=str:?}")
 
-abbrev s4 : State
-s4 = with_string s3 (codes "fail") tags.Error (codes "fail {=u32:#010x}")
+abbrev four_strings : State
+four_strings = with_string three_strings (codes "fail") tags.Error (codes "fail {=u32:#010x}")
 
 -- behind the nine lines
 abbrev pub ready : State
-ready = with_string s4 (codes "tick") tags.Trace (codes "tick {=u64}")
+ready = with_string four_strings (codes "tick") tags.Trace (codes "tick {=u64}")
 
 -- ---- names and entries
 
 abbrev Named : Type 0
 Named = List (List ℕ × ℕ)
 
-abbrev names1 : Named
-names1 = (codes "boot", 1) ∷ []
+abbrev one_name : Named
+one_name = (codes "boot", 1) ∷ []
 
-abbrev names2 : Named
-names2 = (codes "temp", 2) ∷ names1
+abbrev two_names : Named
+two_names = (codes "temp", 2) ∷ one_name
 
-abbrev names3 : Named
-names3 = (codes "link", 3) ∷ names2
+abbrev three_names : Named
+three_names = (codes "link", 3) ∷ two_names
 
-abbrev names4 : Named
-names4 = (codes "fail", 4) ∷ names3
+abbrev four_names : Named
+four_names = (codes "fail", 4) ∷ three_names
 
-abbrev names5 : Named
-names5 = (codes "tick", 5) ∷ names4
+abbrev five_names : Named
+five_names = (codes "tick", 5) ∷ four_names
 
 abbrev pub all_names : NameMap
-all_names = map.from_entries names5
+all_names = map.from_entries five_names
 
 abbrev Entries : Type 0
 Entries = List (ℕ × Entry)
@@ -109,8 +109,8 @@ entries =
 abbrev pub full_table : Map
 full_table = map.from_entries entries
 
-pub name_there : (name : List ℕ) (index : Option ℕ) → map.find (slice_cmp nat_cmp) name names5 ≡ index → map.get all_names name ≡ index
-name_there name index is = map.get-from_entries nat_list_cmp_total names5 name ∙ is
+pub name_there : (name : List ℕ) (index : Option ℕ) → map.find (slice_cmp nat_cmp) name five_names ≡ index → map.get all_names name ≡ index
+name_there name index is = map.get-from_entries nat_list_cmp_total five_names name ∙ is
 
 pub entry_there : (index : ℕ) (o : Option Entry) → map.find nat_cmp index entries ≡ o → map.get full_table index ≡ o
 entry_there index o is = map.get-from_entries nat_cmp_total entries index ∙ is
@@ -138,7 +138,7 @@ reader_taken : Takes (settled forms.Reader None) (reader (codes "live")) (Ok (se
 unfolding with_reader
 reader_taken = refl
 
-stamp_taken : Takes (settled forms.Stamp None) (stamp (codes "1000") (codes "250")) (Ok s0)
+stamp_taken : Takes (settled forms.Stamp None) (stamp (codes "1000") (codes "250")) (Ok no_strings)
 unfolding with_stamp number_within is_digits has_leading_zero within
 stamp_taken = refl
 
@@ -187,8 +187,8 @@ boot_judged : Judges tags.Info (codes "boot {=u8}") None
 unfolding Judges
 boot_judged = inr (lit≤ tt, inl (boot_pieces, boot_spells Strict, refl))
 
-boot_taken : Takes s0 (entry (codes "boot") tags.Info (codes "boot {=u8}")) (Ok s1)
-boot_taken = string_taken s0 (codes "boot") tags.Info (codes "boot {=u8}") refl refl (new_name [] (codes "boot") refl) refl boot_judged
+boot_taken : Takes no_strings (entry (codes "boot") tags.Info (codes "boot {=u8}")) (Ok one_string)
+boot_taken = string_taken no_strings (codes "boot") tags.Info (codes "boot {=u8}") refl refl (new_name [] (codes "boot") refl) refl boot_judged
 
 boot_said : line_of (codes "s boot defmt_info boot {=u8}") ≡ entry (codes "boot") tags.Info (codes "boot {=u8}")
 unfolding worded entry_of field_and_rest cut
@@ -198,8 +198,8 @@ temp_judged : Judges tags.Debug (codes "temp {=i16} of {=[u8]:02x}") None
 unfolding Judges
 temp_judged = inr (lit≤ tt, inl (temp_pieces, temp_spells Strict, refl))
 
-temp_taken : Takes s1 (entry (codes "temp") tags.Debug (codes "temp {=i16} of {=[u8]:02x}")) (Ok s2)
-temp_taken = string_taken s1 (codes "temp") tags.Debug (codes "temp {=i16} of {=[u8]:02x}") refl refl (new_name names1 (codes "temp") refl) refl temp_judged
+temp_taken : Takes one_string (entry (codes "temp") tags.Debug (codes "temp {=i16} of {=[u8]:02x}")) (Ok two_strings)
+temp_taken = string_taken one_string (codes "temp") tags.Debug (codes "temp {=i16} of {=[u8]:02x}") refl refl (new_name one_name (codes "temp") refl) refl temp_judged
 
 temp_said : line_of (codes "s temp defmt_debug temp {=i16} of {=[u8]:02x}") ≡ entry (codes "temp") tags.Debug (codes "temp {=i16} of {=[u8]:02x}")
 unfolding worded entry_of field_and_rest cut
@@ -209,8 +209,8 @@ link_judged : Judges tags.Warn (codes "link {=bool} {=str:?}") None
 unfolding Judges
 link_judged = inr (lit≤ tt, inl (link_pieces, link_spells Strict, refl))
 
-link_taken : Takes s2 (entry (codes "link") tags.Warn (codes "link {=bool} {=str:?}")) (Ok s3)
-link_taken = string_taken s2 (codes "link") tags.Warn (codes "link {=bool} {=str:?}") refl refl (new_name names2 (codes "link") refl) refl link_judged
+link_taken : Takes two_strings (entry (codes "link") tags.Warn (codes "link {=bool} {=str:?}")) (Ok three_strings)
+link_taken = string_taken two_strings (codes "link") tags.Warn (codes "link {=bool} {=str:?}") refl refl (new_name two_names (codes "link") refl) refl link_judged
 
 link_said : line_of (codes "s link defmt_warn link {=bool} {=str:?}") ≡ entry (codes "link") tags.Warn (codes "link {=bool} {=str:?}")
 unfolding worded entry_of field_and_rest cut
@@ -220,8 +220,8 @@ fail_judged : Judges tags.Error (codes "fail {=u32:#010x}") None
 unfolding Judges
 fail_judged = inr (lit≤ tt, inl (fail_pieces, fail_spells Strict, refl))
 
-fail_taken : Takes s3 (entry (codes "fail") tags.Error (codes "fail {=u32:#010x}")) (Ok s4)
-fail_taken = string_taken s3 (codes "fail") tags.Error (codes "fail {=u32:#010x}") refl refl (new_name names3 (codes "fail") refl) refl fail_judged
+fail_taken : Takes three_strings (entry (codes "fail") tags.Error (codes "fail {=u32:#010x}")) (Ok four_strings)
+fail_taken = string_taken three_strings (codes "fail") tags.Error (codes "fail {=u32:#010x}") refl refl (new_name three_names (codes "fail") refl) refl fail_judged
 
 fail_said : line_of (codes "s fail defmt_error fail {=u32:#010x}") ≡ entry (codes "fail") tags.Error (codes "fail {=u32:#010x}")
 unfolding worded entry_of field_and_rest cut
@@ -231,8 +231,8 @@ tick_judged : Judges tags.Trace (codes "tick {=u64}") None
 unfolding Judges
 tick_judged = inr (lit≤ tt, inl (tick_pieces, tick_spells Strict, refl))
 
-tick_taken : Takes s4 (entry (codes "tick") tags.Trace (codes "tick {=u64}")) (Ok ready)
-tick_taken = string_taken s4 (codes "tick") tags.Trace (codes "tick {=u64}") refl refl (new_name names4 (codes "tick") refl) refl tick_judged
+tick_taken : Takes four_strings (entry (codes "tick") tags.Trace (codes "tick {=u64}")) (Ok ready)
+tick_taken = string_taken four_strings (codes "tick") tags.Trace (codes "tick {=u64}") refl refl (new_name four_names (codes "tick") refl) refl tick_judged
 
 tick_said : line_of (codes "s tick defmt_trace tick {=u64}") ≡ entry (codes "tick") tags.Trace (codes "tick {=u64}")
 unfolding worded entry_of field_and_rest cut
@@ -243,17 +243,17 @@ tick_said = said (codes "s tick defmt_trace tick {=u64}") (entry (codes "tick") 
 pub head_read : (more : List (List ℕ)) (read : Answer) → ReadsLines ready 10 more read → ReadsLines no_lines 1 (head_lines ++ more) read
 head_read more read rest =
     let from_tick : List (List ℕ) = codes "s tick defmt_trace tick {=u64}" ∷ more in
-    let tick_on : ReadsLines s4 9 from_tick read = line_taken s4 ready 9 (codes "s tick defmt_trace tick {=u64}") (entry (codes "tick") tags.Trace (codes "tick {=u64}")) more read tick_said tick_taken rest in
+    let tick_on : ReadsLines four_strings 9 from_tick read = line_taken four_strings ready 9 (codes "s tick defmt_trace tick {=u64}") (entry (codes "tick") tags.Trace (codes "tick {=u64}")) more read tick_said tick_taken rest in
     let from_fail : List (List ℕ) = codes "s fail defmt_error fail {=u32:#010x}" ∷ from_tick in
-    let fail_on : ReadsLines s3 8 from_fail read = line_taken s3 s4 8 (codes "s fail defmt_error fail {=u32:#010x}") (entry (codes "fail") tags.Error (codes "fail {=u32:#010x}")) from_tick read fail_said fail_taken tick_on in
+    let fail_on : ReadsLines three_strings 8 from_fail read = line_taken three_strings four_strings 8 (codes "s fail defmt_error fail {=u32:#010x}") (entry (codes "fail") tags.Error (codes "fail {=u32:#010x}")) from_tick read fail_said fail_taken tick_on in
     let from_link : List (List ℕ) = codes "s link defmt_warn link {=bool} {=str:?}" ∷ from_fail in
-    let link_on : ReadsLines s2 7 from_link read = line_taken s2 s3 7 (codes "s link defmt_warn link {=bool} {=str:?}") (entry (codes "link") tags.Warn (codes "link {=bool} {=str:?}")) from_fail read link_said link_taken fail_on in
+    let link_on : ReadsLines two_strings 7 from_link read = line_taken two_strings three_strings 7 (codes "s link defmt_warn link {=bool} {=str:?}") (entry (codes "link") tags.Warn (codes "link {=bool} {=str:?}")) from_fail read link_said link_taken fail_on in
     let from_temp : List (List ℕ) = codes "s temp defmt_debug temp {=i16} of {=[u8]:02x}" ∷ from_link in
-    let temp_on : ReadsLines s1 6 from_temp read = line_taken s1 s2 6 (codes "s temp defmt_debug temp {=i16} of {=[u8]:02x}") (entry (codes "temp") tags.Debug (codes "temp {=i16} of {=[u8]:02x}")) from_link read temp_said temp_taken link_on in
+    let temp_on : ReadsLines one_string 6 from_temp read = line_taken one_string two_strings 6 (codes "s temp defmt_debug temp {=i16} of {=[u8]:02x}") (entry (codes "temp") tags.Debug (codes "temp {=i16} of {=[u8]:02x}")) from_link read temp_said temp_taken link_on in
     let from_boot : List (List ℕ) = codes "s boot defmt_info boot {=u8}" ∷ from_temp in
-    let boot_on : ReadsLines s0 5 from_boot read = line_taken s0 s1 5 (codes "s boot defmt_info boot {=u8}") (entry (codes "boot") tags.Info (codes "boot {=u8}")) from_temp read boot_said boot_taken temp_on in
+    let boot_on : ReadsLines no_strings 5 from_boot read = line_taken no_strings one_string 5 (codes "s boot defmt_info boot {=u8}") (entry (codes "boot") tags.Info (codes "boot {=u8}")) from_temp read boot_said boot_taken temp_on in
     let from_stamp : List (List ℕ) = codes "stamp 1000 250" ∷ from_boot in
-    let stamp_on : ReadsLines (settled forms.Stamp None) 4 from_stamp read = line_taken (settled forms.Stamp None) s0 4 (codes "stamp 1000 250") (stamp (codes "1000") (codes "250")) from_boot read stamp_said stamp_taken boot_on in
+    let stamp_on : ReadsLines (settled forms.Stamp None) 4 from_stamp read = line_taken (settled forms.Stamp None) no_strings 4 (codes "stamp 1000 250") (stamp (codes "1000") (codes "250")) from_boot read stamp_said stamp_taken boot_on in
     let from_reader : List (List ℕ) = codes "reader live" ∷ from_stamp in
     let reader_on : ReadsLines (settled forms.Reader None) 3 from_reader read = line_taken (settled forms.Reader None) (settled forms.Stamp None) 3 (codes "reader live") (reader (codes "live")) from_stamp read reader_said reader_taken stamp_on in
     let from_mode : List (List ℕ) = codes "mode block" ∷ from_reader in

@@ -1,6 +1,6 @@
 -- The lines of a generated text.
 use Rattle.std.proofs.Common.{◌≡◌, ◌<◌, ◌+◌, ◌-◌, ◌%◌, ℕ, zero, suc, Bool, true, false, List, [], ◌∷◌, ◌++◌, refl, sym, ap, ◌∙◌, arith, length, get_or, append_assoc, append-nil}
-use Rattle.std.specs.Prelude.{◌==◌, codes, if◌then◌else◌, nat_lt}
+use Rattle.std.specs.Prelude.{◌&&◌, ◌==◌, codes, if◌then◌else◌, nat_lt}
 use Rattle.std.specs.Fmt.{decimal}
 use Rattle.std.specs.List.{All, AllByRecursion, slice_split}
 use Rattle.std.specs.Str.Lines.{lines, lines_of_parts, strip_carriage_return}
@@ -9,7 +9,7 @@ use Rattle.std.proofs.lemmas.List.Splits.{length-slice_split, slice_split_at}
 use Rattle.std.proofs.lemmas.Bool.Decides.{nat_tests}
 use Rattle.defmt_grammar.proofs.PlainLaws.{unlike}
 use Rattle.defmt_generate.specs.Generated.{call, drawn, generated, head, statement, statements}
-use Rattle.defmt_generated.proofs.Texts.{ArePrintable, Printable, are_printable, printable-append, printable_call, printable_decimal, tested}
+use Rattle.defmt_generated.proofs.Texts.{ArePrintable, Printable, are_printable, both, printable-append, printable_call, printable_decimal, tested}
 use Rattle.defmt_generated.specs.Lines.{head_lines, statement_line, statement_lines}
 
 -- ---- one line
@@ -82,38 +82,17 @@ are_statements (suc count) i = ((statement_printable i, omega arith), are_statem
 
 -- ---- the head
 
-line_tested : (line : List ℕ) → are_printable line ≡ true → nat_lt 0 (length line) ≡ true → IsLine line
-line_tested line e f = (tested line e, grind (arith, nat_tests))
+abbrev are_lines : List (List ℕ) → Bool
+are_lines [] = true
+are_lines (line ∷ ls) = (are_printable line && nat_lt 0 (length line)) && are_lines ls
 
-are_head : AllByRecursion IsLine head_lines
-are_head = (
-  line_tested (codes "ring 1024") refl refl,
-  (
-    line_tested (codes "mode block") refl refl,
-    (
-      line_tested (codes "reader live") refl refl,
-      (
-        line_tested (codes "stamp 1000 250") refl refl,
-        (
-          line_tested (codes "s boot defmt_info boot {=u8}") refl refl,
-          (
-            line_tested (codes "s temp defmt_debug temp {=i16} of {=[u8]:02x}") refl refl,
-            (
-              line_tested (codes "s link defmt_warn link {=bool} {=str:?}") refl refl,
-              (
-                line_tested (codes "s fail defmt_error fail {=u32:#010x}") refl refl,
-                (
-                  line_tested (codes "s tick defmt_trace tick {=u64}") refl refl,
-                  tt,
-                ),
-              ),
-            ),
-          ),
-        ),
-      ),
-    ),
-  ),
-)
+lines_tested : (ls : List (List ℕ)) → are_lines ls ≡ true → AllByRecursion IsLine ls
+lines_tested [] e = tt
+lines_tested (line ∷ ls) e =
+    let tests = both (are_printable line && nat_lt 0 (length line)) (are_lines ls) e in
+    let one = both (are_printable line) (nat_lt 0 (length line)) tests.0 in
+    let some : nat_lt 0 (length line) ≡ true = one.1 in
+    ((tested line one.0, grind (arith, nat_tests)), lines_tested ls tests.1)
 
 pub generated_lines : (count : ℕ) → lines (generated count) ≡ head_lines ++ statement_lines 0 count
 generated_lines count =
@@ -121,5 +100,5 @@ generated_lines count =
     let same : 0 + count ≡ count = omega arith in
     let all : behind ≡ statements count = all_lined count 0 ∙ ap statements same in
     ap (λ (xs : List ℕ). lines (head ++ xs)) (sym all)
-    ∙ all_lines head_lines behind are_head
+    ∙ all_lines head_lines behind (lines_tested head_lines refl)
     ∙ ap (λ (ls : List (List ℕ)). head_lines ++ ls) (all_lines (statement_lines 0 count) [] (are_statements count 0) ∙ append-nil (statement_lines 0 count))

@@ -22,7 +22,7 @@ abbrev pub are_printable : List ℕ → Bool
 are_printable [] = true
 are_printable (b ∷ bytes) = (nat_le 32 b && nat_lt b 127) && are_printable bytes
 
-both : (b c : Bool) → (b && c) ≡ true → (b ≡ true) × (c ≡ true)
+pub both : (b c : Bool) → (b && c) ≡ true → (b ≡ true) × (c ≡ true)
 both true true e = (refl, refl)
 both true false e = absurd (cc e)
 both false c e = absurd (cc e)
