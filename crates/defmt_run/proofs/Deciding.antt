@@ -16,11 +16,11 @@ use Rattle.defmt_decode.specs.Event.{events_of}
 use Rattle.defmt_generate.specs.Generated.{generated}
 use Rattle.defmt_run.specs.Calls.{Files, IsUnread, IsUntouched, IsUnwritten}
 use Rattle.defmt_script.specs.Reads.{Reads}
-use Rattle.defmt_script.specs.Script.{Refusal, Script as Read}
+use Rattle.defmt_script.specs.Script.{Refusal, Script as Read, count_all}
 use Rattle.defmt_run.specs.Decoding.{Decodes, DecodingComesTo, Hears, IsFile, Loaded, ReadingComesTo, RefusesFile, RefusesName, fault_of_count, fault_of_recording, table_limit}
 use Rattle.defmt_run.specs.Output.{reports}
 use Rattle.defmt_run.specs.Printed.{Makes}
-use Rattle.defmt_run.specs.Running.{Gave, GaveWhole, GeneratingComesTo, IsSpelled, ReadingComesTo as TextComesTo, RunningComesTo, Runs, RunsSource, RunsText, Stops, TookShort, Withholds, Writes, fault_of_read}
+use Rattle.defmt_run.specs.Running.{Gave, GaveWhole, IsSpelled, ReadingComesTo as TextComesTo, RunningComesTo, Runs, RunsSource, RunsText, Stops, TookShort, Withholds, Writes, fault_of_read}
 use Rattle.defmt_run.specs.Session.{Answers, OrFails}
 use Rattle.defmt_run.specs.Status.{status_of}
 use Rattle.defmt_run.specs.Told.{IsUntold, Told}
@@ -36,6 +36,10 @@ use Rattle.defmt_run.specs.declared.outcome.Fault.TheVariants.{Fine, Memory, Wor
 -- a text is read in one way
 abbrev pub OneReading : Type 0
 OneReading = (text : List ℕ) (read other : Result Read Refusal) → Reads text read → Reads text other → read ≡ other
+
+-- a generated text reads as a script
+abbrev pub IsReadable : Type 0
+IsReadable = (count : ℕ) → count ≤ 4096 → (script : Read) × Reads (generated count) (Ok script) × (count_all script.writers ≡ count)
 
 all_taken : (left after : Option (List ℕ)) (text taken : List ℕ) → left ≡ Some text → Consumes left after taken → IsAtEnd after → taken ≡ text
 all_taken None after text taken is c e = absurd (cc is)
@@ -309,14 +313,13 @@ module _ (asked : Option Work) (input : Input) (files : Files) (output : Output)
       or_fails (Rose input.faults input.faults_after) (Rose output.faults output.faults_after) ⊥ (RunningComesTo text) (λ (f : Fault). f ≡ other)
       (λ f also. run_one one text f other comes also) fault (source_comes task text is told_text)
 
-  pub generated_comes : (count : ℕ) → asked ≡ Some (on_generated count) → OrFails ⊥ (Rose output.faults output.faults_after) ⊥ (GeneratingComesTo count) fault
-  generated_comes count is = text_comes (Run Counts) (generated count) output fault told (same_answers (Some (on_generated count)) is).0
-
-  pub generated_exact : OneReading → (count : ℕ) (other : Fault) → asked ≡ Some (on_generated count) → GeneratingComesTo count other
-      → OrFails ⊥ (Rose output.faults output.faults_after) ⊥ (λ one. one ≡ other) fault
-  generated_exact one count other is comes =
-      or_fails ⊥ (Rose output.faults output.faults_after) ⊥ (GeneratingComesTo count) (λ (f : Fault). f ≡ other)
-      (λ f also. text_one one (generated count) f other comes also) fault (generated_comes count is)
+  pub generated_runs : OneReading → IsReadable → (count : ℕ) → CountFits (on_generated count) → asked ≡ Some (on_generated count)
+      → OrFails ⊥ (Rose output.faults output.faults_after) ⊥ (λ one. one ≡ Fine) fault
+  generated_runs one readable count fits is =
+      let read = readable count fits.1 in
+      or_fails ⊥ (Rose output.faults output.faults_after) ⊥ (TextComesTo (generated count)) (λ (f : Fault). f ≡ Fine)
+      (λ f comes. text_one one (generated count) f Fine (Ok read.0, read.1, refl) comes) fault
+      (text_comes (Run Counts) (generated count) output fault told (same_answers (Some (on_generated count)) is).0)
 
   pub recording_comes : (name recording : List ℕ) (shelf : List ℕ → Option (List ℕ)) → asked ≡ Some (on_recording name) → input.left ≡ Some recording → files.files ≡ Some shelf
       → OrFails (Rose input.faults input.faults_after) (Rose output.faults output.faults_after) (Rose files.faults files.faults_after) (DecodingComesTo (shelf name) recording) fault

@@ -2,7 +2,6 @@
 use Rattle.std.specs.Prelude.{◌≡◌, ◌⊎◌, ◌+◌, ◌<◌, ◌≤◌, ℕ, List, length, Result, Ok, Err}
 use Rattle.std.specs.Io.KnownBytes.{Consumes, IsAtEnd}
 use Rattle.dl_io.specs.Outside.{Rose, Took}
-use Rattle.defmt_generate.specs.Generated.{generated}
 use Rattle.defmt_listen.specs.Streams.{Input, Output, Wrote, WroteFront}
 use Rattle.defmt_script.specs.Reads.{Reads}
 use Rattle.defmt_script.specs.Script.{Refusal, Script as Read}
@@ -92,10 +91,6 @@ ReadingComesTo text fault = (read : Result Read Refusal) × Reads text read × (
 -- the text of the source
 abbrev pub RunningComesTo : List ℕ → Fault → Type 0
 RunningComesTo text fault = ((script_limit < length text) × (fault ≡ Long)) ⊎ ((length text ≤ script_limit) × ReadingComesTo text fault)
-
--- so many generated statements
-abbrev pub GeneratingComesTo : ℕ → Fault → Type 0
-GeneratingComesTo count fault = ReadingComesTo (generated count) fault
 
 -- ---- for private clauses
 

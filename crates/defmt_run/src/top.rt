@@ -3,12 +3,13 @@ ghost use Rattle.std.specs.Prelude.{◌≡◌, ◌⊎◌, ◌≤◌, ℕ, List, 
 ghost use Rattle.dl_io.specs.Outside.{Rose};
 ghost use Rattle.defmt_words.specs.Words.{job};
 ghost use Rattle.defmt_run.specs.declared.outcome.Fault.{Fault as AnyFault};
+ghost use Rattle.defmt_run.specs.declared.outcome.Fault.TheVariants.{Fine};
 ghost use Rattle.defmt_run.specs.declared.task.Task.{Task as AnyTask};
 ghost use Rattle.defmt_run.specs.Status.{status_of};
 ghost use Rattle.defmt_script.specs.Reads.{Reads};
 ghost use Rattle.defmt_script.specs.Script.{Refusal, Script as Read};
 ghost use Rattle.defmt_run.specs.Decoding.{DecodingComesTo};
-ghost use Rattle.defmt_run.specs.Running.{GeneratingComesTo, RunningComesTo};
+ghost use Rattle.defmt_run.specs.Running.{RunningComesTo};
 ghost use Rattle.defmt_run.specs.Session.{Answers, OrFails};
 ghost use Rattle.defmt_run.specs.Work.{CountFits, asked, on_generated, on_recording, on_source, work_view};
 
@@ -16,6 +17,7 @@ use crate::decoding::decode;
 use crate::outcome::{Fault, Outcome};
 use crate::running::{run_generated, run_source, show_source};
 use crate::task::{Task, Work, asked, counts_are_few};
+use defmt_generated::generated_reads;
 use defmt_script::one_reading;
 use defmt_writers::Gate;
 use dl_io::{Shelf, Sink, Source};
@@ -66,12 +68,6 @@ pub fn session<S: Source, F: Shelf, K: Sink, G: Gate + Sync, R: Threads + Wait +
         → OrFails (Rose (S.faults src.old) (S.faults src.new)) (Rose (K.faults out.old) (K.faults out.new)) ⊥
         (λ other. other ≡ fault) result.fault }
 
-    // The same of a generated script.
-    ensures generated_comes { (count : ℕ) → asked (map string_bytes words.now) ≡ Some (on_generated count)
-        → OrFails ⊥ (Rose (K.faults out.old) (K.faults out.new)) ⊥ (GeneratingComesTo count) result.fault }
-    ensures generated_exact { (count : ℕ) (fault : AnyFault) → asked (map string_bytes words.now) ≡ Some (on_generated count)
-        → GeneratingComesTo count fault → OrFails ⊥ (Rose (K.faults out.old) (K.faults out.new)) ⊥ (λ other. other ≡ fault) result.fault }
-
     // The same of the decoding of a recording, where the source tells it and the shelf tells its files.
     ensures decode_comes { (name recording : List ℕ) (files : List ℕ → Option (List ℕ)) → asked (map string_bytes words.now) ≡ Some (on_recording name)
         → S.left src.old ≡ Some recording → F.files shelf.old ≡ Some files
@@ -81,6 +77,10 @@ pub fn session<S: Source, F: Shelf, K: Sink, G: Gate + Sync, R: Threads + Wait +
         → S.left src.old ≡ Some recording → F.files shelf.old ≡ Some files → DecodingComesTo (files name) recording fault
         → OrFails (Rose (S.faults src.old) (S.faults src.new)) (Rose (K.faults out.old) (K.faults out.new)) (Rose (F.faults shelf.old) (F.faults shelf.new))
         (λ other. other ≡ fault) result.fault }
+
+    // A generated script is never refused: all is done, but for want of memory and faults of the sink.
+    ensures generated { (count : ℕ) → asked (map string_bytes words.now) ≡ Some (on_generated count)
+        → OrFails ⊥ (Rose (K.faults out.old) (K.faults out.new)) ⊥ (λ fault. fault ≡ Fine) result.fault }
 
     // The status is 2 only where the words ask for nothing, and there it is 2 unless memory was wanting.
     ensures words { result.status ≡ 2 → job (map string_bytes words.now) ≡ None }
@@ -93,6 +93,8 @@ pub fn session<S: Source, F: Shelf, K: Sink, G: Gate + Sync, R: Threads + Wait +
     ensures files { F.files shelf.new ≡ F.files shelf.old }
 {
     one_reading();
+    generated_reads();
+    counts_are_few();
     perform(rt, alloc, words, src, shelf, out, gate)
 }
 

@@ -1,8 +1,8 @@
 use Rattle.std.proofs.Common.{map, string_bytes, ◌≡◌, sym, ◌∙◌, subst}
 use Rattle.std.specs.Prelude.{◌⊎◌, ℕ}
 use Rattle.defmt_words.specs.Words.{job}
-use Rattle.defmt_run.specs.Work.{asked}
-use Rattle.defmt_run.proofs.Deciding.{generated_comes, generated_exact, no_job, recording_comes, recording_exact, refused, source_comes, source_exact}
+use Rattle.defmt_run.specs.Work.{asked, on_generated}
+use Rattle.defmt_run.proofs.Deciding.{generated_runs, no_job, recording_comes, recording_exact, refused, source_comes, source_exact}
 use Rattle.defmt_run.proofs.top.session.Goals as goal
 
 pub returns-clause-source_comes : goal.returns-clause-source_comes
@@ -21,21 +21,14 @@ returns-clause-source_exact g c = λ task text fault is told comes.
     (record { held = g.K.Sink.held c.args.out.now; held_after = g.K.Sink.held c.perform.new.out; faults = g.K.Sink.faults c.args.out.now; faults_after = g.K.Sink.faults c.perform.new.out })
     c.perform.result.fault (record { tape = c.perform.result.tape.marks; settled = c.perform.result.settled; events = c.perform.result.events; looks = c.perform.result.looks }) c.perform.ensures.answer c.one_reading.ensures task text fault is told comes
 
-pub returns-clause-generated_comes : goal.returns-clause-generated_comes
-returns-clause-generated_comes g c =
-    generated_comes (asked (map string_bytes c.args.words.now))
+pub returns-clause-generated : goal.returns-clause-generated
+returns-clause-generated g c = λ count is.
+    generated_runs (asked (map string_bytes c.args.words.now))
     (record { left = g.S.Source.left c.args.src.now; left_after = g.S.Source.left c.perform.new.src; faults = g.S.Source.faults c.args.src.now; faults_after = g.S.Source.faults c.perform.new.src })
     (record { files = g.F.Shelf.files c.args.shelf.now; faults = g.F.Shelf.faults c.args.shelf.now; faults_after = g.F.Shelf.faults c.perform.new.shelf })
     (record { held = g.K.Sink.held c.args.out.now; held_after = g.K.Sink.held c.perform.new.out; faults = g.K.Sink.faults c.args.out.now; faults_after = g.K.Sink.faults c.perform.new.out })
-    c.perform.result.fault (record { tape = c.perform.result.tape.marks; settled = c.perform.result.settled; events = c.perform.result.events; looks = c.perform.result.looks }) c.perform.ensures.answer
-
-pub returns-clause-generated_exact : goal.returns-clause-generated_exact
-returns-clause-generated_exact g c = λ count fault is comes.
-    generated_exact (asked (map string_bytes c.args.words.now))
-    (record { left = g.S.Source.left c.args.src.now; left_after = g.S.Source.left c.perform.new.src; faults = g.S.Source.faults c.args.src.now; faults_after = g.S.Source.faults c.perform.new.src })
-    (record { files = g.F.Shelf.files c.args.shelf.now; faults = g.F.Shelf.faults c.args.shelf.now; faults_after = g.F.Shelf.faults c.perform.new.shelf })
-    (record { held = g.K.Sink.held c.args.out.now; held_after = g.K.Sink.held c.perform.new.out; faults = g.K.Sink.faults c.args.out.now; faults_after = g.K.Sink.faults c.perform.new.out })
-    c.perform.result.fault (record { tape = c.perform.result.tape.marks; settled = c.perform.result.settled; events = c.perform.result.events; looks = c.perform.result.looks }) c.perform.ensures.answer c.one_reading.ensures count fault is comes
+    c.perform.result.fault (record { tape = c.perform.result.tape.marks; settled = c.perform.result.settled; events = c.perform.result.events; looks = c.perform.result.looks }) c.perform.ensures.answer c.one_reading.ensures c.generated_reads.ensures
+    count (c.counts_are_few.ensures (map string_bytes c.args.words.now) (on_generated count) is) is
 
 pub returns-clause-decode_comes : goal.returns-clause-decode_comes
 returns-clause-decode_comes g c =
