@@ -4,7 +4,7 @@ use Rattle.std.proofs.lemmas.List.{append-nil}
 use Rattle.byteorder.specs.Endian.{little_bytes}
 use Rattle.defmt_encode.proofs.Chain.{later}
 use Rattle.defmt_encode.specs.Carry.{bytes_val, bytes_vals, message_of, own_slots, slots_at, slots_in, stamp_args, stamp_slots}
-use Rattle.defmt_encode.specs.Stamp.{stamp_of}
+use Rattle.defmt_intern.specs.Stamp.{stamp_of}
 use Rattle.defmt_grammar.specs.Slots.{slots_of}
 use Rattle.defmt_grammar.specs.declared.piece.Piece.{Piece}
 use Rattle.defmt_grammar.specs.declared.slot.Slot.{Slot}

@@ -1,7 +1,7 @@
 -- Which stamps suit a table (defmt book, "Timestamps").
 use Rattle.std.specs.Prelude.{◌≡◌, ℕ, List, [], ◌∷◌, Option, Some, None}
 use Rattle.defmt_encode.specs.Carry.{stamp_slots}
-use Rattle.defmt_encode.specs.Stamp.{stamp_of}
+use Rattle.defmt_intern.specs.Stamp.{stamp_of}
 use Rattle.defmt_grammar.specs.declared.kind.IntSize.TheVariants.{W64}
 use Rattle.defmt_grammar.specs.declared.kind.Kind.TheVariants.{Uint}
 use Rattle.defmt_grammar.specs.declared.slot.Slot.{Slot}

@@ -143,9 +143,9 @@ impl<'b, 's> Frame<'b, 's> {
     /// Puts a value of any kind. It fits the next slot.
     #[inline]
     pub fn put_value(&mut self, table: &Table, value: &Value)
-        requires { (slot : AnySlot) × IsNext self.old slot × FitsVal table.now 16 slot (plain value.now) × HasRoom self.old (length (bytes_val table.now slot (plain value.now))) }
+        requires { (slot : AnySlot) × IsNext self.old slot × FitsVal table.now.entries 16 slot (plain value.now) × HasRoom self.old (length (bytes_val table.now.entries slot (plain value.now))) }
         ensures same_buffer { SameBuffer self.old self.new }
-        ensures grows { (slot : AnySlot) → IsNext self.old slot → Grows self.old self.new slot (bytes_val table.now slot (plain value.now)) }
+        ensures grows { (slot : AnySlot) → IsNext self.old slot → Grows self.old self.new slot (bytes_val table.now.entries slot (plain value.now)) }
     {
         let Some((slot, left)) = cut(self.left) else {
             unreachable!()
@@ -160,10 +160,10 @@ impl<'b, 's> Frame<'b, 's> {
     /// Puts a value for each slot that is still to come. Each fits its slot.
     #[inline]
     pub fn put_all(&mut self, table: &Table, args: &Args)
-        requires fits { FitSlots table.now (slots_left self.old) args.now }
-        requires room { HasRoom self.old (length (bytes_vals table.now (slots_left self.old) args.now)) }
+        requires fits { FitSlots table.now.entries (slots_left self.old) args.now }
+        requires room { HasRoom self.old (length (bytes_vals table.now.entries (slots_left self.old) args.now)) }
         ensures same_buffer { SameBuffer self.old self.new }
-        ensures grows { GrowsByAll self.old self.new (bytes_vals table.now (slots_left self.old) args.now) }
+        ensures grows { GrowsByAll self.old self.new (bytes_vals table.now.entries (slots_left self.old) args.now) }
     {
         let Ok(at) = put_args(table, self.left, args, self.buf, self.at) else {
             unreachable!()

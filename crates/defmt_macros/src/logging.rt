@@ -17,12 +17,12 @@ use defmt_values::Args;
 /// 2,000 bytes, as many as the buffer has at least. Takes no memory.
 pub fn log(buf: &mut [u8], table: &Table, site: &Site, stamp: Option<u64>, args: &Args) -> usize
     requires room { 2000 ≤ length buf.old }
-    requires site { IsSite table.now site.now.index site.now.tag site.now.slots }
-    requires stamp { StampSuits table.now stamp }
-    requires fits { Fits table.now site.now.index args.now }
-    requires short { length (message_of table.now (stamp_args stamp) site.now.index args.now) ≤ 2000 }
-    ensures count { result ≡ length (message_of table.now (stamp_args stamp) site.now.index args.now) }
-    ensures message { take result buf.new ≡ message_of table.now (stamp_args stamp) site.now.index args.now }
+    requires site { IsSite table.now.entries site.now.index site.now.tag site.now.slots }
+    requires stamp { StampSuits table.now.entries stamp }
+    requires fits { Fits table.now.entries site.now.index args.now }
+    requires short { length (message_of table.now.entries (stamp_args stamp) site.now.index args.now) ≤ 2000 }
+    ensures count { result ≡ length (message_of table.now.entries (stamp_args stamp) site.now.index args.now) }
+    ensures message { take result buf.new ≡ message_of table.now.entries (stamp_args stamp) site.now.index args.now }
     ensures behind { drop result buf.new ≡ drop result buf.old }
 {
     match site.tag() {

@@ -50,7 +50,7 @@ pub struct Site {
 
 // The tag of a message's entry and the slots of its text.
 fn message_at(table: &Table, index: u16) -> Result<(&Tag, &[Slot]), SiteFault>
-    ensures found { Finds (found table.now index) result }
+    ensures found { Finds (found table.now.entries index) result }
     ensures few { IfOk result (λ p. length p.1.now ≤ 16) }
 {
     let Some((entry, body)) = look_up(table, index) else {
@@ -85,10 +85,10 @@ impl Site {
     /// out.
     pub fn new(alloc: Global, table: &Table, index: u16, slots: &[Slot]) -> Result<Site, SiteFault>
         // A site is answered only where the entry is a message's and has these slots, and a fault only where it stands.
-        ensures answer { Answers table.now index slots.now result }
+        ensures answer { Answers table.now.entries index slots.now result }
         // Unless memory runs out, the site is answered where there is one, and the fault that stands.
-        ensures made { (tag : AnyTag) → IsSite table.now index tag slots.now → GivesOnly result tag }
-        ensures refused { (fault : AnyFault) → Refuses table.now index slots.now fault → RefusesOnly result fault }
+        ensures made { (tag : AnyTag) → IsSite table.now.entries index tag slots.now → GivesOnly result tag }
+        ensures refused { (fault : AnyFault) → Refuses table.now.entries index slots.now fault → RefusesOnly result fault }
     {
         let (tag, own) = message_at(table, index)?;
         if let Some(position) = difference(own, slots) {
@@ -131,8 +131,8 @@ impl Site {
     #[inline]
     pub fn suits(&self, table: &Table, tag: &Tag, stamp: Option<u64>)
         requires tag { self.now.tag ≡ tag.now }
-        requires entry { IsSite table.now self.now.index self.now.tag self.now.slots }
-        requires stamp { StampSuits table.now stamp }
+        requires entry { IsSite table.now.entries self.now.index self.now.tag self.now.slots }
+        requires stamp { StampSuits table.now.entries stamp }
     {
         let _ = table;
         let _ = tag;
@@ -143,7 +143,7 @@ impl Site {
 /// Whether a stamp suits a table: it is one number where the text of the table's timestamp takes one of 64 bits, and none
 /// where that takes nothing or there is no timestamp. Takes no memory.
 pub fn stamp_suits(table: &Table, stamp: Option<u64>) -> bool
-    ensures { IsTrue result ↔ StampSuits table.now stamp }
+    ensures { IsTrue result ↔ StampSuits table.now.entries stamp }
 {
     let slots = stamp_slots(table);
     match stamp {
