@@ -2,4 +2,3 @@ mod Bytes
 mod Deciding
 mod InFrames
 mod Sending
-mod Stamps

@@ -5,7 +5,8 @@ use Rattle.defmt_framing.specs.Told.{Tells, of_piece, events, begun}
 use Rattle.defmt_framing.specs.Decoded.{decoded}
 use Rattle.defmt_intern.specs.Table.{Map}
 use Rattle.defmt_values.specs.Plain.{Vals}
-use Rattle.defmt_eager.specs.Line.{stamp_at, stamp_text, eager_line, IsWide}
+use Rattle.defmt_eager.specs.Line.{stamp_text, eager_line, IsWide}
+use Rattle.defmt_intern.specs.Stamp.{stamp_of}
 use Rattle.defmt_eager.specs.Show.{eager_text}
 use Rattle.defmt_encode.specs.Cause.{cause_number}
 use Rattle.defmt_encode.specs.Heard.{IsHeard}
@@ -35,7 +36,7 @@ pub data IsEventOf (t : Map) (piece : List ℕ) : Event → Type 0 where
 -- the text of the stamp or of the statement has more than 65,536 bytes
 abbrev pub is_wide : Map → Vals → ℕ → Vals → Bool
 is_wide t stamp index vs =
-    nat_lt 65536 (length (stamp_text t (stamp_at t) stamp)) || nat_lt 65536 (length (eager_text t index vs))
+    nat_lt 65536 (length (stamp_text t (stamp_of t) stamp)) || nat_lt 65536 (length (eager_text t index vs))
 
 -- what is told of a stamp and a statement that are heard
 abbrev pub of_heard : Map → Vals → ℕ → Vals → Event

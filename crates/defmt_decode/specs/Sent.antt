@@ -9,7 +9,7 @@ use Rattle.defmt_values.specs.Plain.{Vals}
 use Rattle.defmt_eager.specs.Line.{eager_line, IsWide}
 use Rattle.defmt_encode.specs.Carry.{message_of}
 use Rattle.defmt_values.specs.Sound.{AreSound}
-use Rattle.defmt_encode.specs.Stamp.{stamp_of}
+use Rattle.defmt_intern.specs.Stamp.{stamp_of}
 use Rattle.defmt_decode.specs.declared.event.Event.{Event}
 use Rattle.defmt_decode.specs.declared.event.Event.TheVariants.{Line, CutFront, CutTail}
 

@@ -56,10 +56,10 @@ pub(crate) struct Reader {
 
 impl Model for Reader {
     ghost use Rattle.std.specs.Prelude.{◌≡◌, vec_len};
-    ghost use Rattle.defmt_intern.specs.Table.{Map};
+    ghost use Rattle.defmt_intern.specs.declared.table.Table.{Table as AnyTable};
     ghost use Rattle.defmt_intern.specs.contracts.table.Table.{the_row};
 
-    ghost Value = { Map };
+    ghost Value = { AnyTable };
 
     ghost coded = { the_row.coded };
 
@@ -85,7 +85,7 @@ impl Reader {
 impl Teller for Reader {
     type Told = Event;
 
-    ghost tells = { λ t. tells t };
+    ghost tells = { λ t. tells t.entries };
 
     fn piece(&mut self, piece: &[u8]) -> Result<Event, Memory> {
         match decode_piece(piece, &mut self.buffer) {
@@ -118,7 +118,7 @@ fn event_of_message(
     bytes: &[u8],
     heard: &mut Heard,
 ) -> Result<Event, Memory>
-    ensures { IfOk result (λ event. event ≡ of_read table.now (read_of table.now bytes.now)) }
+    ensures { IfOk result (λ event. event ≡ of_read table.now.entries (read_of table.now.entries bytes.now)) }
 {
     match heard.hear(alloc, table, bytes) {
         Ok(()) => event_of_heard(alloc, table, bytes, heard),
@@ -128,17 +128,15 @@ fn event_of_message(
 }
 
 // What a message that is heard tells.
-#[tactic(auto, using(crate::proofs::Stamps::stamp_fits))]
 fn event_of_heard(
     alloc: Global,
     table: &Table,
     bytes: &[u8],
     heard: &Heard,
 ) -> Result<Event, Memory>
-    requires { IsHeard table.now bytes.now heard.now.stamp heard.now.stm.index heard.now.stm.args }
-    ensures { IfOk result (λ event. event ≡ of_heard table.now heard.now.stamp heard.now.stm.index heard.now.stm.args) }
+    requires { IsHeard table.now.entries bytes.now heard.now.stamp heard.now.stm.index heard.now.stm.args }
+    ensures { IfOk result (λ event. event ≡ of_heard table.now.entries heard.now.stamp heard.now.stm.index heard.now.stm.args) }
 {
-    table.lawful();
     match line(alloc, table, &heard.stamp, &heard.stm) {
         Ok(text) => Ok(Event::Line {
             index: heard.stm.index,
