@@ -15,7 +15,6 @@ use Rattle.defmt_intern.specs.declared.entry.Tag.TheVariants.{Timestamp}
 use Rattle.defmt_intern.specs.Name.{Names, written}
 use Rattle.defmt_intern.specs.Table.{Map, IsLawful}
 use Rattle.defmt_intern.specs.declared.table.Profile.TheVariants as profiles
-use Rattle.defmt_intern.specs.declared.table.Table.{Table}
 use Rattle.defmt_intern.proofs.NameLaws.{one_name}
 use Rattle.elf_section.specs.Listed.{Lists}
 use Rattle.elf_section.specs.Symbol.{PlainSymbol, plain, plain_all}
@@ -106,13 +105,13 @@ module _ (table : Map) (lawful : IsLawful table) (spelled : AreSpelled table) (n
     only = only;
   }
 
-pub names_table : (t : Table) → IsLawful t.entries → AreSpelled t.entries → All IsNamed (map.entries t.entries)
-    → (file : List ℕ) (xs : List PlainSymbol) → xs ≡ symbols_in t.entries → Lists file xs → t.profile ≡ profiles.One → NamesTable file t
-names_table t lawful spelled named file xs e lists one = record {
-  symbols = symbols_in t.entries;
+pub names_table : (t : Map) → IsLawful t → AreSpelled t → All IsNamed (map.entries t)
+    → (file : List ℕ) (xs : List PlainSymbol) → xs ≡ symbols_in t → Lists file xs → NamesTable file (record { entries = t; profile = profiles.One })
+names_table t lawful spelled named file xs e lists = record {
+  symbols = symbols_in t;
   lists = subst (Lists file) e lists;
-  table_of = table_listed t.entries lawful spelled named;
-  profile = one;
+  table_of = table_listed t lawful spelled named;
+  profile = refl;
 }
 
 -- ---- they can be written

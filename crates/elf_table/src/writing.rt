@@ -91,9 +91,10 @@ pub fn write_table(alloc: Global, table: &Table) -> Result<Bytes, Memory>
     // The file has just these symbols.
     ensures bytes { IfOk result (λ file. file.items ≡ written (symbols_in table.now.entries)) }
 
-    // It names a table of profile One, so `read_table` gives the table back, unless an `Other` spells one of the eleven tags.
-    ensures read_back { IfOk result (λ file. AreSpelled table.now.entries → table.now.profile ≡ profiles.One
-        → NamesTable file.items table.now) }
+    // It names these entries with profile One, so `read_table` gives them back, unless an `Other` spells one of the eleven
+    // tags.
+    ensures read_back { IfOk result (λ file. AreSpelled table.now.entries
+        → NamesTable file.items (record { entries = table.now.entries; profile = profiles.One })) }
 {
     table.lawful();
     let symbols = symbols_of(alloc, table)?;

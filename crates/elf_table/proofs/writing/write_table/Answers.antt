@@ -15,4 +15,4 @@ returns-clause-bytes c = IfOk-weaker c.write_symbols.result _ _ (λ file is. is 
 pub returns-clause-read_back : goal.returns-clause-read_back
 returns-clause-read_back c =
     let same : plain_all c.deref.result.now ≡ symbols_in c.args.table.now.entries = ap plain_all c.deref.ensures.value ∙ c.in_ok-symbols.ensures.value in
-    IfOk-weaker c.write_symbols.result _ _ (λ file back spelled one. names_table c.args.table.now c.lawful.ensures spelled c.in_ok-symbols.ensures.named file.items (plain_all c.deref.result.now) same (back (are_braced c.args.table.now.entries (plain_all c.deref.result.now) same)) one) c.write_symbols.ensures.read_back_whole
+    IfOk-weaker c.write_symbols.result _ _ (λ file back spelled. names_table c.args.table.now.entries c.lawful.ensures spelled c.in_ok-symbols.ensures.named file.items (plain_all c.deref.result.now) same (back (are_braced c.args.table.now.entries (plain_all c.deref.result.now) same))) c.write_symbols.ensures.read_back_whole
