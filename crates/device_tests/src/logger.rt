@@ -1,13 +1,13 @@
 // A logger over a plain ring, on one thread.
 ghost use Rattle.std.specs.Prelude.{◌≡◌, [], true, ⊤};
-ghost use Rattle.defmt_logger.specs.Kept.{IsClockOf};
+ghost use Rattle.defmt_logger.specs.Kept.{pace_of};
 ghost use Rattle.rtt_ring.specs.PlainView.{up_of};
 ghost use Rattle.rtt_ring.specs.Views.{new_up};
 
 use crate::rows::{self, each_block};
-use crate::scripts::{clock_of, put_digits_or_nothing, put_marks, script_of, site_at};
+use crate::scripts::{put_digits_or_nothing, put_marks, script_of, site_at, stamp_of};
 use defmt_grammar::{IntSize, Kind, Slot};
-use defmt_hooks::Clock;
+use defmt_hooks::{Clock, Stamp};
 use defmt_intern::Table;
 use defmt_logger::{Books, Eight, Logger, Naming, Pen, Seat, Tape};
 use defmt_macros::{Frame, Site, put};
@@ -157,12 +157,12 @@ fn log_by_pens<
     blank6: Blank,
     blank7: Blank,
     script: Script,
-    clock: C,
+    stamp: Stamp<C>,
     ring: PlainRing,
     table: Option<&Table>,
     out: &mut String,
 ) -> Result<(), Fail>
-    requires clock { IsClockOf script.settings.stamp (C.base clock) (C.step clock) (C.ready clock) (C.gives clock) }
+    requires pace { stamp ≡ pace_of script.settings.stamp }
     requires fresh { up_of ring ≡ new_up (up_of ring).split script.settings.ring true }
     requires names { (K.script ≡ script) × (K.split ≡ (up_of ring).split) }
     requires l0 { (blank0.name ≡ L0.name) × (blank0.parts ≡ L0.parts) × (blank0.parts ≡ 1) }
@@ -180,7 +180,7 @@ fn log_by_pens<
         PlainRing,
         C,
     >::start(
-        alloc, blank0, blank1, blank2, blank3, blank4, blank5, blank6, blank7, script, clock, ring,
+        alloc, blank0, blank1, blank2, blank3, blank4, blank5, blank6, blank7, script, stamp, ring,
     )?;
     log_by(rt, &logger, &mut pens.p1);
     log_three_by(rt, &logger, &mut pens.p0);
@@ -201,7 +201,7 @@ fn log_script<W: Wait>(
     let Ok(ring) = PlainRing::split(alloc, script.ring()) else {
         return Err(Fail::new("no ring"));
     };
-    let clock = clock_of(&script);
+    let stamp = stamp_of(&script);
     log_by_pens::<Brand, Brand, Brand, Brand, Brand, Brand, Brand, Brand, Brand, _, _>(
         rt,
         alloc,
@@ -214,7 +214,7 @@ fn log_script<W: Wait>(
         Blank::new(1),
         Blank::new(1),
         script,
-        clock,
+        stamp,
         ring,
         table,
         out,

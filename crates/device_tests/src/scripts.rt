@@ -1,9 +1,9 @@
-// Scripts of rows, their clocks and sites, and what rows tell of a run.
+// Scripts of rows, their stamps and sites, and what rows tell of a run.
 ghost use Rattle.std.specs.Prelude.{◌≡◌, ◌≤◌, ◌+◌, ◌*◌, IfOk};
-ghost use Rattle.defmt_logger.specs.Kept.{IsClockOf};
+ghost use Rattle.defmt_logger.specs.Kept.{pace_of};
 ghost use Rattle.defmt_macros.specs.Sites.{IsSite};
 
-use defmt_hooks::Clock;
+use defmt_hooks::{Clock, Stamp};
 use defmt_intern::Table;
 use defmt_logger::{Mark, Tape};
 use defmt_macros::Site;
@@ -30,10 +30,6 @@ pub(crate) struct Even {
 }
 
 impl Clock for Even {
-    ghost base = { λ e. e.base };
-
-    ghost step = { λ e. e.step };
-
     ghost ready = { λ e t. t ≤ 4096 };
 
     ghost gives = { λ e t stamp. stamp ≡ e.base + e.step * t };
@@ -43,14 +39,14 @@ impl Clock for Even {
     }
 }
 
-// The clock of a script.
-pub(crate) fn clock_of(script: &Script) -> Even
-    ensures { IsClockOf script.now.settings.stamp result.base result.step (λ t. t ≤ 4096) (λ t stamp. stamp ≡ result.base + result.step * t) }
+// The stamp of a script.
+pub(crate) fn stamp_of(script: &Script) -> Stamp<Even>
+    ensures { result ≡ pace_of script.now.settings.stamp }
 {
     script.lawful();
     match script.stamp() {
-        Some((base, step)) => Even { base, step },
-        None => Even { base: 0, step: 0 },
+        Some((base, step)) => Stamp::new(base, step, Even { base, step }),
+        None => Stamp::new(0, 0, Even { base: 0, step: 0 }),
     }
 }
 

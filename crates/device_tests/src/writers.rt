@@ -1,12 +1,12 @@
 // Scripts that are run by threads, under gates that hold some of them.
 ghost use Rattle.std.specs.Prelude.{◌≡◌, [], IfOk};
-ghost use Rattle.defmt_logger.specs.Kept.{IsClockOf, TellsIn};
+ghost use Rattle.defmt_logger.specs.Kept.{TellsIn, pace_of};
 ghost use Rattle.defmt_writers.specs.Runs.{ModeFits};
 ghost use Rattle.rtt_ring.specs.Views.{new_down, new_up};
 
 use crate::rows::{Kind, each_block};
-use crate::scripts::{clock_of, put_digits_or_nothing, put_marks, script_of};
-use defmt_hooks::Clock;
+use crate::scripts::{put_digits_or_nothing, put_marks, script_of, stamp_of};
+use defmt_hooks::{Clock, Stamp};
 use defmt_logger::{Eight, Logger, Naming};
 use defmt_script::{RingMode, Script};
 use defmt_writers::{Gate, OpenGate, Run, run_script, serve_here};
@@ -244,8 +244,8 @@ fn put_run<H: Channel, G: Gate + Sync, R: Threads + Wait + Sync>(
 ) -> Result<(), Fail>
     requires { ModeFits script.settings.mode H.tells }
 {
-    let clock = clock_of(&script);
-    let run = run_script::<H, _, G, R>(rt, alloc, script, clock, gate)?;
+    let stamp = stamp_of(&script);
+    let run = run_script::<H, _, G, R>(rt, alloc, script, stamp, gate)?;
     put_told(told, &run, out)
 }
 
@@ -328,13 +328,13 @@ fn serve_alone<
     blank6: Blank,
     blank7: Blank,
     script: Script,
-    clock: C,
+    stamp: Stamp<C>,
     up: H::Up,
     mut down: H::Down,
     captured: &mut Bytes,
     rest: &mut Bytes,
 ) -> Result<(), Fail>
-    requires clock { IsClockOf script.settings.stamp (C.base clock) (C.step clock) (C.ready clock) (C.gives clock) }
+    requires pace { stamp ≡ pace_of script.settings.stamp }
     requires up { H.Up.view up ≡ new_up (H.Up.view up).split script.settings.ring (H.Up.view up).tells }
     requires told { TellsIn script.settings.mode (H.Up.view up) }
     requires down { H.Down.view down ≡ new_down (H.Up.view up).split script.settings.ring }
@@ -350,7 +350,7 @@ fn serve_alone<
     requires l7 { (blank7.name ≡ L7.name) × (blank7.parts ≡ L7.parts) × (blank7.parts ≡ 1) }
 {
     let (logger, mut pens) = Logger::<Eight<L0, L1, L2, L3, L4, L5, L6, L7>, K, H::Up, C>::start(
-        alloc, blank0, blank1, blank2, blank3, blank4, blank5, blank6, blank7, script, clock, up,
+        alloc, blank0, blank1, blank2, blank3, blank4, blank5, blank6, blank7, script, stamp, up,
     )?;
     let count = pens.p0.total();
     serve_here::<H, _, _, _, _, _, _, _>(
@@ -382,7 +382,7 @@ fn run_alone<W: Wait>(
     let Ok((up, down)) = WordRing::split(alloc, script.ring()) else {
         return Err(Fail::new("no ring"));
     };
-    let clock = clock_of(&script);
+    let stamp = stamp_of(&script);
     serve_alone::<WordRing, Brand, Brand, Brand, Brand, Brand, Brand, Brand, Brand, Brand, _, _>(
         rt,
         alloc,
@@ -395,7 +395,7 @@ fn run_alone<W: Wait>(
         Blank::new(1),
         Blank::new(1),
         script,
-        clock,
+        stamp,
         up,
         down,
         captured,
