@@ -29,18 +29,17 @@ use Rattle.defmt_intern.specs.declared.entry.Tag.TheVariants.{Timestamp}
 use Rattle.defmt_intern.specs.declared.parsed.Parsed.{Parsed}
 use Rattle.defmt_intern.specs.declared.parsed.Parsed.TheVariants.{One}
 use Rattle.defmt_intern.proofs.BodyLaws.{pieces_again}
+use Rattle.defmt_intern.proofs.Stamps.{stamp_is}
 use Rattle.defmt_values.specs.Entries.{look, places_of}
 use Rattle.defmt_values.specs.Fits.{Fits, FitsStamp, FitsVals}
 use Rattle.defmt_values.specs.Plain.{no_vals, uint, val}
 use Rattle.defmt_values.specs.Scan.{own_form, own_in}
 use Rattle.defmt_values.specs.declared.value.Statement.{Statement}
-use Rattle.defmt_eager.specs.Line.{IsWide, stamp_at, stamp_text, text_limit}
+use Rattle.defmt_eager.specs.Line.{IsWide, stamp_text, text_limit}
 use Rattle.defmt_eager.specs.Show.{eager_text, own_pieces, pieces_in, pieces_text, show_val, shows}
-use Rattle.defmt_eager.proofs.Stamps as lines
 use Rattle.defmt_encode.proofs.Laws.{stamp_length}
-use Rattle.defmt_encode.proofs.Stamps as messages
 use Rattle.defmt_encode.specs.Carry.{stamp_args}
-use Rattle.defmt_encode.specs.Stamp.{stamp_of}
+use Rattle.defmt_intern.specs.Stamp.{stamp_of}
 use Rattle.defmt_script.specs.Lawful.{HasStamp, IsLawful, IsSound, first_message, message_limit, message_with, stamp_in}
 use Rattle.defmt_script.specs.Script.{Script}
 
@@ -170,22 +169,17 @@ at_narrow : (stamp : Option (ℕ × ℕ)) (t : Map) (n : ℕ) (has : HasStamp st
 at_narrow None t n has lawful small = omega arith
 at_narrow (Some p) t n has lawful small = stamp_narrow t lawful has.0 n has.1 has.2 has.3 has.4 small
 
-pub fits_message : (s : Script) (n : ℕ) → IsLawful s → n < 2 ^ 64 → FitsStamp s.table (stamp_of s.table) (stamp_args (stamp_in s.settings.stamp n))
-fits_message s n h small =
-    subst (λ (o : Option ℕ). FitsStamp s.table o (stamp_args (stamp_in s.settings.stamp n)))
-    (messages.stamp_is s.table (at_in s.settings.stamp s.table h.stamp) h.table (at_is s.settings.stamp s.table h.stamp)) (at_fits s.settings.stamp s.table n h.stamp h.table small)
+same_index : (s : Script) (h : IsLawful s) → stamp_of s.table ≡ at_in s.settings.stamp s.table h.stamp
+same_index s h = stamp_is s.table (at_in s.settings.stamp s.table h.stamp) h.table (at_is s.settings.stamp s.table h.stamp)
 
-same_line : (s : Script) (h : IsLawful s) → stamp_at s.table ≡ at_in s.settings.stamp s.table h.stamp
-same_line s h = lines.stamp_is s.table (at_in s.settings.stamp s.table h.stamp) h.table (at_is s.settings.stamp s.table h.stamp)
-
-pub fits_line : (s : Script) (n : ℕ) → IsLawful s → n < 2 ^ 64 → FitsStamp s.table (stamp_at s.table) (stamp_args (stamp_in s.settings.stamp n))
-fits_line s n h small =
-    subst (λ (o : Option ℕ). FitsStamp s.table o (stamp_args (stamp_in s.settings.stamp n))) (sym (same_line s h)) (at_fits s.settings.stamp s.table n h.stamp h.table small)
+pub fits_stamp : (s : Script) (n : ℕ) → IsLawful s → n < 2 ^ 64 → FitsStamp s.table (stamp_of s.table) (stamp_args (stamp_in s.settings.stamp n))
+fits_stamp s n h small =
+    subst (λ (o : Option ℕ). FitsStamp s.table o (stamp_args (stamp_in s.settings.stamp n))) (sym (same_index s h)) (at_fits s.settings.stamp s.table n h.stamp h.table small)
 
 pub never_wide : (s : Script) (n : ℕ) (stm : Statement) → IsLawful s → n < 2 ^ 64 → IsSound s.table s.settings.stamp stm
     → IsWide s.table (stamp_args (stamp_in s.settings.stamp n)) stm.index stm.args → ⊥
 never_wide s n stm h small sound (inl long) =
     let own : text_limit < length (stamp_text s.table (at_in s.settings.stamp s.table h.stamp) (stamp_args (stamp_in s.settings.stamp n))) =
-    subst (λ (o : Option ℕ). text_limit < length (stamp_text s.table o (stamp_args (stamp_in s.settings.stamp n)))) (same_line s h) long in
+    subst (λ (o : Option ℕ). text_limit < length (stamp_text s.table o (stamp_args (stamp_in s.settings.stamp n)))) (same_index s h) long in
     absurd (omega (arith, own, at_narrow s.settings.stamp s.table n h.stamp h.table small))
 never_wide s n stm h small sound (inr long) = absurd (omega (arith, long, sound.narrow))

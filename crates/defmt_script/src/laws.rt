@@ -1,9 +1,9 @@
 //! Laws of scripts.
 
 ghost use Rattle.std.specs.Prelude.{◌≡◌, ◌+◌, ◌<◌, ◌≤◌, ◌^◌, ℕ, List, Ok, Some, length};
-ghost use Rattle.defmt_eager.specs.Line.{IsWide, stamp_at};
+ghost use Rattle.defmt_eager.specs.Line.{IsWide};
 ghost use Rattle.defmt_encode.specs.Carry.{message_of, stamp_args};
-ghost use Rattle.defmt_encode.specs.Stamp.{stamp_of};
+ghost use Rattle.defmt_intern.specs.Stamp.{stamp_of};
 ghost use Rattle.defmt_intern.specs.Table.{Map};
 ghost use Rattle.defmt_script.specs.Lawful.{IsLawful, IsSound, stamp_in};
 ghost use Rattle.defmt_script.specs.Reads.{Reads};
@@ -27,12 +27,8 @@ pub fn scripts_are_lawful()
 /// Each stamp below 2^64 fits the timestamp's entry of a lawful script's table, where there are stamps, and no statement of
 /// the script has too wide a line with it.
 pub fn stamps_fit()
-    // As a message carries it.
-    ensures message { (script : Read) (n : ℕ) → IsLawful script → n < 2 ^ 64
+    ensures fits { (script : Read) (n : ℕ) → IsLawful script → n < 2 ^ 64
         → FitsStamp script.table (stamp_of script.table) (stamp_args (stamp_in script.settings.stamp n)) }
-    // As a line shows it.
-    ensures line { (script : Read) (n : ℕ) → IsLawful script → n < 2 ^ 64
-        → FitsStamp script.table (stamp_at script.table) (stamp_args (stamp_in script.settings.stamp n)) }
     ensures narrow { (script : Read) (n : ℕ) (stm : AnyStatement) → IsLawful script → n < 2 ^ 64
         → IsSound script.table script.settings.stamp stm
         → IsWide script.table (stamp_args (stamp_in script.settings.stamp n)) stm.index stm.args → ⊥ }

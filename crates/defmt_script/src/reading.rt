@@ -61,14 +61,14 @@ impl Model for Reading {
       first = r.first;
       strings = r.strings;
       statements = r.statements;
-      script = record { settings = r.settings; table = r.table; names = r.names; writers = r.writers.items };
+      script = record { settings = r.settings; table = r.table.entries; names = r.names; writers = r.writers.items };
     } };
 
     ghost invariant = { λ r. IsSteady (record {
       first = r.first;
       strings = r.strings;
       statements = r.statements;
-      script = record { settings = r.settings; table = r.table; names = r.names; writers = r.writers.items };
+      script = record { settings = r.settings; table = r.table.entries; names = r.names; writers = r.writers.items };
     }) };
 }
 
@@ -119,9 +119,9 @@ fn entry_of(alloc: Global, index: u16, tag: Tag, text: &str) -> Result<Entry, Me
 
 // Puts an entry at a free index.
 fn put_entry(table: &mut Table, index: u16, entry: Entry) -> Result<(), Memory>
-    requires { (cause : ℕ) → InsertRefused table.old index entry cause → ⊥ }
-    ensures ok { OnOk result (table.new ≡ map.insert table.old index entry) }
-    ensures err { OnErr result (table.new ≡ table.old) }
+    requires { (cause : ℕ) → InsertRefused table.old.entries index entry cause → ⊥ }
+    ensures ok { OnOk result (table.new.entries ≡ map.insert table.old.entries index entry) }
+    ensures err { OnErr result (table.new.entries ≡ table.old.entries) }
 {
     match table.insert(index, entry) {
         Ok(()) => Ok(()),
@@ -132,7 +132,7 @@ fn put_entry(table: &mut Table, index: u16, entry: Entry) -> Result<(), Memory>
 
 // Whether the entry at an index is a level's or println's.
 fn is_message(table: &Table, index: u16) -> bool
-    ensures { result ≡ is_message table.now index }
+    ensures { result ≡ is_message table.now.entries index }
 {
     match table.get(index) {
         Some(entry) => is_logged(&entry.tag),
@@ -148,8 +148,8 @@ fn arguments_of(
     index: u16,
     text: &str,
 ) -> Result<Result<Args, u8>, Memory>
-    ensures reads { IfOk result (λ args. ReadsArguments names.now table.now index text.now args) }
-    ensures fits { IfOk result (λ read. IfOk read (λ args. Fits table.now index args)) }
+    ensures reads { IfOk result (λ args. ReadsArguments names.now table.now.entries index text.now args) }
+    ensures fits { IfOk result (λ read. IfOk read (λ args. Fits table.now.entries index args)) }
 {
     match read_args(alloc, names, table, index, text) {
         Ok(args) => Ok(Ok(args)),
@@ -160,7 +160,7 @@ fn arguments_of(
 
 // Whether the message of a statement has more than 2,000 bytes.
 fn is_long(table: &Table, stamp: Option<(u64, u64)>, stm: &Statement) -> bool
-    ensures { result ≡ nat_lt message_limit (length (first_message table.now stamp stm.now)) }
+    ensures { result ≡ nat_lt message_limit (length (first_message table.now.entries stamp stm.now)) }
 {
     defmt_encode::is_long(table, base_of(stamp), stm)
 }
@@ -176,8 +176,8 @@ fn base_of(stamp: Option<(u64, u64)>) -> Option<u64>
 
 // Whether the text of a statement has more than 65,536 bytes.
 fn is_wide(alloc: Global, table: &Table, stm: &Statement) -> Result<bool, Memory>
-    requires { Fits table.now stm.now.index stm.now.args }
-    ensures { IfOk result (λ wide. wide ≡ nat_lt text_limit (length (eager_text table.now stm.now.index stm.now.args))) }
+    requires { Fits table.now.entries stm.now.index stm.now.args }
+    ensures { IfOk result (λ wide. wide ≡ nat_lt text_limit (length (eager_text table.now.entries stm.now.index stm.now.args))) }
 {
     match defmt_eager::is_wide(alloc, table, stm) {
         Ok(wide) => Ok(wide),

@@ -2,10 +2,11 @@
 
 ghost use Rattle.std.specs.Prelude.{◌≡◌, ◌++◌, ◌∷◌, ◌<◌, ◌≤◌, [], length, slice_get, slice_index_or, OnOk, OnErr, IfSome};
 ghost use Rattle.std.specs.Option.{option_copied};
+ghost use Rattle.defmt_intern.specs.declared.table.Profile.TheVariants.{One};
 ghost use Rattle.defmt_script.specs.Lawful.{IsLawful};
 ghost use Rattle.defmt_script.specs.State.{no_statements};
 
-use defmt_intern::Table;
+use defmt_intern::{Profile, Table};
 use defmt_lines::{RingMode, Settings};
 use defmt_spelling::Names;
 use defmt_values::Statement;
@@ -72,6 +73,8 @@ pub struct Script {
 }
 
 impl Model for Script {
+    ghost use Rattle.std.specs.Prelude.{◌≡◌};
+    ghost use Rattle.defmt_intern.specs.declared.table.Profile.TheVariants.{One};
     ghost use Rattle.defmt_script.specs.Lawful.{IsLawful as HoldsOfScripts};
     ghost use Rattle.defmt_script.specs.Script.{Script as Read};
     ghost use Rattle.defmt_script.specs.Codes.{coded_script};
@@ -80,22 +83,23 @@ impl Model for Script {
 
     ghost coded = { coded_script };
 
-    ghost view = { λ s. record { settings = s.settings; table = s.table; names = s.names; writers = s.writers.items } };
+    ghost view = { λ s. record { settings = s.settings; table = s.table.entries; names = s.names; writers = s.writers.items } };
 
-    ghost invariant = { λ s. HoldsOfScripts (record { settings = s.settings; table = s.table; names = s.names; writers = s.writers.items }) };
+    ghost invariant = { λ s. HoldsOfScripts (record { settings = s.settings; table = s.table.entries; names = s.names; writers = s.writers.items }) × (s.table.profile ≡ One) };
 }
 
 impl Script {
-    /// A script of these parts.
+    /// A script of these parts. Its messages are laid out by profile One.
     pub(crate) fn new(
         settings: Settings,
-        table: Table,
+        mut table: Table,
         names: Names,
         writers: Vec<Statements>,
     ) -> Self
-        requires { IsLawful (record { settings = settings; table = table; names = names; writers = writers.items }) }
-        ensures { result ≡ record { settings = settings; table = table; names = names; writers = writers.items } }
+        requires { IsLawful (record { settings = settings; table = table.entries; names = names; writers = writers.items }) }
+        ensures { result ≡ record { settings = settings; table = table.entries; names = names; writers = writers.items } }
     {
+        table.set_profile(Profile::One);
         Script {
             settings,
             table,
@@ -143,7 +147,8 @@ impl Script {
     /// The strings, with the indexes 1, 2, 3 and so on, and behind them the timestamp's entry where there are stamps. Takes
     /// no memory.
     pub fn table(&self) -> &Table
-        ensures { result.now ≡ self.now.table }
+        ensures entries { result.now.entries ≡ self.now.table }
+        ensures profile { result.now.profile ≡ One }
     {
         &self.table
     }

@@ -13,5 +13,5 @@ pub invariant_of-self-2 : goal.invariant_of-self-2
 invariant_of-self-2 c =
     let low = subst (λ (v : State). rank v.first ≤ 4) (sym c.self.view_is) c.requires.open in
     let room = subst (λ (v : State). v.strings < strings_limit) (sym c.self.view_is) c.requires.room in
-    string_steady _ _ _ _ _ c.self.inside.table _ _ _ c.in_ok-entry.entry (kept_steady _ _ _ _ _ c.self.inside.table _ c.put.new.self _ c.self.invariant refl) low refl
+    string_steady _ _ _ _ _ c.self.inside.table.entries _ _ _ c.in_ok-entry.entry (kept_steady _ _ _ _ _ c.self.inside.table.entries _ c.put.new.self _ c.self.invariant refl) low refl
     (omega (arith, room)) (ap (λ (e : Entry). is_string_tag e.tag) c.in_ok-entry.ensures ∙ c.requires.string_tag) c.in_ok-put_entry.ensures.ok

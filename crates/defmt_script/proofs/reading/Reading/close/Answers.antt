@@ -6,7 +6,7 @@ use Rattle.defmt_script.proofs.reading.Reading.close.Goals as goal
 
 pub put_entry-requires : goal.put_entry-requires
 put_entry-requires c =
-    let inside = state c.self.inside.first c.self.inside.strings c.self.inside.statements c.self.inside.settings c.self.inside.table c.self.inside.names c.self.inside.writers.items in
+    let inside = state c.self.inside.first c.self.inside.strings c.self.inside.statements c.self.inside.settings c.self.inside.table.entries c.self.inside.names c.self.inside.writers.items in
     let low = low_when c.self.inside.first (sym c.is_in_order.ensures ∙ c.if-not-is_in_order.false) in
     is_free inside c.in_ok-entry.entry (c.self.invariant.opened low) (subst (λ (e : Entry). length e.text ≤ 4096) (sym c.in_ok-entry.ensures) (lit≤ tt))
 
@@ -21,5 +21,5 @@ invariant_of-self-in_err-put_entry c = kept_steady _ _ _ _ _ _ _ _ _ c.self.inva
 pub invariant_of-self-2 : goal.invariant_of-self-2
 invariant_of-self-2 c =
     let low = low_when c.self.inside.first (sym c.is_in_order.ensures ∙ c.if-not-is_in_order.false) in
-    stamped_steady _ _ _ _ _ c.self.inside.table _ _ _ c.self.invariant low (c.is_none.ensures ∙ ap not c.if-is_none.false)
-    (c.in_ok-put_entry.ensures.ok ∙ ap (map.insert c.self.inside.table _) c.in_ok-entry.ensures)
+    stamped_steady _ _ _ _ _ c.self.inside.table.entries _ _ _ c.self.invariant low (c.is_none.ensures ∙ ap not c.if-is_none.false)
+    (c.in_ok-put_entry.ensures.ok ∙ ap (map.insert c.self.inside.table.entries _) c.in_ok-entry.ensures)

@@ -14,14 +14,14 @@ invariant_of-self-2 c =
     let room = subst (λ (v : State). v.statements < 4096) (sym c.self.view_is) c.requires.room in
     let fits = subst (λ (v : State). Fits v.script.table c.args.stm.index c.args.stm.args) (sym c.self.view_is) c.requires.fits in
     let message = subst (λ (v : State). is_message v.script.table c.args.stm.index ≡ true) (sym c.self.view_is) c.requires.message in
-    let sound = sound_of c.self.inside.table c.self.inside.settings.stamp c.args.stm fits message (sym c.is_long.ensures ∙ c.if-is_long.false) (sym c.in_ok-is_wide.ensures ∙ c.if-branch.false) in
+    let sound = sound_of c.self.inside.table.entries c.self.inside.settings.stamp c.args.stm fits message (sym c.is_long.ensures ∙ c.if-is_long.false) (sym c.in_ok-is_wide.ensures ∙ c.if-branch.false) in
     statement_steady _ _ _ _ _ _ _ c.self.inside.writers.items _ c.args.writer c.args.stm c.self.invariant past c.requires.writer refl (omega (arith, room)) sound
     (placed c.self.inside.writers.items c.from.result c.args.writer c.args.stm c.index_mut.result.now c.push.new.self c.from.ensures c.index_mut.ensures.value c.in_ok-push.ensures.ok (omega (arith, c.from.ensures, c.requires.writer, c.self.invariant.eight)))
 
 pub returns : goal.returns
 returns c =
-    let inside = state c.self.inside.first c.self.inside.strings c.self.inside.statements c.self.inside.settings c.self.inside.table c.self.inside.names c.self.inside.writers.items in
+    let inside = state c.self.inside.first c.self.inside.strings c.self.inside.statements c.self.inside.settings c.self.inside.table.entries c.self.inside.names c.self.inside.writers.items in
     ap (λ (v : State). takes_statement v c.args.writer c.args.stm) (sym c.self.view_is)
     ∙ taken inside c.args.writer c.args.stm (sym c.is_long.ensures ∙ c.if-is_long.false) (sym c.in_ok-is_wide.ensures ∙ c.if-branch.false)
-    ∙ ap (λ (ws : List (List Statement)). let r : Result State Cause = Ok (state c.self.inside.first c.self.inside.strings (c.self.inside.statements + 1) c.self.inside.settings c.self.inside.table c.self.inside.names ws) in r)
+    ∙ ap (λ (ws : List (List Statement)). let r : Result State Cause = Ok (state c.self.inside.first c.self.inside.strings (c.self.inside.statements + 1) c.self.inside.settings c.self.inside.table.entries c.self.inside.names ws) in r)
     (sym (placed c.self.inside.writers.items c.from.result c.args.writer c.args.stm c.index_mut.result.now c.push.new.self c.from.ensures c.index_mut.ensures.value c.in_ok-push.ensures.ok (omega (arith, c.from.ensures, c.requires.writer, c.self.invariant.eight))))
