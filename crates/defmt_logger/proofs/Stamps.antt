@@ -5,7 +5,7 @@ use Rattle.std.specs.FinMap as map
 use Rattle.std.specs.List.{slice_get}
 use Rattle.std.proofs.lemmas.Bool.{cond-true, lt-ltb}
 use Rattle.defmt_encode.proofs.Entries.{own_slots_are, slots_at_places}
-use Rattle.defmt_encode.proofs.Stamps.{stamp_is}
+use Rattle.defmt_intern.proofs.Stamps.{stamp_is}
 use Rattle.defmt_encode.specs.Carry.{own_slots, stamp_slots}
 use Rattle.defmt_grammar.specs.Cut.{behind}
 use Rattle.defmt_grammar.specs.Grammar.{IsHole, Spells, hole}
@@ -92,9 +92,9 @@ takes_number t lawful index entry there tag text =
     own_slots_are t index entry stamp_pieces (stamp_looks t lawful index entry there) (stamp_body entry tag text) ∙ slots_at_places stamp_pieces ∙ one_number
 
 suits_by : (stamp : Option (ℕ × ℕ)) (t : Map) (n : ℕ) → HasStamp stamp t → IsLawfulTable t → StampSuits t (stamp_in stamp n)
-suits_by None t n has lawful = ap (stamp_slots t) (sym (stamp_is t None lawful has))
+suits_by None t n has lawful = ap (stamp_slots t) (stamp_is t None lawful has)
 suits_by (Some p) t n has lawful =
-    ap (stamp_slots t) (sym (stamp_is t (Some has.0) lawful (record { entry = has.1; there = has.2; is_stamp = has.3 })))
+    ap (stamp_slots t) (stamp_is t (Some has.0) lawful (record { entry = has.1; there = has.2; is_stamp = has.3 }))
     ∙ takes_number t lawful has.0 has.1 has.2 has.3 has.4
 
 pub suits : (s : Script) (n : ℕ) → IsLawful s → StampSuits s.table (stamp_in s.settings.stamp n)

@@ -22,8 +22,8 @@ fn write_values(
     frame_out: &mut [u8],
 ) -> usize
     requires buffers { (length message_out.old ≡ 2000) × (length frame_out.old ≡ 2288) }
-    requires writes { Writes table.now site.now stamp args.now }
-    ensures frame { take result frame_out.new ≡ frame_of (message_of table.now (stamp_args stamp) site.now.index args.now) }
+    requires writes { Writes table.now.entries site.now stamp args.now }
+    ensures frame { take result frame_out.new ≡ frame_of (message_of table.now.entries (stamp_args stamp) site.now.index args.now) }
     ensures some { 0 < result }
     ensures size { result ≤ 2288 }
 {

@@ -20,8 +20,8 @@ pub struct Sites {
 
 // The site of the string at an index, which is a message's.
 fn site_of(alloc: Global, table: &Table, index: u16) -> Result<Site, Memory>
-    requires { IsMessage table.now index }
-    ensures { IfOk result (λ site. IsSiteOf table.now index site) }
+    requires { IsMessage table.now.entries index }
+    ensures { IfOk result (λ site. IsSiteOf table.now.entries index site) }
 {
     let Some((_, body)) = look_up(table, index) else {
         unreachable!()
@@ -70,9 +70,9 @@ impl Sites {
 
     // Adds the site of the string at an index, which is a message's, where it isn't there yet.
     fn add(&mut self, alloc: Global, table: &Table, index: u16) -> Result<(), Memory>
-        requires own { AreSitesOf table.now self.old }
-        requires message { IsMessage table.now index }
-        ensures own { OnOk result (AreSitesOf table.now self.new) }
+        requires own { AreSitesOf table.now.entries self.old }
+        requires message { IsMessage table.now.entries index }
+        ensures own { OnOk result (AreSitesOf table.now.entries self.new) }
         ensures kept { OnOk result (Keeps self.old self.new) }
         ensures there { OnOk result (IsSome (site_at self.new index)) }
     {

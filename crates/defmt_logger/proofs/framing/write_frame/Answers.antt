@@ -26,7 +26,7 @@ write_values-requires-clause-writes c =
     let there : slice_get (statements_of s c.args.writer) c.args.place ≡ Some stm = sym c.statement.ensures ∙ ap option_copied c.in-Some.is in
     let site : Site = c.in-Some-get.site.now in
     let at : site_at c.args.sites.now stm.index ≡ Some site = sym c.get.ensures ∙ ap option_copied c.in-Some-get.is in
-    writes s c.args.sites.now c.args.writer c.args.place c.args.stamp stm site c.table.result.now c.carried_stamp-carried.result c.lawful.ensures c.requires.sites there at c.table.ensures c.carried_stamp-carried.ensures
+    writes s c.args.sites.now c.args.writer c.args.place c.args.stamp stm site c.table.result.now.entries c.carried_stamp-carried.result c.lawful.ensures c.requires.sites there at c.table.ensures.entries c.carried_stamp-carried.ensures
 
 pub returns-clause-frame : goal.returns-clause-frame
 returns-clause-frame c =
@@ -36,5 +36,5 @@ returns-clause-frame c =
     let site : Site = c.in-Some-get.site.now in
     let at : site_at c.args.sites.now stm.index ≡ Some site = sym c.get.ensures ∙ ap option_copied c.in-Some-get.is in
     c.write_values.ensures.frame
-    ∙ ap (λ (i : ℕ). frame_of (message_of c.table.result.now (stamp_args c.carried_stamp-carried.result) i stm.args)) (c.requires.sites.own stm.index site at).0
-    ∙ frame_is s c.args.writer c.args.place c.args.stamp stm c.table.result.now c.carried_stamp-carried.result there c.table.ensures c.carried_stamp-carried.ensures
+    ∙ ap (λ (i : ℕ). frame_of (message_of c.table.result.now.entries (stamp_args c.carried_stamp-carried.result) i stm.args)) (c.requires.sites.own stm.index site at).0
+    ∙ frame_is s c.args.writer c.args.place c.args.stamp stm c.table.result.now.entries c.carried_stamp-carried.result there c.table.ensures.entries c.carried_stamp-carried.ensures
