@@ -19,32 +19,35 @@ use std::thread::Threads;
 use std::time::Instant;
 use std::{env, io};
 
+// Tells what went through a ring.
+fn tell<R: Print>(rt: &R, ring: &str, plan: &Plan, bytes: u64, time: u128) -> io::Result<()> {
+    let (size, frame) = (plan.size, plan.frame);
+    if plan.timed {
+        println!(rt; "{ring} {size} {frame} {bytes} {time}")
+    } else {
+        println!(rt; "{ring} {size} {frame} {bytes}")
+    }
+}
+
 // One round with one ring.
 fn try_ring<C: Channel, R: Threads + Wait + Sync + Clock + Print + AllocGlobal>(
     rt: &R,
     ring: &str,
     plan: &Plan,
 ) -> io::Result<()> {
-    let Plan {
-        size,
-        frame,
-        count,
-        timed,
-        ..
-    } = *plan;
-    let bytes = Vec::from_elem(rt.alloc(), 7, frame)?;
+    let frame = Vec::from_elem(rt.alloc(), 7, plan.frame)?;
     let begin = Instant::now(rt)?;
-    let passed = pass::<C, R>(rt, rt.alloc(), size, bytes.as_slice(), u64::from(count));
-    let time = begin.elapsed(rt)?.as_nanos();
-    let Ok(settled) = passed else {
+    let Ok(settled) = pass::<C, R>(
+        rt,
+        rt.alloc(),
+        plan.size,
+        frame.as_slice(),
+        u64::from(plan.count),
+    ) else {
         return Err(io::Error::from(io::ErrorKind::OutOfMemory));
     };
-    let bytes = settled.got_len();
-    if timed {
-        println!(rt; "{ring} {size} {frame} {bytes} {time}")
-    } else {
-        println!(rt; "{ring} {size} {frame} {bytes}")
-    }
+    let time = begin.elapsed(rt)?.as_nanos();
+    tell(rt, ring, plan, settled.got_len(), time)
 }
 
 fn main(rt: HostRuntime) -> io::Result<ExitCode> {

@@ -5,7 +5,7 @@ ghost use Rattle.std.specs.Prelude.{◌<◌, ◌≤◌, ◌^◌, IfSome, length}
 pub const MOST: usize = 2000;
 
 /// How often to send how many frames through rings of which size.
-#[derive(Clone, Copy, PartialEq, Eq, Debug)]
+#[derive(Drop)]
 pub struct Plan {
     /// The size of the rings in bytes.
     pub size: u32,
@@ -18,6 +18,10 @@ pub struct Plan {
     /// Whether times are told.
     pub timed: bool,
     ghost within: { (16 ≤ size) × (size ≤ 65536) × (0 < frame) × (frame ≤ 2000) },
+}
+
+fn number(word: &String) -> Option<u32> {
+    word.parse().ok()
 }
 
 /// What the words SIZE FRAME COUNT ROUNDS ask for, and `timed` behind them where times are to be told. A size is from 16 to
@@ -33,10 +37,8 @@ pub(crate) fn plan_of(words: &[String]) -> Option<Plan>
     let [size, frame, count, rounds] = first else {
         return None;
     };
-    let size = size.parse::<u32>().ok()?;
-    let frame = frame.parse::<usize>().ok()?;
-    let count = count.parse::<u32>().ok()?;
-    let rounds = rounds.parse::<u32>().ok()?;
+    let (size, frame) = (number(size)?, number(frame)? as usize);
+    let (count, rounds) = (number(count)?, number(rounds)?);
     if size < 16 || size > 65536 || frame == 0 || frame > MOST {
         return None;
     }
