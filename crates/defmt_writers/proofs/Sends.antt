@@ -18,6 +18,7 @@ use Rattle.defmt_logger.specs.contracts.logger.Logger.{the_row as logger_row}
 use Rattle.defmt_logger.specs.declared.books.Books as books
 use Rattle.defmt_logger.specs.declared.locked.Naming as naming
 use Rattle.defmt_script.specs.contracts.script.Script.{the_row as script_row}
+use Rattle.defmt_script.specs.contracts.script.Script.TheInside.{the_type as script_inside}
 use Rattle.defmt_script.specs.contracts.script.Statements.{the_row as statements_row}
 use Rattle.defmt_spelling.proofs.names.Names.TheSendSync.{the_send as names_send}
 use Rattle.defmt_values.proofs.value.Args.TheLaws.TheKnot.{crosses as values_cross}
@@ -31,7 +32,18 @@ statements_send : IsSend statements_row
 statements_send = search (sendable, crosses, statement_send) depth 60
 
 script_send : IsSend script_row
-script_send = search (sendable, crosses, table_send, names_send, statements_send) depth 60
+script_send =
+    view_send _ _ _ _ _
+    (declared_send script_inside (
+      search sendable depth 60,
+      (
+        search (sendable, table_send) depth 60,
+        (
+          search (sendable, names_send) depth 60,
+          (search (sendable, crosses, statements_send) depth 60, tt),
+        ),
+      ),
+    ))
 
 desk_send : (U C : RattleType) (u : up.Ghosts U.Denot) (k : clock.Ghosts C.Denot) → IsSend U → IsSend C → IsSend (desk_row U C u k)
 desk_send U C u k a b =
