@@ -156,6 +156,12 @@ ran task Comes Withheld output Shelf told text s comes makes writes = absurd wri
 ran task Comes Withheld output Long told text s comes makes writes = absurd writes
 ran task Comes Withheld output (Events bad) told text s comes makes writes = absurd writes
 
+-- the same where this is told of it
+pub ran_so : (task : Task) (Comes : Read → Type 0) (Withheld : Fault → Type 0) (output : Output) (fault : Fault) (told made : Told) (text : List ℕ) → told ≡ made → ((s : Read) × Comes s × Makes task s made text) → Writes output text fault
+    → Runs task Comes Withheld output fault told
+ran_so task Comes Withheld output fault told made text is comes writes =
+    ran task Comes Withheld output fault told text comes.0 comes.1 (subst (λ (t : Told). Makes task comes.0 t text) (sym is) comes.2) writes
+
 -- ---- the decoding of a recording
 
 count_some : (n : ℕ) → 0 < n → fault_of_count n ≡ Events n

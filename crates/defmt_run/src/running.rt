@@ -6,6 +6,7 @@ ghost use Rattle.defmt_run.specs.Status.{status_of};
 ghost use Rattle.defmt_script.specs.Script.{Script as Read};
 ghost use Rattle.defmt_run.specs.Printed.{Makes, shown};
 ghost use Rattle.defmt_run.specs.Running.{Gave, GaveWhole, IsSpelled, RunsSource, RunsText, Stops, Withholds, Writes, script_limit};
+ghost use Rattle.defmt_run.specs.Told.{told_of};
 ghost use Rattle.defmt_run.specs.declared.task.RunOutput.TheVariants.{Counts};
 ghost use Rattle.defmt_run.specs.declared.task.Task.TheVariants.{Run, Show};
 
@@ -41,17 +42,7 @@ pub fn run_source<S: Source, K: Sink, G: Gate + Sync, R: Threads + Wait + Sync>(
     ensures sink_count { K.faults out.old ≤ K.faults out.new }
 {
     match prepare(rt, alloc, output, src, gate) {
-        Ok(making) => {
-            let fault = write(out, making.output.as_slice());
-            Outcome {
-                status: fault.status(),
-                fault,
-                tape: making.tape,
-                settled: Some(making.settled),
-                events: making.events,
-                looks: making.looks,
-            }
-        }
+        Ok(making) => made(out, making),
         Err(fault) => Outcome::silent(alloc, fault),
     }
 }
@@ -73,17 +64,7 @@ pub fn run_generated<K: Sink, G: Gate + Sync, R: Threads + Wait + Sync>(
     ensures sink_count { K.faults out.old ≤ K.faults out.new }
 {
     match prepare_generated(rt, alloc, count, gate) {
-        Ok(making) => {
-            let fault = write(out, making.output.as_slice());
-            Outcome {
-                status: fault.status(),
-                fault,
-                tape: making.tape,
-                settled: Some(making.settled),
-                events: making.events,
-                looks: making.looks,
-            }
-        }
+        Ok(making) => made(out, making),
         Err(fault) => Outcome::silent(alloc, fault),
     }
 }
@@ -214,6 +195,34 @@ fn script_of(alloc: Global, text: &[u8]) -> Result<Script, Fault>
             inner,
         }),
         Err(ScriptFault::Memory) => Err(Fault::Memory),
+    }
+}
+
+// Writes what was made of a run, and tells of the run.
+fn made<K: Sink>(out: &mut K, making: Making) -> Outcome
+    ensures status { result.status ≡ status_of result.fault }
+    ensures told { record { tape = result.tape.marks; settled = result.settled; events = result.events; looks = result.looks }
+        ≡ told_of making.tape.marks making.settled making.events making.looks }
+    ensures written { Writes
+        (record { held = K.held out.old; held_after = K.held out.new; faults = K.faults out.old; faults_after = K.faults out.new })
+        making.output.items result.fault }
+    ensures later { K.faults out.old ≤ K.faults out.new }
+{
+    let Making {
+        output,
+        tape,
+        settled,
+        events,
+        looks,
+    } = making;
+    let fault = write(out, output.as_slice());
+    Outcome {
+        status: fault.status(),
+        fault,
+        tape,
+        settled: Some(settled),
+        events,
+        looks,
     }
 }
 
