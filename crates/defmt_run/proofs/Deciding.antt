@@ -6,6 +6,7 @@ use Rattle.std.proofs.lemmas.Bool.{cond-false, cond-true, lt-ltb, le-ltb}
 use Rattle.std.proofs.lemmas.List.{append-nil}
 use Rattle.dl_io.specs.Outside.{HasFile, Lacks, Rose}
 use Rattle.defmt_intern.specs.Table.{Map}
+use Rattle.defmt_intern.specs.declared.table.Table.{Table}
 use Rattle.elf_table.specs.Names.{AnswersOnly, ReadsTable}
 use Rattle.elf_table.specs.declared.fault.LoadFault.{LoadFault}
 use Rattle.elf_table.specs.declared.fault.LoadFault.TheVariants as loads
@@ -182,7 +183,7 @@ module _ (name recording : List ℕ) (files : List ℕ → Option (List ℕ)) (i
   of_file : (file : List ℕ) (fault : Fault) → IsFile shelf.files name file → DecodingComesTo (Some file) recording fault → DecodingComesTo (files name) recording fault
   of_file file fault found comes = subst (λ (o : Option (List ℕ)). DecodingComesTo o recording fault) (sym (is_file shelf.files files name file shelf_told found)) comes
 
-  of_table : (table : Map) (fault : Fault) → Loaded shelf name table → fault ≡ fault_of_recording table recording → DecodingComesTo (files name) recording fault
+  of_table : (table : Table) (fault : Fault) → Loaded shelf name table → fault ≡ fault_of_recording table.entries recording → DecodingComesTo (files name) recording fault
   of_table table fault loaded is = of_file loaded.file fault loaded.fetched (inr (loaded.within, (Ok table, loaded.names, is)))
 
   short_recording : (table : Map) (n : ℕ) → length recording ≤ recording_limit → n ≡ faults (reports table) (events_of table recording) → fault_of_recording table recording ≡ fault_of_count n
@@ -192,12 +193,12 @@ module _ (name recording : List ℕ) (files : List ℕ → Option (List ℕ)) (i
   long_recording : (table : Map) → recording_limit < length recording → fault_of_recording table recording ≡ Long
   long_recording table long = cond-true (nat_lt recording_limit (length recording)) _ _ (lt-ltb recording_limit (length recording) long)
 
-  of_all : (table : Map) (output : Output) (n : ℕ) → Loaded shelf name table → HeardAll (reports table) input output n → (fault : Fault) → fault_of_count n ≡ fault → DecodingComesTo (files name) recording fault
+  of_all : (table : Table) (output : Output) (n : ℕ) → Loaded shelf name table → HeardAll (reports table.entries) input output n → (fault : Fault) → fault_of_count n ≡ fault → DecodingComesTo (files name) recording fault
   of_all table output n loaded heard fault is =
       let same = all_taken input.left input.left_after recording heard.recording told heard.taken heard.at_end in
-      of_table table fault loaded (sym (short_recording table n (omega (arith, ap length same, heard.within)) (heard.counted ∙ ap (λ (l : List ℕ). faults (reports table) (events_of table l)) same) ∙ is))
+      of_table table fault loaded (sym (short_recording table.entries n (omega (arith, ap length same, heard.within)) (heard.counted ∙ ap (λ (l : List ℕ). faults (reports table.entries) (events_of table.entries l)) same) ∙ is))
 
-  hears_comes : (table : Map) (output : Output) (fault : Fault) → Loaded shelf name table → Hears table input output fault
+  hears_comes : (table : Table) (output : Output) (fault : Fault) → Loaded shelf name table → Hears table.entries input output fault
       → OrFails (Rose input.faults input.faults_after) (Rose output.faults output.faults_after) (Rose shelf.faults shelf.faults_after) (DecodingComesTo (files name) recording) fault
   hears_comes table output Fine loaded hears = of_all table output 0 loaded hears Fine refl
   hears_comes table output (Events bad) loaded hears = of_all table output bad loaded hears.0 (Events bad) (count_some bad hears.1)
@@ -205,7 +206,7 @@ module _ (name recording : List ℕ) (files : List ℕ → Option (List ℕ)) (i
   hears_comes table output Source loaded hears = hears.1
   hears_comes table output Sink loaded hears = hears.1
   hears_comes table output Long loaded hears =
-      of_table table Long loaded (sym (long_recording table (omega (arith, hears.size, taken_within input.left input.left_after recording hears.bytes told hears.taken))))
+      of_table table Long loaded (sym (long_recording table.entries (omega (arith, hears.size, taken_within input.left input.left_after recording hears.bytes told hears.taken))))
   hears_comes table output Words loaded hears = absurd hears
   hears_comes table output (Script line cause inner) loaded hears = absurd hears
   hears_comes table output (Elf cause part place) loaded hears = absurd hears
@@ -275,25 +276,25 @@ decode_words name input shelf output fault (inl refused) is = elim refused.0 [
   | inl no_file ↦ name_words shelf name fault is no_file
   | inr no_table ↦ file_words no_table.0 fault is no_table.3
 ]
-decode_words name input shelf output fault (inr heard) is = hears_words heard.0 input output fault is heard.2
+decode_words name input shelf output fault (inr heard) is = hears_words heard.0.entries input output fault is heard.2
 
-same_answer : (read wanted : Result Map LoadFault) (recording : List ℕ) (fault : Fault) → AnswersOnly read wanted → ReadingComesTo read recording fault → read ≡ wanted
+same_answer : (read wanted : Result Table LoadFault) (recording : List ℕ) (fault : Fault) → AnswersOnly read wanted → ReadingComesTo read recording fault → read ≡ wanted
 same_answer (Ok table) wanted recording fault only comes = only
 same_answer (Err (loads.Elf cause part place)) wanted recording fault only comes = only
 same_answer (Err (loads.Names cause symbol)) wanted recording fault only comes = only
 same_answer (Err loads.Memory) wanted recording fault only comes = absurd comes
 
-one_load : (file recording : List ℕ) (read wanted : Result Map LoadFault) (fault other : Fault) → ReadsTable file read → ReadsTable file wanted
+one_load : (file recording : List ℕ) (read wanted : Result Table LoadFault) (fault other : Fault) → ReadsTable file read → ReadsTable file wanted
     → ReadingComesTo read recording fault → ReadingComesTo wanted recording other → fault ≡ other
 one_load file recording read (Ok table) fault other reads wants comes also =
     let same = same_answer read (Ok table) recording fault (names_only file read table reads wants) comes in
-    let here = subst (λ (r : Result Map LoadFault). ReadingComesTo r recording fault) same comes in here ∙ sym also
+    let here = subst (λ (r : Result Table LoadFault). ReadingComesTo r recording fault) same comes in here ∙ sym also
 one_load file recording read (Err (loads.Elf cause part place)) fault other reads wants comes also =
     let same = same_answer read (Err (loads.Elf cause part place)) recording fault (elf_only file read (record { cause = cause; part = part; place = place }) reads wants) comes in
-    let here = subst (λ (r : Result Map LoadFault). ReadingComesTo r recording fault) same comes in here ∙ sym also
+    let here = subst (λ (r : Result Table LoadFault). ReadingComesTo r recording fault) same comes in here ∙ sym also
 one_load file recording read (Err (loads.Names cause symbol)) fault other reads wants comes also =
     let same = same_answer read (Err (loads.Names cause symbol)) recording fault (symbol_only file read cause symbol reads wants) comes in
-    let here = subst (λ (r : Result Map LoadFault). ReadingComesTo r recording fault) same comes in here ∙ sym also
+    let here = subst (λ (r : Result Table LoadFault). ReadingComesTo r recording fault) same comes in here ∙ sym also
 one_load file recording read (Err loads.Memory) fault other reads wants comes also = absurd also
 
 pub decode_one : (file : Option (List ℕ)) (recording : List ℕ) (fault other : Fault) → DecodingComesTo file recording other → DecodingComesTo file recording fault → fault ≡ other

@@ -97,7 +97,7 @@ is_sent s known short m good =
     let sound : IsSound s.table s.settings.stamp stm = sound_at s m.writer m.place stm known.lawful found in
     let below : m.writer < 8 = omega (arith, writer_below s.writers m.writer m.place good.placed, known.lawful.eight) in
     record {
-      stamp_fits = known.fit.message s m.stamp known.lawful good.small;
+      stamp_fits = known.fit.fits s m.stamp known.lawful good.small;
       fits = sound.fits;
       logged = sound.logged;
       stamp_sound = stamp_sound (stamp_in s.settings.stamp m.stamp);

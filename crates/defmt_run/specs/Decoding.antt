@@ -2,6 +2,7 @@
 use Rattle.std.specs.Prelude.{◌≡◌, ◌⊎◌, ◌<◌, ◌≤◌, ℕ, zero, suc, nat_lt, List, length, Option, Some, None, Result, Ok, Err, if◌then◌else◌}
 use Rattle.dl_io.specs.Outside.{HasFile, Lacks, Rose}
 use Rattle.defmt_intern.specs.Table.{Map}
+use Rattle.defmt_intern.specs.declared.table.Table.{Table}
 use Rattle.elf_section.specs.Checks.{Refused}
 use Rattle.elf_table.specs.Names.{NamesTable, ReadsTable, SymbolRefused}
 use Rattle.elf_table.specs.declared.fault.LoadFault.{LoadFault}
@@ -24,7 +25,7 @@ IsFile None name file = Unit {0}
 IsFile (Some files) name file = files name ≡ Some file
 
 -- The file of this name names this table.
-pub record Loaded (files : Files) (name : List ℕ) (table : Map) : Type 0 where
+pub record Loaded (files : Files) (name : List ℕ) (table : Table) : Type 0 where
   pub file : List ℕ
   pub fetched : IsFile files.files name file
   pub within : length file ≤ table_limit
@@ -64,7 +65,7 @@ Hears table input output fault = ⊥
 abbrev pub Decodes : List ℕ → Input → Files → Output → Fault → Type 0
 Decodes name input files output fault =
     (RefusesTable files name fault × IsUnread input × IsUnwritten output)
-    ⊎ ((table : Map) × Loaded files name table × Hears table input output fault)
+    ⊎ ((table : Table) × Loaded files name table × Hears table.entries input output fault)
 
 -- ---- what told inputs come to, where nothing fails and memory is there
 
@@ -78,8 +79,8 @@ fault_of_recording table recording =
     if nat_lt recording_limit (length recording) then Long else fault_of_count (faults (reports table) (events_of table recording))
 
 -- a recording, where the table's file is read so
-abbrev pub ReadingComesTo : Result Map LoadFault → List ℕ → Fault → Type 0
-ReadingComesTo (Ok table) recording fault = fault ≡ fault_of_recording table recording
+abbrev pub ReadingComesTo : Result Table LoadFault → List ℕ → Fault → Type 0
+ReadingComesTo (Ok table) recording fault = fault ≡ fault_of_recording table.entries recording
 ReadingComesTo (Err (loads.Elf cause part place)) recording fault = fault ≡ Elf cause part place
 ReadingComesTo (Err (loads.Names cause symbol)) recording fault = fault ≡ Names cause symbol
 ReadingComesTo (Err loads.Memory) recording fault = ⊥
@@ -89,4 +90,4 @@ abbrev pub DecodingComesTo : Option (List ℕ) → List ℕ → Fault → Type 0
 DecodingComesTo None recording fault = fault ≡ Shelf
 DecodingComesTo (Some file) recording fault =
     ((table_limit < length file) × (fault ≡ Long))
-    ⊎ ((length file ≤ table_limit) × ((read : Result Map LoadFault) × ReadsTable file read × ReadingComesTo read recording fault))
+    ⊎ ((length file ≤ table_limit) × ((read : Result Table LoadFault) × ReadsTable file read × ReadingComesTo read recording fault))

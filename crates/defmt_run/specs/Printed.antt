@@ -4,7 +4,8 @@ use Rattle.std.specs.Fmt.{decimal}
 use Rattle.std.specs.List.{AllByRecursion}
 use Rattle.elf_section.specs.Written.{written}
 use Rattle.elf_table.specs.Listed.{symbols_in}
-use Rattle.defmt_eager.specs.Line.{eager_line, stamp_at, IsWide}
+use Rattle.defmt_eager.specs.Line.{eager_line, IsWide}
+use Rattle.defmt_intern.specs.Stamp.{stamp_of}
 use Rattle.defmt_encode.specs.Carry.{message_of, stamp_args}
 use Rattle.defmt_intern.specs.Table.{Map}
 use Rattle.defmt_intern.specs.declared.entry.Entry.{Entry}
@@ -162,7 +163,7 @@ ArePlaced s tape = AllByRecursion (IsPlaced s) tape
 
 -- The statement has a line: stamp and statement fit the table, the statement is a message's, and neither text is too wide.
 pub record Prints (table : Map) (stamp : Option ℕ) (stm : Statement) : Type 0 where
-  pub stamp_fits : FitsStamp table (stamp_at table) (stamp_args stamp)
+  pub stamp_fits : FitsStamp table (stamp_of table) (stamp_args stamp)
   pub fits : Fits table stm.index stm.args
   pub logged : IsLogged table stm.index
   pub narrow : IsWide table (stamp_args stamp) stm.index stm.args → ⊥

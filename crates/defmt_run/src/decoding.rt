@@ -102,7 +102,7 @@ fn table_of(alloc: Global, file: &[u8]) -> Result<Table, Fault>
 // Hears the recording, and writes the lines of its events.
 fn hear<S: Source, K: Sink>(alloc: Global, src: &mut S, out: &mut K, host: Host) -> Fault
     requires { Stands host.framing [] }
-    ensures hears { Hears host.table
+    ensures hears { Hears host.table.entries
         (record { left = S.left src.old; left_after = S.left src.new; faults = S.faults src.old; faults_after = S.faults src.new })
         (record { held = K.held out.old; held_after = K.held out.new; faults = K.faults out.old; faults_after = K.faults out.new })
         result }

@@ -34,7 +34,7 @@ pub fn hear(alloc: Global, run: &Run) -> Result<Events, Memory>
 
 // The events of a stream that is fed in two parts.
 fn events_of(alloc: Global, table: Table, front: &[u8], rest: &[u8]) -> Result<Events, Memory>
-    ensures { IfOk result (λ events. events ≡ events_of table (front.now ++ rest.now)) }
+    ensures { IfOk result (λ events. events ≡ events_of table.entries (front.now ++ rest.now)) }
 {
     let mut host = Host::new(alloc, table)?;
     let mut events = Events::new(alloc);
@@ -47,7 +47,7 @@ fn events_of(alloc: Global, table: Table, front: &[u8], rest: &[u8]) -> Result<E
 // Feeds all bytes, and appends the events.
 fn feed(host: &mut Host, bytes: &[u8], events: &mut Events) -> Result<(), Memory>
     ensures heard { OnOk result ((stream : List ℕ) → Stands host.old.framing stream
-        → Heard (tells host.old.table) host.new.framing stream bytes.now events.old events.new) }
+        → Heard (tells host.old.table.entries) host.new.framing stream bytes.now events.old events.new) }
     ensures table { host.new.table ≡ host.old.table }
 {
     let mut rest = bytes;

@@ -120,9 +120,9 @@ fn add_line(
     args: &mut Args,
     out: &mut Bytes,
 ) -> Result<(), Memory>
-    requires { Prints table.now stamp statement.now }
+    requires { Prints table.now.entries stamp statement.now }
     ensures { OnOk result (out.new.items ≡ out.old.items
-        ++ ended (eager_line table.now (stamp_args stamp) statement.now.index statement.now.args)) }
+        ++ ended (eager_line table.now.entries (stamp_args stamp) statement.now.index statement.now.args)) }
 {
     put_stamp(stamp, args)?;
     match line(alloc, table, args, statement) {

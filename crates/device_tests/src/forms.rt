@@ -60,9 +60,9 @@ fn with_trace(
     requires room { 2000 ≤ length buf.old }
     requires tag { site.now.tag ≡ tags.Trace }
     requires slots { site.now.slots ≡ slots.One (kinds.Uint sizes.W8) ∷ slots.One kinds.Bool ∷ [] }
-    requires entry { IsSite table.now site.now.index site.now.tag site.now.slots }
-    requires stamp { StampSuits table.now stamp }
-    ensures { take result buf.new ≡ message_of table.now (stamp_args stamp) site.now.index (val (uint a) (val (flag b) no_vals)) }
+    requires entry { IsSite table.now.entries site.now.index site.now.tag site.now.slots }
+    requires stamp { StampSuits table.now.entries stamp }
+    ensures { take result buf.new ≡ message_of table.now.entries (stamp_args stamp) site.now.index (val (uint a) (val (flag b) no_vals)) }
 {
     trace!(buf, table, site, stamp; u8 a, bool b)
 }
@@ -78,10 +78,10 @@ fn with_debug(
     requires room { 2000 ≤ length buf.old }
     requires tag { site.now.tag ≡ tags.Debug }
     requires slots { site.now.slots ≡ slots.One (kinds.Int sizes.W128) ∷ slots.One kinds.Bytes ∷ [] }
-    requires entry { IsSite table.now site.now.index site.now.tag site.now.slots }
-    requires stamp { StampSuits table.now stamp }
+    requires entry { IsSite table.now.entries site.now.index site.now.tag site.now.slots }
+    requires stamp { StampSuits table.now.entries stamp }
     requires short { length b.now ≤ 1000 }
-    ensures { take result buf.new ≡ message_of table.now (stamp_args stamp) site.now.index (val (int a) (val (bytes b.now) no_vals)) }
+    ensures { take result buf.new ≡ message_of table.now.entries (stamp_args stamp) site.now.index (val (int a) (val (bytes b.now) no_vals)) }
 {
     debug!(buf, table, site, stamp; i128 a, bytes b)
 }
@@ -97,10 +97,10 @@ fn with_info(
     requires room { 2000 ≤ length buf.old }
     requires tag { site.now.tag ≡ tags.Info }
     requires slots { site.now.slots ≡ slots.One kinds.Str ∷ slots.One kinds.Char ∷ [] }
-    requires entry { IsSite table.now site.now.index site.now.tag site.now.slots }
-    requires stamp { StampSuits table.now stamp }
+    requires entry { IsSite table.now.entries site.now.index site.now.tag site.now.slots }
+    requires stamp { StampSuits table.now.entries stamp }
     requires short { length a.now ≤ 1000 }
-    ensures { take result buf.new ≡ message_of table.now (stamp_args stamp) site.now.index (val (str a.now) (val (char b) no_vals)) }
+    ensures { take result buf.new ≡ message_of table.now.entries (stamp_args stamp) site.now.index (val (str a.now) (val (char b) no_vals)) }
 {
     info!(buf, table, site, stamp; str a, char b)
 }
@@ -116,10 +116,10 @@ fn with_warn(
     requires room { 2000 ≤ length buf.old }
     requires tag { site.now.tag ≡ tags.Warn }
     requires slots { site.now.slots ≡ slots.One (kinds.Uint sizes.W128) ∷ slots.One (kinds.Uint sizes.Native) ∷ [] }
-    requires entry { IsSite table.now site.now.index site.now.tag site.now.slots }
-    requires stamp { StampSuits table.now stamp }
+    requires entry { IsSite table.now.entries site.now.index site.now.tag site.now.slots }
+    requires stamp { StampSuits table.now.entries stamp }
     requires range { b < 2 ^ 32 }
-    ensures { take result buf.new ≡ message_of table.now (stamp_args stamp) site.now.index (val (uint a) (val (uint b) no_vals)) }
+    ensures { take result buf.new ≡ message_of table.now.entries (stamp_args stamp) site.now.index (val (uint a) (val (uint b) no_vals)) }
 {
     warn!(buf, table, site, stamp; u128 a, usize b)
 }
@@ -127,10 +127,10 @@ fn with_warn(
 fn with_error(buf: &mut [u8], table: &Table, site: &Site, stamp: Option<u64>, a: &Value) -> usize
     requires room { 2000 ≤ length buf.old }
     requires tag { site.now.tag ≡ tags.Error }
-    requires slots { (slot : AnySlot) × (site.now.slots ≡ slot ∷ []) × FitsVal table.now 16 slot (plain a.now) × (length (bytes_val table.now slot (plain a.now)) ≤ 1000) }
-    requires entry { IsSite table.now site.now.index site.now.tag site.now.slots }
-    requires stamp { StampSuits table.now stamp }
-    ensures { take result buf.new ≡ message_of table.now (stamp_args stamp) site.now.index (val (plain a.now) no_vals) }
+    requires slots { (slot : AnySlot) × (site.now.slots ≡ slot ∷ []) × FitsVal table.now.entries 16 slot (plain a.now) × (length (bytes_val table.now.entries slot (plain a.now)) ≤ 1000) }
+    requires entry { IsSite table.now.entries site.now.index site.now.tag site.now.slots }
+    requires stamp { StampSuits table.now.entries stamp }
+    ensures { take result buf.new ≡ message_of table.now.entries (stamp_args stamp) site.now.index (val (plain a.now) no_vals) }
 {
     error!(buf, table, site, stamp; value a)
 }
@@ -139,9 +139,9 @@ fn with_println(buf: &mut [u8], table: &Table, site: &Site, stamp: Option<u64>) 
     requires room { 2000 ≤ length buf.old }
     requires tag { site.now.tag ≡ tags.Println }
     requires slots { site.now.slots ≡ [] }
-    requires entry { IsSite table.now site.now.index site.now.tag site.now.slots }
-    requires stamp { StampSuits table.now stamp }
-    ensures { take result buf.new ≡ message_of table.now (stamp_args stamp) site.now.index no_vals }
+    requires entry { IsSite table.now.entries site.now.index site.now.tag site.now.slots }
+    requires stamp { StampSuits table.now.entries stamp }
+    ensures { take result buf.new ≡ message_of table.now.entries (stamp_args stamp) site.now.index no_vals }
 {
     println_!(buf, table, site, stamp;)
 }
@@ -151,7 +151,7 @@ fn with_println(buf: &mut [u8], table: &Table, site: &Site, stamp: Option<u64>) 
 fn put_unsigned(frame: &mut Frame, table: &Table, a: u16, b: u32, c: u64)
     requires start { count_put frame.old ≤ 10 }
     requires slots { slots_left frame.old ≡ slots.One (kinds.Uint sizes.W16) ∷ slots.One (kinds.Uint sizes.W32) ∷ slots.One (kinds.Uint sizes.W64) ∷ [] }
-    ensures { GrowsByAll frame.old frame.new (bytes_vals table.now (slots_left frame.old) (val (uint a) (val (uint b) (val (uint c) no_vals)))) }
+    ensures { GrowsByAll frame.old frame.new (bytes_vals table.now.entries (slots_left frame.old) (val (uint a) (val (uint b) (val (uint c) no_vals)))) }
 {
     put!(frame, table, u16 a);
     put!(frame, table, u32 b);
@@ -162,7 +162,7 @@ fn put_signed(frame: &mut Frame, table: &Table, a: i8, b: i16, c: i32, d: i64, e
     requires start { count_put frame.old ≤ 10 }
     requires slots { slots_left frame.old ≡ slots.One (kinds.Int sizes.W8) ∷ slots.One (kinds.Int sizes.W16) ∷ slots.One (kinds.Int sizes.W32) ∷ slots.One (kinds.Int sizes.W64) ∷ slots.One (kinds.Int sizes.Native) ∷ [] }
     requires range { IsSigned 32 e }
-    ensures { GrowsByAll frame.old frame.new (bytes_vals table.now (slots_left frame.old) (val (int a) (val (int b) (val (int c) (val (int d) (val (int e) no_vals)))))) }
+    ensures { GrowsByAll frame.old frame.new (bytes_vals table.now.entries (slots_left frame.old) (val (int a) (val (int b) (val (int c) (val (int d) (val (int e) no_vals)))))) }
 {
     put!(frame, table, i8 a);
     put!(frame, table, i16 b);
@@ -181,8 +181,8 @@ fn put_front(buf: &[u8], count: usize, out: &mut String) -> Result<(), Fail> {
 
 fn put_trace(table: &Table, site: &Site, a: &str, b: &str, out: &mut String) -> Result<(), Fail>
     requires tag { site.now.tag ≡ tags.Trace }
-    requires entry { IsSite table.now site.now.index site.now.tag site.now.slots }
-    requires stamp { StampSuits table.now None }
+    requires entry { IsSite table.now.entries site.now.index site.now.tag site.now.slots }
+    requires stamp { StampSuits table.now.entries None }
 {
     let [Slot::One(Kind::Uint(IntSize::W8)), Slot::One(Kind::Bool)] = site.slots() else {
         return Err(Fail::new("other slots"));
@@ -201,8 +201,8 @@ fn put_debug(
     out: &mut String,
 ) -> Result<(), Fail>
     requires tag { site.now.tag ≡ tags.Debug }
-    requires entry { IsSite table.now site.now.index site.now.tag site.now.slots }
-    requires stamp { StampSuits table.now None }
+    requires entry { IsSite table.now.entries site.now.index site.now.tag site.now.slots }
+    requires stamp { StampSuits table.now.entries None }
 {
     let [Slot::One(Kind::Int(IntSize::W128)), Slot::One(Kind::Bytes)] = site.slots() else {
         return Err(Fail::new("other slots"));
@@ -218,8 +218,8 @@ fn put_debug(
 
 fn put_info(table: &Table, site: &Site, a: &str, b: &str, out: &mut String) -> Result<(), Fail>
     requires tag { site.now.tag ≡ tags.Info }
-    requires entry { IsSite table.now site.now.index site.now.tag site.now.slots }
-    requires stamp { StampSuits table.now None }
+    requires entry { IsSite table.now.entries site.now.index site.now.tag site.now.slots }
+    requires stamp { StampSuits table.now.entries None }
 {
     let [Slot::One(Kind::Str), Slot::One(Kind::Char)] = site.slots() else {
         return Err(Fail::new("other slots"));
@@ -237,8 +237,8 @@ fn put_info(table: &Table, site: &Site, a: &str, b: &str, out: &mut String) -> R
 
 fn put_warn(table: &Table, site: &Site, a: &str, b: &str, out: &mut String) -> Result<(), Fail>
     requires tag { site.now.tag ≡ tags.Warn }
-    requires entry { IsSite table.now site.now.index site.now.tag site.now.slots }
-    requires stamp { StampSuits table.now None }
+    requires entry { IsSite table.now.entries site.now.index site.now.tag site.now.slots }
+    requires stamp { StampSuits table.now.entries None }
 {
     let [
         Slot::One(Kind::Uint(IntSize::W128)),
@@ -262,8 +262,8 @@ fn put_by_tag(
     row: &str,
     out: &mut String,
 ) -> Result<(), Fail>
-    requires entry { IsSite table.now site.now.index site.now.tag site.now.slots }
-    requires stamp { StampSuits table.now None }
+    requires entry { IsSite table.now.entries site.now.index site.now.tag site.now.slots }
+    requires stamp { StampSuits table.now.entries None }
 {
     let Some((a, b)) = row.split_once(' ') else {
         return Err(Fail::new("no second word"));

@@ -66,7 +66,7 @@ fn put_by_macro(
     statement: &Statement,
     out: &mut String,
 ) -> Result<(), Fail>
-    requires { IsSite table.now site.now.index site.now.tag site.now.slots }
+    requires { IsSite table.now.entries site.now.index site.now.tag site.now.slots }
 {
     if site.index() != statement.index {
         return Err(Fail::new("another site"));

@@ -52,7 +52,7 @@ pub(crate) fn stamp_of(script: &Script) -> Stamp<Even>
 
 // The site of an entry, with the slots of the entry's own text.
 pub(crate) fn site_at(alloc: Global, table: &Table, index: u16) -> Result<Site, Fail>
-    ensures { IfOk result (λ site. IsSite table.now site.index site.tag site.slots) }
+    ensures { IfOk result (λ site. IsSite table.now.entries site.index site.tag site.slots) }
 {
     let Ok(pieces) = own_form(table, index) else {
         return Err(Fail::new("no text"));

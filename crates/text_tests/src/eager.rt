@@ -5,7 +5,7 @@ ghost use Rattle.defmt_values.specs.Fits.{IsLogged};
 
 use crate::rows::{Kind, each_block, each_line};
 use crate::shared::{script_of, table_of};
-use defmt_eager::{EagerFault, is_wide, line, stamp_at, text_of};
+use defmt_eager::{EagerFault, is_wide, line, text_of};
 use defmt_grammar::Text;
 use defmt_intern::{Table, Tag};
 use defmt_script::Script;
@@ -83,7 +83,7 @@ fn is_logged(tag: &Tag) -> bool
 }
 
 fn logged(table: &Table, index: u16) -> Result<(), &'static str>
-    ensures { OnOk result (IsLogged table.now index) }
+    ensures { OnOk result (IsLogged table.now.entries index) }
 {
     match look_up(table, index) {
         Some((entry, _)) if is_logged(&entry.tag) => Ok(()),
@@ -114,7 +114,7 @@ fn put_line(
 ) -> Result<(), Fail> {
     check(table, statement)?;
     logged(table, statement.index)?;
-    match stamp_at(table) {
+    match table.stamp() {
         None => put_told(&line(alloc, table, &Args::new(alloc), statement), out),
         Some(index) => {
             let stamp = Statement { index, args: stamp };

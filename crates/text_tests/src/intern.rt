@@ -3,7 +3,8 @@ use crate::rows::{self, each_block, each_line};
 use crate::shared::{entry_of, pieces_of, put, put_visible, table_of};
 use defmt_grammar::{Kind, Mode, Param, Piece, Text};
 use defmt_intern::{
-    Entry, Forms, NameFault, NameKey, Parsed, Table, TableFault, Tag, read_name, symbol_name,
+    Entry, Forms, NameFault, NameKey, Parsed, Profile, Table, TableFault, Tag, read_name,
+    symbol_name,
 };
 use std::alloc::Global;
 use std::fmt::Write;
@@ -30,7 +31,7 @@ at 9, stamp Some(9)
 cause 5, stamp Some(9)
 at 65535, stamp Some(9)
 cause 1, stamp Some(9)
-length 4
+length 4, profile One
 1 is aaaaa
 3 is nothing";
 
@@ -58,6 +59,7 @@ const COPIED: &str = "\
 
 const IN_THE_COPY: &str = "\
 length 3, of the copy 4
+profile Two
 stamp Some(700)
 40 is |a|b
 3 x t
@@ -101,7 +103,13 @@ fn text_at(table: &Table, index: u16) -> &str {
 
 fn put_table(table: &Table, out: &mut String) -> Result<(), Fail> {
     let (first, third) = (text_at(table, 1), text_at(table, 3));
-    Ok(write!(out, "length {}\n1 is {first}\n3 is {third}", table.len())?)
+    write!(
+        out,
+        "length {}, profile {:?}\n",
+        table.len(),
+        table.profile()
+    )?;
+    Ok(write!(out, "1 is {first}\n3 is {third}")?)
 }
 
 // Puts what each entry is answered that is put into one table, and then the table.
@@ -196,10 +204,10 @@ fn put_entries(table: &Table, out: &mut String) -> Result<(), Fail> {
 }
 
 fn put_copy(table: &Table, copy: &Table, out: &mut String) -> Result<(), Fail> {
-    let stamp = copy.stamp();
+    let (profile, stamp) = (copy.profile(), copy.stamp());
     write!(
         out,
-        "length {}, of the copy {}\nstamp {stamp:?}\n40 is ",
+        "length {}, of the copy {}\nprofile {profile:?}\nstamp {stamp:?}\n40 is ",
         table.len(),
         copy.len()
     )?;
@@ -209,7 +217,8 @@ fn put_copy(table: &Table, copy: &Table, out: &mut String) -> Result<(), Fail> {
 }
 
 fn put_copied(alloc: Global, lines: &str, out: &mut String) -> Result<(), Fail> {
-    let table = table_of(alloc, lines)?;
+    let mut table = table_of(alloc, lines)?;
+    table.set_profile(Profile::Two);
     let copy = copy_with_more(alloc, &table)?;
     put_copy(&table, &copy, out)
 }

@@ -5,7 +5,7 @@ use Rattle.defmt_run.proofs.hearing.feed.Given as goal
 
 abbrev pub invariant-parts : goal.invariant-parts
 invariant-parts l = record {
-  hears : HearsSo (tells l.fn.host.table) l.fn.host.framing l.host.framing l.bytes l.rest l.fn.events l.events;
+  hears : HearsSo (tells l.fn.host.table.entries) l.fn.host.framing l.host.framing l.bytes l.rest l.fn.events l.events;
   table : l.host.table ≡ l.fn.host.table;
 }
 

@@ -34,7 +34,7 @@ of_w64 z fits =
 pub returns : goal.returns
 unfolding bytes_val
 returns c =
-    let t = c.args.table.now in
+    let t = c.args.table.now.entries in
     let start = c.args.frame.now in
     let first = c.put_int.new.self in
     let second = c.put_int-2.new.self in

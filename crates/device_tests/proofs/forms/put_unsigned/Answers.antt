@@ -11,7 +11,7 @@ use Rattle.device_tests.proofs.forms.put_unsigned.Goals as goal
 pub returns : goal.returns
 unfolding bytes_val
 returns c =
-    let t = c.args.table.now in
+    let t = c.args.table.now.entries in
     let start = c.args.frame.now in
     let first = c.put_uint.new.self in
     let second = c.put_uint-2.new.self in
