@@ -56,6 +56,19 @@ fn put_answer<R: Threads + Wait + Sync>(
     }
 }
 
+fn each_row<R: Threads + Wait + Sync>(
+    rt: &R,
+    alloc: Global,
+    rows: &str,
+    between: &str,
+    mark: &str,
+    kind: Kind,
+) -> Result<String, Fail> {
+    test_rows::each_row(alloc, rows, between, mark, |alloc, input, out| {
+        put_answer(rt, alloc, kind, input, out)
+    })
+}
+
 /// Asks for the answers of lines, as `test_rows::each_line` does.
 pub(crate) fn each_line<R: Threads + Wait + Sync>(
     rt: &R,
@@ -63,9 +76,7 @@ pub(crate) fn each_line<R: Threads + Wait + Sync>(
     lines: &str,
     kind: Kind,
 ) -> Result<String, Fail> {
-    test_rows::each_line(alloc, lines, |alloc, input, out| {
-        put_answer(rt, alloc, kind, input, out)
-    })
+    each_row(rt, alloc, lines, "\n", " = ", kind)
 }
 
 /// Asks for the answers of blocks, as `test_rows::each_block` does.
@@ -75,7 +86,5 @@ pub(crate) fn each_block<R: Threads + Wait + Sync>(
     blocks: &str,
     kind: Kind,
 ) -> Result<String, Fail> {
-    test_rows::each_block(alloc, blocks, |alloc, input, out| {
-        put_answer(rt, alloc, kind, input, out)
-    })
+    each_row(rt, alloc, blocks, "\n\n", "\n=\n", kind)
 }

@@ -4,9 +4,10 @@ use crate::tables::put_answer_to_symbols;
 use crate::{symbols, tables};
 use std::alloc::Global;
 use std::test::Fail;
+use test_rows::Question;
 
 /// What is asked of an input, each as its module says.
-#[derive(Clone, Copy)]
+#[derive(Drop)]
 pub enum Kind {
     AnswerToMarkers,
     AnswerToHeader,
@@ -17,28 +18,26 @@ pub enum Kind {
     AnswerToSymbols,
 }
 
-fn put_answer(alloc: Global, kind: Kind, input: &str, out: &mut String) -> Result<(), Fail> {
-    match kind {
-        Kind::AnswerToMarkers => put_answer_to_markers(alloc, input, out),
-        Kind::AnswerToHeader => put_answer_to_header(alloc, input, out),
-        Kind::SymbolReadBack => symbols::put_read_back(alloc, input, out),
-        Kind::SymbolAnswerToDamage => symbols::put_answer_to_damage(alloc, input, out),
-        Kind::TableReadBack => tables::put_read_back(alloc, input, out),
-        Kind::TableAnswerToDamage => tables::put_answer_to_damage(alloc, input, out),
-        Kind::AnswerToSymbols => put_answer_to_symbols(alloc, input, out),
+impl Question for Kind {
+    fn put_answer(&self, alloc: Global, input: &str, out: &mut String) -> Result<(), Fail> {
+        match self {
+            Self::AnswerToMarkers => put_answer_to_markers(alloc, input, out),
+            Self::AnswerToHeader => put_answer_to_header(alloc, input, out),
+            Self::SymbolReadBack => symbols::put_read_back(alloc, input, out),
+            Self::SymbolAnswerToDamage => symbols::put_answer_to_damage(alloc, input, out),
+            Self::TableReadBack => tables::put_read_back(alloc, input, out),
+            Self::TableAnswerToDamage => tables::put_answer_to_damage(alloc, input, out),
+            Self::AnswerToSymbols => put_answer_to_symbols(alloc, input, out),
+        }
     }
 }
 
 /// Asks for the answers of lines, as `test_rows::each_line` does.
 pub fn each_line(alloc: Global, lines: &str, kind: Kind) -> Result<String, Fail> {
-    test_rows::each_line(alloc, lines, |alloc, input, out| {
-        put_answer(alloc, kind, input, out)
-    })
+    test_rows::each_line(alloc, lines, &kind)
 }
 
 /// Asks for the answers of blocks, as `test_rows::each_block` does.
 pub fn each_block(alloc: Global, blocks: &str, kind: Kind) -> Result<String, Fail> {
-    test_rows::each_block(alloc, blocks, |alloc, input, out| {
-        put_answer(alloc, kind, input, out)
-    })
+    test_rows::each_block(alloc, blocks, &kind)
 }

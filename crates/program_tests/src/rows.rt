@@ -64,6 +64,19 @@ fn put_answer<R: Threads + Wait + Sync>(
     }
 }
 
+fn each_row<R: Threads + Wait + Sync>(
+    rt: &R,
+    alloc: Global,
+    rows: &str,
+    between: &str,
+    mark: &str,
+    kind: Kind,
+) -> Result<String, Fail> {
+    test_rows::each_row(alloc, rows, between, mark, |alloc, row, out| {
+        put_answer(rt, alloc, kind, row, out)
+    })
+}
+
 /// Asks for the answers of lines, as `test_rows::each_line` does.
 pub(crate) fn each_line<R: Threads + Wait + Sync>(
     rt: &R,
@@ -71,9 +84,7 @@ pub(crate) fn each_line<R: Threads + Wait + Sync>(
     lines: &str,
     kind: Kind,
 ) -> Result<String, Fail> {
-    test_rows::each_line(alloc, lines, |alloc, row, out| {
-        put_answer(rt, alloc, kind, row, out)
-    })
+    each_row(rt, alloc, lines, "\n", " = ", kind)
 }
 
 /// Asks for the answers of blocks, as `test_rows::each_block` does.
@@ -83,7 +94,5 @@ pub(crate) fn each_block<R: Threads + Wait + Sync>(
     blocks: &str,
     kind: Kind,
 ) -> Result<String, Fail> {
-    test_rows::each_block(alloc, blocks, |alloc, row, out| {
-        put_answer(rt, alloc, kind, row, out)
-    })
+    each_row(rt, alloc, blocks, "\n\n", "\n=\n", kind)
 }

@@ -9,9 +9,10 @@ use crate::shapes::{
 };
 use std::alloc::Global;
 use std::test::Fail;
+use test_rows::Question;
 
 /// What is asked of an input, each as its module says.
-#[derive(Clone, Copy)]
+#[derive(Drop)]
 pub enum Kind {
     WrittenOfKind,
     WrittenByScript,
@@ -32,38 +33,36 @@ pub enum Kind {
     BehindCalls,
 }
 
-fn put_answer(alloc: Global, kind: Kind, input: &str, out: &mut String) -> Result<(), Fail> {
-    match kind {
-        Kind::WrittenOfKind => put_written_of_kind(alloc, input, out),
-        Kind::WrittenByScript => put_written_by_script(alloc, input, out),
-        Kind::AnswersOf => put_answers_of(alloc, input, out),
-        Kind::CutOf => put_cut(alloc, input, out),
-        Kind::SaidByText => put_said_by_text(input, out),
-        Kind::SaidByBytes => put_said_by_bytes(alloc, input, out),
-        Kind::SettingOf => put_setting(input, out),
-        Kind::VerdictOf => put_verdict(alloc, input, out),
-        Kind::NameOf => put_name(input, out),
-        Kind::RefusalOf => put_refusal(alloc, input, out),
-        Kind::RefusalAtLimit => put_refusal_at_limit(alloc, input, out),
-        Kind::ValueOf => put_value(alloc, input, out),
-        Kind::ItemOf => put_item(alloc, input, out),
-        Kind::MeaningOf => put_meaning(alloc, input, out),
-        Kind::BytesMeant => put_bytes(alloc, input, out),
-        Kind::BehindSpaces => put_behind_spaces(input, out),
-        Kind::BehindCalls => put_behind_calls(alloc, input, out),
+impl Question for Kind {
+    fn put_answer(&self, alloc: Global, input: &str, out: &mut String) -> Result<(), Fail> {
+        match self {
+            Self::WrittenOfKind => put_written_of_kind(alloc, input, out),
+            Self::WrittenByScript => put_written_by_script(alloc, input, out),
+            Self::AnswersOf => put_answers_of(alloc, input, out),
+            Self::CutOf => put_cut(alloc, input, out),
+            Self::SaidByText => put_said_by_text(input, out),
+            Self::SaidByBytes => put_said_by_bytes(alloc, input, out),
+            Self::SettingOf => put_setting(input, out),
+            Self::VerdictOf => put_verdict(alloc, input, out),
+            Self::NameOf => put_name(input, out),
+            Self::RefusalOf => put_refusal(alloc, input, out),
+            Self::RefusalAtLimit => put_refusal_at_limit(alloc, input, out),
+            Self::ValueOf => put_value(alloc, input, out),
+            Self::ItemOf => put_item(alloc, input, out),
+            Self::MeaningOf => put_meaning(alloc, input, out),
+            Self::BytesMeant => put_bytes(alloc, input, out),
+            Self::BehindSpaces => put_behind_spaces(input, out),
+            Self::BehindCalls => put_behind_calls(alloc, input, out),
+        }
     }
 }
 
 /// Asks for the answers of lines, as `test_rows::each_line` does.
 pub fn each_line(alloc: Global, lines: &str, kind: Kind) -> Result<String, Fail> {
-    test_rows::each_line(alloc, lines, |alloc, input, out| {
-        put_answer(alloc, kind, input, out)
-    })
+    test_rows::each_line(alloc, lines, &kind)
 }
 
 /// Asks for the answers of blocks, as `test_rows::each_block` does.
 pub fn each_block(alloc: Global, blocks: &str, kind: Kind) -> Result<String, Fail> {
-    test_rows::each_block(alloc, blocks, |alloc, input, out| {
-        put_answer(alloc, kind, input, out)
-    })
+    test_rows::each_block(alloc, blocks, &kind)
 }

@@ -7,9 +7,10 @@ use crate::values::{put_verdict_in, put_verdict_of};
 use crate::{eager, hints};
 use std::alloc::Global;
 use std::test::Fail;
+use test_rows::Question;
 
 /// What is asked of an input, each as its module says.
-#[derive(Clone, Copy)]
+#[derive(Drop)]
 pub enum Kind {
     EagerShown,
     LineIn,
@@ -29,41 +30,35 @@ pub enum Kind {
     VerdictOf,
 }
 
-fn put_answer(alloc: Global, kind: Kind, input: &str, out: &mut String) -> Result<(), Fail> {
-    match kind {
-        Kind::EagerShown => eager::put_shown(alloc, input, out),
-        Kind::LineIn => put_line_in(alloc, input, out),
-        Kind::LengthFor => put_length_for(alloc, input, out),
-        Kind::SpellingOf => put_spelling(alloc, input, out),
-        Kind::PiecesText => put_pieces_text(alloc, input, out),
-        Kind::SlotsText => put_slots(alloc, input, out),
-        Kind::UsesText => put_uses(alloc, input, out),
-        Kind::HintShown => hints::put_shown(alloc, input, out),
-        Kind::Filled => put_filled(alloc, input, out),
-        Kind::Answers => put_answers(alloc, input, out),
-        Kind::ParsedText => put_parsed(alloc, input, out),
-        Kind::CountOfVariants => put_count_of_variants(alloc, input, out),
-        Kind::Written => put_written(alloc, input, out),
-        Kind::NameText => put_name_text(alloc, input, out),
-        Kind::VerdictIn => put_verdict_in(alloc, input, out),
-        Kind::VerdictOf => put_verdict_of(alloc, input, out),
+impl Question for Kind {
+    fn put_answer(&self, alloc: Global, input: &str, out: &mut String) -> Result<(), Fail> {
+        match self {
+            Self::EagerShown => eager::put_shown(alloc, input, out),
+            Self::LineIn => put_line_in(alloc, input, out),
+            Self::LengthFor => put_length_for(alloc, input, out),
+            Self::SpellingOf => put_spelling(alloc, input, out),
+            Self::PiecesText => put_pieces_text(alloc, input, out),
+            Self::SlotsText => put_slots(alloc, input, out),
+            Self::UsesText => put_uses(alloc, input, out),
+            Self::HintShown => hints::put_shown(alloc, input, out),
+            Self::Filled => put_filled(alloc, input, out),
+            Self::Answers => put_answers(alloc, input, out),
+            Self::ParsedText => put_parsed(alloc, input, out),
+            Self::CountOfVariants => put_count_of_variants(alloc, input, out),
+            Self::Written => put_written(alloc, input, out),
+            Self::NameText => put_name_text(alloc, input, out),
+            Self::VerdictIn => put_verdict_in(alloc, input, out),
+            Self::VerdictOf => put_verdict_of(alloc, input, out),
+        }
     }
 }
 
 /// Asks for the answers of lines, as `test_rows::each_line` does.
 pub fn each_line(alloc: Global, lines: &str, kind: Kind) -> Result<String, Fail> {
-    test_rows::each_line(
-        alloc,
-        lines,
-        |alloc, input, out| put_answer(alloc, kind, input, out),
-    )
+    test_rows::each_line(alloc, lines, &kind)
 }
 
 /// Asks for the answers of blocks, as `test_rows::each_block` does.
 pub fn each_block(alloc: Global, blocks: &str, kind: Kind) -> Result<String, Fail> {
-    test_rows::each_block(
-        alloc,
-        blocks,
-        |alloc, input, out| put_answer(alloc, kind, input, out),
-    )
+    test_rows::each_block(alloc, blocks, &kind)
 }
