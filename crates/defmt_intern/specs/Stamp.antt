@@ -15,7 +15,7 @@ abbrev pub has_stamp : Option Entry → Bool
 has_stamp None = false
 has_stamp (Some e) = is_timestamp e.tag
 
--- the index has 16 bits, and its entry is the timestamp's
+-- the entry at the index is the timestamp's; an index above 65,535 is none, whatever the map
 abbrev pub is_stamp_at : Map → ℕ → Bool
 is_stamp_at t index = nat_lt index 65536 && has_stamp (map.get t index)
 

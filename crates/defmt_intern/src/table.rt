@@ -46,12 +46,12 @@ impl<T: Drop> From<AllocFailed<T>> for TableFault {
     }
 }
 
-/// How the messages of a table are laid out.
+/// How the messages of a table are to be laid out. No message depends on it yet: each is laid out as One says.
 #[derive(Clone, Copy, Debug, Drop, PartialEq, Eq)]
 pub enum Profile {
     /// A message is its index, its stamp and its arguments.
     One,
-    /// The number of its mark stands behind the index.
+    /// The same with the number of its mark behind the index; nothing writes or reads it yet.
     Two,
 }
 

@@ -89,7 +89,7 @@ impl Model for Script {
 }
 
 impl Script {
-    /// A script of these parts. Its messages are laid out by profile One.
+    /// A script of these parts. Its table gets profile One, whatever it had.
     pub(crate) fn new(
         settings: Settings,
         mut table: Table,
