@@ -1,11 +1,12 @@
 #!/usr/bin/env python3
 """Tells what the merge gate costs: processor seconds by crate and kind, the dearest edit of each crate, and the longest chain of proofs.
 
-    bench/gate.py [--into FILE] [--edits] [--docs] [-- COMMAND..]    runs the command at the repository's top, by default `rt ci --anew`
+    bench/gate.py [--into FILE] [--edits] [--reference] [--docs] [-- COMMAND..]    runs the command at the repository's top, by default `rt ci --anew`
     bench/gate.py [--into FILE] [--edits] --watch PID                watches an `rt ci` of this checkout that runs already
 
 The table goes to FILE, or else behind what the command writes, and with --edits the seconds of each edit behind it. --docs puts the table into
-docs/PROOFS.md where the command passed.
+docs/PROOFS.md where the command passed. With --docs or --reference it runs `rt selftest` before and behind the command and tells its processor
+seconds: the same work wherever the kit is, so two runs on machines with other work can be compared.
 
 It looks at the processes of the run twice a second, and takes each for what its words say. What a process used behind the last look at it is
 in its parent's sum of ended children, and is shared evenly among those that ended since the look before. A watched run is told from the
@@ -230,6 +231,14 @@ def machine():
     return f"{len(os.sched_getaffinity(0))} processors ({model[1] if model else 'of an unknown model'}), {kit}"
 
 
+def reference():
+    """The processor seconds of the kit's own test."""
+    begun = os.times()
+    subprocess.run(["rt", "selftest"], stdout=subprocess.DEVNULL, check=True)
+    ended = os.times()
+    return ended.children_user + ended.children_system - begun.children_user - begun.children_system
+
+
 def run(command):
     """Runs the command, and answers its status, its last line and its watch."""
     started = subprocess.Popen(command, cwd=TOP, stdout=subprocess.PIPE)
@@ -269,12 +278,17 @@ def main():
     parser = argparse.ArgumentParser(description=__doc__.partition("\n")[0])
     parser.add_argument("--into", metavar="FILE")
     parser.add_argument("--edits", action="store_true")
+    parser.add_argument("--reference", action="store_true")
     parser.add_argument("--docs", action="store_true")
     parser.add_argument("--watch", metavar="PID", type=int)
     parser.add_argument("command", nargs="*", default=GATE)
     asked = parser.parse_args()
     if asked.docs and (asked.watch or asked.command != GATE):
         parser.error("only the whole gate from its begin goes into the documents")
+    if asked.reference and asked.watch:
+        parser.error("a run that is watched has no reference")
+    compared = asked.reference or asked.docs
+    before = reference() if compared else 0
     begun, status = time.monotonic(), 0
     if asked.watch:
         watch, ending = Watch(asked.watch, True), f"The process {asked.watch} was watched"
@@ -284,7 +298,8 @@ def main():
         status, last, watch = run(asked.command)
         ending = f"`{' '.join(asked.command)}` {'failed' if status else 'passed'}: {last or f'status {status}'}"
     took = (time.monotonic() - begun) / 60
-    said = wrapped(f"{ending}. That was on {datetime.date.today()}, in {took:.1f} minutes, on {machine()}. Processor seconds:")
+    compares = f"`rt selftest` took {before:.0f} s of a processor before it and {reference():.0f} behind it. " if compared else ""
+    said = wrapped(f"{ending}. That was on {datetime.date.today()}, in {took:.1f} minutes, on {machine()}. {compares}Processor seconds:")
     sums = watch.seconds()
     text = "\n".join([said, "", *table(sums)]) + "\n"
     more = "\n".join(["", "Seconds of each edit:", *list_of_edits(sums)]) + "\n" if asked.edits else ""
