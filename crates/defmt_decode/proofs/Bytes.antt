@@ -4,7 +4,7 @@ use Rattle.std.proofs.lemmas.Bool.{cases_eq}
 use Rattle.rzcobs_core.specs.Blocks.{zero_bits, nonzero, IsBlock, few, zero_after, none_zero, Blocks, end, block}
 use Rattle.rzcobs_core.proofs.Bits.{nonzero-zero, nonzero-other}
 use Rattle.rzcobs_core.proofs.Sizes.{blocks_size}
-use Rattle.defmt_encode.proofs.Numbers.{AreBytes}
+use Rattle.defmt_encode.proofs.Numbers.{AreBytes, bytes_after}
 
 pub are_bytes : (xs : List ℕ) → All (λ b. b < 256) xs → AreBytes xs
 are_bytes [] all = tt
@@ -13,10 +13,6 @@ are_bytes (x ∷ xs) all = (all 0 0 (omega arith), are_bytes xs (λ k d within. 
 left : (xs ys : List ℕ) → AreBytes (xs ++ ys) → AreBytes xs
 left [] ys all = tt
 left (x ∷ xs) ys all = (all.0, left xs ys all.1)
-
-right : (xs ys : List ℕ) → AreBytes (xs ++ ys) → AreBytes ys
-right [] ys all = all
-right (x ∷ xs) ys all = right xs ys all.1
 
 both : (xs ys : List ℕ) → AreBytes xs → AreBytes ys → AreBytes (xs ++ ys)
 both [] ys front back = back
@@ -38,7 +34,7 @@ block_bytes _ _ (none_zero bytes non size) all = left bytes (255 ∷ []) all
 pub blocks_bytes : (code bytes : List ℕ) → Blocks code bytes → AreBytes code → AreBytes bytes
 blocks_bytes _ _ end all = tt
 blocks_bytes _ _ (block code bytes codes rest first more) all =
-    both bytes rest (block_bytes code bytes first (left code codes all)) (blocks_bytes codes rest more (right code codes all))
+    both bytes rest (block_bytes code bytes first (left code codes all)) (blocks_bytes codes rest more (bytes_after code codes all))
 
 pub blocks_few : (code bytes : List ℕ) → length code ≤ 65536 → Blocks code bytes → length bytes < 2 ^ 32
 blocks_few code bytes short blocks = omega (arith, blocks_size code bytes blocks)

@@ -1,11 +1,11 @@
 -- The event of a piece as a relation and as a function agree.
-use Rattle.std.proofs.Common.{◌≡◌, ◌<◌, ◌≤◌, inl, inr, ℕ, Bool, true, false, cond, List, length, All, Ok, Err, refl, sym, ap, subst, ◌∙◌}
+use Rattle.std.proofs.Common.{◌≡◌, ◌<◌, ◌≤◌, inl, inr, ℕ, Bool, true, false, cond, List, length, All, Option, Some, None, Ok, Err, refl, sym, ap, subst, ◌∙◌}
 use Rattle.std.proofs.lemmas.Bool.{cases_Bool, cases_lt, or_cases, or_left, or_right, ltb-true, lt-ltb, le-leb, lt-leb, true≢false}
 use Rattle.rzcobs_core.specs.Blocks.{Blocks, IsNoCode}
-use Rattle.defmt_framing.specs.Decides.{Decided, decides}
 use Rattle.defmt_framing.specs.Decoded.{decoded}
 use Rattle.defmt_framing.specs.Told.{of_piece}
 use Rattle.defmt_framing.proofs.Agree.{decoded_found, decoded_none}
+use Rattle.defmt_framing.proofs.Decides.{IsTold, told}
 use Rattle.defmt_intern.specs.Table.{Map}
 use Rattle.defmt_values.specs.Plain.{Vals}
 use Rattle.defmt_eager.specs.Line.{eager_line, IsWide}
@@ -102,14 +102,14 @@ unfolding read_of
 by_read t piece bytes (Ok (stamp, index, vs)) all e short blocks = by_width t piece bytes stamp index vs short blocks (heard_found t bytes stamp index vs all e)
 by_read t piece bytes (Err cause) all e short blocks = not_heard bytes (cause_number cause) short blocks (cause, refl, met_found t bytes cause all e)
 
-by_code : (t : Map) (piece : List ℕ) → AreBytes piece → Decided piece → length piece ≤ 65536 → IsEventOf t piece (event_of t piece)
-by_code t piece all (inl found) short =
-    subst (IsEventOf t piece) (sym (read_is t piece found.0 short found.1))
-    (by_read t piece found.0 (read_of t found.0) (blocks_bytes piece found.0 found.1 all) refl short found.1)
-by_code t piece all (inr none) short = subst (IsEventOf t piece) (sym (none_is t piece short none)) (no_code short none)
+by_code : (t : Map) (piece : List ℕ) (o : Option (List ℕ)) → AreBytes piece → IsTold piece o → length piece ≤ 65536 → IsEventOf t piece (event_of t piece)
+by_code t piece (Some bytes) all blocks short =
+    subst (IsEventOf t piece) (sym (read_is t piece bytes short blocks))
+    (by_read t piece bytes (read_of t bytes) (blocks_bytes piece bytes blocks all) refl short blocks)
+by_code t piece None all none short = subst (IsEventOf t piece) (sym (none_is t piece short none)) (no_code short none)
 
 pub is_event : (t : Map) (piece : List ℕ) → All (λ b. b < 256) piece → IsEventOf t piece (event_of t piece)
 is_event t piece all = elim (cases_lt 65536 (length piece)) [
   | inl long ↦ subst (IsEventOf t piece) (sym (long_is t piece long)) (too_long long)
-  | inr short ↦ by_code t piece (are_bytes piece all) (decides piece) short
+  | inr short ↦ by_code t piece (decoded piece) (are_bytes piece all) (told piece) short
 ]

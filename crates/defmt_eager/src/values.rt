@@ -4,7 +4,7 @@ ghost use Rattle.defmt_eager.specs.Answers.{Shows, comma};
 ghost use Rattle.defmt_eager.specs.Show.{interned_text, node_pieces, pieces_in, own_pieces, acting, show_val, shows, show_elems, pieces_text, piece_text, param_text, eager_text};
 ghost use Rattle.defmt_hints.specs.Printed.{list_text, parted};
 ghost use Rattle.defmt_values.specs.Entries.{look};
-ghost use Rattle.defmt_values.specs.Scan.{index_or, own_in};
+ghost use Rattle.defmt_values.specs.Scan.{own_in};
 ghost use Rattle.defmt_values.specs.View.{plain};
 
 use crate::eager::EagerFault;

@@ -22,7 +22,7 @@ use Rattle.defmt_encode.proofs.Chains.{done, refused, same, same_cause, bound, b
 
 -- ---- slots
 
-slots_from : (ps : List Piece) (n : ℕ) (ss : List Slot) → slots_at (places_from ps n ss) ≡ ss
+pub slots_from : (ps : List Piece) (n : ℕ) (ss : List Slot) → slots_at (places_from ps n ss) ≡ ss
 slots_from ps n [] = refl
 slots_from ps n (s ∷ ss) = ap (λ xs. s ∷ xs) (slots_from ps (n + 1) ss)
 

@@ -54,7 +54,7 @@ stamp_back t stamp from rest f = ap (λ (x : List ℕ). stamp_at t (stamp_of t) 
 pads : (padding : List ℕ) → length padding ≤ 6 → all_zero padding ≡ true → padded padding ≡ done tt
 pads padding h z = rw (le-leb (length padding) 6 h, z) refl
 
-one_entry : (t : Map) (index : ℕ) (e d : Entry) → look t index ≡ Some e → look t index ≡ Some d → e ≡ d
+pub one_entry : (t : Map) (index : ℕ) (e d : Entry) → look t index ≡ Some e → look t index ≡ Some d → e ≡ d
 one_entry t index e d a b = let k : Some e ≡ Some d = sym a ∙ b in cc
 
 own_of : (t : Map) (index : ℕ) (vs : Vals) (f : Fits t index vs) → IsLogged t index → IsOwn t index f.pieces

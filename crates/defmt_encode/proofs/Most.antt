@@ -3,8 +3,6 @@ use Rattle.std.proofs.Common.{◌≡◌, ◌≤◌, ◌<◌, ◌+◌, ℕ, ℤ, 
 use Rattle.std.proofs.lemmas.Bool.{lt-ltb, le-ltb}
 use Rattle.std.specs.Int.{w128, cast_unsigned}
 use Rattle.byteorder.specs.Endian.{little_bytes}
-use Rattle.defmt_grammar.specs.declared.kind.IntSize.{IntSize}
-use Rattle.defmt_grammar.specs.declared.kind.IntSize.TheVariants.{W8, W16, W32, W64, W128, Native}
 use Rattle.defmt_grammar.specs.declared.kind.Kind.TheVariants as kinds
 use Rattle.defmt_grammar.specs.declared.slot.Slot.{Slot}
 use Rattle.defmt_grammar.specs.declared.slot.Slot.TheVariants as slots
@@ -12,22 +10,15 @@ use Rattle.defmt_intern.specs.Table.{Map}
 use Rattle.defmt_values.specs.Plain.{Val, uint, int, flag, char, str, istr, bytes, Vals, no_vals, val}
 use Rattle.defmt_values.specs.View.{plain, vals_of}
 use Rattle.defmt_values.specs.declared.value.Value.{Value}
-use Rattle.defmt_encode.specs.Carry.{size_bytes, uint_width, int_width, length_bytes, bytes_val, bytes_vals, stamp_slots, stamp_args, own_slots, message_of}
+use Rattle.defmt_encode.specs.Carry.{uint_width, int_width, length_bytes, bytes_val, bytes_vals, stamp_slots, stamp_args, own_slots, message_of}
 use Rattle.defmt_encode.specs.Out.{HasAtMost, HaveAtMost, Puts, Writes}
 use Rattle.defmt_intern.specs.Stamp.{stamp_of}
 use Rattle.defmt_encode.specs.declared.put.Long.{Long}
+use Rattle.defmt_encode.proofs.Finds.{size_few}
 use Rattle.defmt_encode.proofs.Numbers.{length_little}
 
-size_small : (size : IntSize) → size_bytes size ≤ 16
-size_small W8 = omega arith
-size_small W16 = omega arith
-size_small W32 = omega arith
-size_small W64 = omega arith
-size_small W128 = omega arith
-size_small Native = omega arith
-
 uint_small : (slot : Slot) → uint_width slot ≤ 16
-uint_small (slots.One (kinds.Uint size)) = size_small size
+uint_small (slots.One (kinds.Uint size)) = size_few size
 uint_small (slots.One (kinds.Int size)) = omega arith
 uint_small (slots.One kinds.Bool) = omega arith
 uint_small (slots.One kinds.Char) = omega arith
@@ -43,7 +34,7 @@ uint_small (slots.Bits first width) = omega arith
 
 int_small : (slot : Slot) → int_width slot ≤ 16
 int_small (slots.One (kinds.Uint size)) = omega arith
-int_small (slots.One (kinds.Int size)) = size_small size
+int_small (slots.One (kinds.Int size)) = size_few size
 int_small (slots.One kinds.Bool) = omega arith
 int_small (slots.One kinds.Char) = omega arith
 int_small (slots.One kinds.Str) = omega arith

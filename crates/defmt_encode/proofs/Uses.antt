@@ -8,8 +8,9 @@ use Rattle.defmt_grammar.specs.declared.fault.Mode.TheVariants.{Lenient}
 use Rattle.defmt_grammar.specs.declared.piece.Piece.{Piece}
 use Rattle.defmt_grammar.specs.declared.slot.Slot.{Slot}
 use Rattle.defmt_grammar.proofs.Wholes.{slots_sound}
-use Rattle.defmt_intern.specs.Body.{pieces_of, variants, forms_of, one_body, forms_body, cut_body, body_in, body_of}
-use Rattle.defmt_intern.proofs.BodyLaws.{pieces_found}
+use Rattle.defmt_intern.specs.Body.{variants, forms_of, one_body, forms_body, cut_body, body_in, body_of}
+use Rattle.defmt_intern.specs.Pieces.{pieces_of}
+use Rattle.defmt_intern.proofs.PieceLaws.{pieces_found}
 use Rattle.defmt_intern.specs.Table.{Map}
 use Rattle.defmt_intern.specs.declared.entry.Entry.{Entry}
 use Rattle.defmt_intern.specs.declared.entry.Tag.{Tag}

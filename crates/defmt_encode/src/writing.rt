@@ -1,10 +1,9 @@
 //! The message of a statement.
-ghost use Rattle.std.specs.Prelude.{◌≡◌, ◌≤◌, ◌++◌, ◌/◌, ◌^◌, [], length, nat_lt, ℕ};
+ghost use Rattle.std.specs.Prelude.{◌≡◌, ◌≤◌, ◌++◌, ◌/◌, ◌^◌, [], length, nat_lt};
 ghost use Rattle.byteorder.specs.Endian.{little_bytes};
-ghost use Rattle.defmt_encode.specs.Carry.{size_bytes, uint_width, int_width, flag_byte, length_bytes, window_width, window_first, variant_byte, count_bytes, index_bytes, node_slots, own_slots, stamp_slots, stamp_args, bytes_val, bytes_vals, bytes_elems, message_of};
+ghost use Rattle.defmt_encode.specs.Carry.{size_bytes, uint_width, int_width, length_bytes, window_width, window_first, variant_byte, count_bytes, index_bytes, node_slots, own_slots, stamp_slots, stamp_args, bytes_val, bytes_vals, bytes_elems, message_of};
 ghost use Rattle.defmt_encode.specs.Out.{HasAtMost, HaveAtMost, Puts, Writes};
 ghost use Rattle.defmt_intern.specs.Stamp.{stamp_of};
-ghost use Rattle.defmt_values.specs.Scan.{index_or};
 ghost use Rattle.defmt_values.specs.View.{plain};
 
 use crate::put::{Long, put, put_bytes, put_number};

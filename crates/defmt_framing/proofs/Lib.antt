@@ -3,5 +3,6 @@ pub mod Telling
 pub mod Truncating
 pub mod Standing
 pub mod FrameCodes
+pub mod Decides
 pub mod Agree
 pub mod InFrames

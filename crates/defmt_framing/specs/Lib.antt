@@ -4,5 +4,4 @@ pub mod Told
 pub mod Frames
 pub mod Framing
 pub mod Calls
-pub mod Decides
 pub mod Decoded

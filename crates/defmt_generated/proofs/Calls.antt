@@ -30,7 +30,7 @@ use Rattle.defmt_grammar.specs.declared.kind.Kind.TheVariants as kinds
 use Rattle.defmt_grammar.specs.declared.piece.Piece.{Piece}
 use Rattle.defmt_grammar.specs.declared.slot.Slot.TheVariants as slots
 use Rattle.defmt_hints.specs.Printed.{printed_bool, printed_bytes, printed_str, printed_uint}
-use Rattle.defmt_intern.proofs.BodyLaws.{pieces_again}
+use Rattle.defmt_intern.proofs.PieceLaws.{pieces_again}
 use Rattle.defmt_intern.specs.Body.{body_of, one_body}
 use Rattle.defmt_intern.specs.declared.entry.Entry.{Entry}
 use Rattle.defmt_intern.specs.declared.entry.Tag.TheVariants as tags

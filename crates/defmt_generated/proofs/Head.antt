@@ -16,7 +16,8 @@ use Rattle.defmt_intern.specs.declared.entry.Entry.{Entry}
 use Rattle.defmt_intern.specs.declared.entry.Tag.{Tag}
 use Rattle.defmt_intern.specs.declared.entry.Tag.TheVariants as tags
 use Rattle.defmt_lines.specs.Form.{in_order}
-use Rattle.defmt_lines.specs.Line.{Line, entry, entry_of, field_and_rest, is_name, line_of, mode, one_field, reader, ring, stamp, two_fields, worded}
+use Rattle.defmt_shapes.specs.Shape.{is_name}
+use Rattle.defmt_lines.specs.Line.{Line, entry, entry_of, field_and_rest, line_of, mode, one_field, reader, ring, stamp, two_fields, worded}
 use Rattle.defmt_lines.specs.Number.{has_leading_zero, is_digits, number_within, within}
 use Rattle.defmt_lines.specs.Settings.{with_mode, with_reader, with_ring, with_stamp}
 use Rattle.defmt_lines.specs.Verdict.{Judges}

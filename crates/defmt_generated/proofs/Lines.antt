@@ -6,8 +6,8 @@ use Rattle.std.specs.List.{All, AllByRecursion, slice_split}
 use Rattle.std.specs.Str.Lines.{lines, lines_of_parts, strip_carriage_return}
 use Rattle.std.proofs.lemmas.List.Elements.{All-from_recursion, All-get_or, All-weaker}
 use Rattle.std.proofs.lemmas.List.Splits.{length-slice_split, slice_split_at}
+use Rattle.std.proofs.lemmas.Bool.{ne_eqb}
 use Rattle.std.proofs.lemmas.Bool.Decides.{nat_tests}
-use Rattle.defmt_grammar.proofs.PlainLaws.{unlike}
 use Rattle.defmt_generate.specs.Generated.{call, drawn, generated, head, statement, statements}
 use Rattle.defmt_generated.proofs.Texts.{ArePrintable, Printable, are_printable, both, printable-append, printable_call, printable_decimal, tested}
 use Rattle.defmt_generated.specs.Lines.{head_lines, statement_line, statement_lines}
@@ -22,7 +22,7 @@ chosen false xs ys e = refl
 unstripped : (line : List ℕ) → ArePrintable line → 0 < length line → strip_carriage_return line ≡ line
 unstripped line p some =
     let last : Printable (get_or line (length line - 1) 0) = All-get_or Printable line (length line - 1) 0 (omega arith) (All-from_recursion Printable line p) in
-    chosen (get_or line (length line - 1) 0 == 13) _ line (unlike (get_or line (length line - 1) 0) 13 (λ e. absurd (omega (arith, e, last.0))))
+    chosen (get_or line (length line - 1) 0 == 13) _ line (ne_eqb (get_or line (length line - 1) 0) 13 (λ e. absurd (omega (arith, e, last.0))))
 
 first_part : (line : List ℕ) (parts : List (List ℕ)) → 0 < length parts → strip_carriage_return line ≡ line → lines_of_parts (line ∷ parts) ≡ line ∷ lines_of_parts parts
 first_part line [] some same = absurd (omega arith)
@@ -31,7 +31,7 @@ first_part line (part ∷ parts) some same = ap (λ (xs : List ℕ). xs ∷ line
 pub one_line : (line rest : List ℕ) → ArePrintable line → 0 < length line → lines (line ++ 10 ∷ rest) ≡ line ∷ lines rest
 one_line line rest p some =
     let parts : List (List ℕ) = slice_split (λ b. b == 10) rest in
-    let none : All (λ b. (b == 10) ≡ false) line = All-weaker Printable (λ b. (b == 10) ≡ false) (λ b h. unlike b 10 (λ e. absurd (omega (arith, e, h.0)))) line (All-from_recursion Printable line p) in
+    let none : All (λ b. (b == 10) ≡ false) line = All-weaker Printable (λ b. (b == 10) ≡ false) (λ b h. ne_eqb b 10 (λ e. absurd (omega (arith, e, h.0)))) line (All-from_recursion Printable line p) in
     ap lines_of_parts (slice_split_at (λ b. b == 10) line 10 rest none refl)
     ∙ first_part line parts (omega (arith, length-slice_split (λ b. b == 10) rest)) (unstripped line p some)
 

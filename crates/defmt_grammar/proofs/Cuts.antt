@@ -1,6 +1,6 @@
 -- The parts of a text.
 use Rattle.std.proofs.Common.{◌≡◌, ◌≢◌, ◌<◌, ◌+◌, ℕ, suc, Bool, true, false, cond, eqb, List, [], ◌∷◌, ◌++◌, length, get_or, Option, Some, None, refl, sym, ap, subst, ◌∙◌, arith, MatchOption, option_map, Bor}
-use Rattle.std.proofs.lemmas.Bool.{eqb-true}
+use Rattle.std.proofs.lemmas.Bool.{eqb-true, ne_eqb}
 use Rattle.std.proofs.lemmas.Bool.Decides.{nat_tests}
 use Rattle.std.proofs.lemmas.Str.Pattern.{IsSplitOnceResult, split_parts, strip_prefix_char, strip_suffix_char}
 use Rattle.std.specs.Str.Pattern.{FindsCharPrefix, FindsTextPrefix, FindsCharSuffix}
@@ -183,19 +183,16 @@ pub Lacks-append : (c : ℕ) (xs ys : List ℕ) → Lacks c xs → Lacks c ys �
 Lacks-append c [] ys p q = q
 Lacks-append c (x ∷ xs) ys p q = (p.0, Lacks-append c xs ys p.1 q)
 
-differs : (x c : ℕ) → x ≢ c → eqb x c ≡ false
-differs x c n = grind (arith, nat_tests)
-
 pub Lacks-digits : (c : ℕ) (ds : List ℕ) → (c < 48) ⊎ (57 < c) → all_ascii_digits ds ≡ true → Lacks c ds
 Lacks-digits c [] out h = tt
 Lacks-digits c (d ∷ ds) out h =
     let k = tells_all_ascii_digits.parts d ds h in
     let n : d ≢ c = λ e. elim out [ inl low ↦ omega (arith, k.0, e) | inr high ↦ omega (arith, k.0, e) ] in
-    (differs d c n, Lacks-digits c ds out k.1)
+    (ne_eqb d c n, Lacks-digits c ds out k.1)
 
 pub Lacks-spaces : (c : ℕ) (sp : List ℕ) → c ≢ 32 → AreSpaces sp → Lacks c sp
 Lacks-spaces c [] n h = tt
-Lacks-spaces c (x ∷ sp) n h = (differs x c (λ e. n (sym e ∙ h.0)), Lacks-spaces c sp n h.1)
+Lacks-spaces c (x ∷ sp) n h = (ne_eqb x c (λ e. n (sym e ∙ h.0)), Lacks-spaces c sp n h.1)
 
 skip_more : (x : ℕ) (xs : List ℕ) (b : Bool) → eqb x 32 ≡ b → (sp : List ℕ) × AreSpaces sp × (xs ≡ sp ++ skip_spaces xs) → (sp : List ℕ) × AreSpaces sp × (x ∷ xs ≡ sp ++ cond b (skip_spaces xs) (x ∷ xs))
 skip_more x xs true e k = let same : x ≡ 32 = eqb-true x 32 e in (x ∷ k.0, (same, k.1), ap (λ (ys : List ℕ). x ∷ ys) k.2)
@@ -214,7 +211,7 @@ skip_again (x ∷ sp) ds h e = rw h.0 (skip_again sp ds h.1 e)
 pub skip_digits : (ds : List ℕ) → all_ascii_digits ds ≡ true → skip_spaces ds ≡ ds
 unfolding skip_spaces
 skip_digits [] h = refl
-skip_digits (d ∷ ds) h = let k = tells_all_ascii_digits.parts d ds h in rw (differs d 32 (λ e. omega (arith, k.0, e))) refl
+skip_digits (d ∷ ds) h = let k = tells_all_ascii_digits.parts d ds h in rw (ne_eqb d 32 (λ e. omega (arith, k.0, e))) refl
 
 -- ---- before
 
@@ -240,8 +237,8 @@ before_found c (x ∷ y ∷ xs) front h = before_more x c (y ∷ xs) front (befo
 
 pub before_other : (c d : ℕ) (xs : List ℕ) → d ≢ c → before c (xs ++ d ∷ []) ≡ None
 unfolding before
-before_other c d [] n = rw (differs d c n) refl
-before_other c d (x ∷ []) n = rw (differs d c n) refl
+before_other c d [] n = rw (ne_eqb d c n) refl
+before_other c d (x ∷ []) n = rw (ne_eqb d c n) refl
 before_other c d (x ∷ y ∷ xs) n = ap (option_map (λ (f : List ℕ). x ∷ f)) (before_other c d (y ∷ xs) n)
 
 before_cases : (c : ℕ) (text : List ℕ) (o : Option (List ℕ)) → before c text ≡ o → ((front : List ℕ) → text ≢ front ++ c ∷ []) → o ≡ None

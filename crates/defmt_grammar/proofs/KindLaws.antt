@@ -3,7 +3,7 @@ use Rattle.std.proofs.Common.{◌≡◌, ◌≢◌, ◌≤◌, ◌-◌, ◌^◌,
 use Rattle.std.specs.Prelude.{codes}
 use Rattle.std.specs.List.{list_all}
 use Rattle.std.specs.Str.{bytes_eq}
-use Rattle.std.proofs.lemmas.Bool.{cases_lt, eqb-true, ltb-true}
+use Rattle.std.proofs.lemmas.Bool.{cases_lt, eqb-true, ltb-true, and_parts}
 use Rattle.std.proofs.lemmas.Bool.Decides.{nat_tests}
 use Rattle.std.proofs.lemmas.List.{nil_from_length}
 use Rattle.std.proofs.lemmas.Option.{same_Some}
@@ -129,14 +129,10 @@ shape_found text shape h =
 differ : (d x : ℕ) → d ≤ 57 → ltb 57 x ≡ true → eqb d x ≡ false
 differ d x low h = let n : d ≢ x = λ e. omega (arith, ltb-true 57 x h, e) in grind (arith, nat_tests)
 
-and_true : (a b : Bool) → (a && b) ≡ true → (a ≡ true) × (b ≡ true)
-and_true true b e = (refl, e)
-and_true false b e = absurd cc
-
 no_word : (d : ℕ) (ds : List ℕ) (es : List (List ℕ × Kind)) → d ≤ 57 → list_all (λ e. ltb 57 (get_or e.0 0 0)) es ≡ true → at_word (d ∷ ds) es ≡ None
 no_word d ds [] low h = refl
-no_word d ds (([], kind) ∷ es) low h = no_word d ds es low (and_true (ltb 57 0) _ h).1
-no_word d ds ((x ∷ xs, kind) ∷ es) low h = let k = and_true (ltb 57 x) _ h in rw (differ d x low k.0) (no_word d ds es low k.1)
+no_word d ds (([], kind) ∷ es) low h = no_word d ds es low (and_parts (ltb 57 0) _ h).1
+no_word d ds ((x ∷ xs, kind) ∷ es) low h = let k = and_parts (ltb 57 x) _ h in rw (differ d x low k.0) (no_word d ds es low k.1)
 
 begins_with_digit : (ds : List ℕ) (n : ℕ) → IsDecimal ds n → (d : ℕ) × (rest : List ℕ) × (ds ≡ d ∷ rest) × (d ≤ 57) × (48 ≤ d)
 begins_with_digit [] n h = absurd (omega (arith, h.some))

@@ -1,10 +1,11 @@
 -- The digits in front.
-use Rattle.std.proofs.Common.{◌≡◌, ◌<◌, ◌≤◌, ℕ, suc, zero, Bool, true, false, cond, ◌&&◌, List, [], ◌∷◌, ◌++◌, length, get_or, take, drop, refl, sym, ap, arith, Bor, add-one}
+use Rattle.std.proofs.Common.{◌≡◌, ◌<◌, ◌≤◌, ℕ, suc, zero, Bool, true, false, cond, List, [], ◌∷◌, ◌++◌, length, get_or, take, drop, refl, sym, ap, arith, Bor, add-one}
 use Rattle.std.specs.Char.{is_ascii_digit}
 use Rattle.std.specs.Int.{IsInRange}
 use Rattle.std.specs.Str.{IsUtf8, IsCharBoundary, all_ascii_digits}
 use Rattle.std.proofs.lemmas.Str.{IsCharBoundary-start, IsCharBoundary-after_ascii}
 use Rattle.std.proofs.lemmas.Str.Parse.{tells_all_ascii_digits}
+use Rattle.std.proofs.lemmas.Bool.{and_parts}
 use Rattle.defmt_grammar.specs.Cut.{lead}
 use Rattle.defmt_grammar.specs.Param.{both_now}
 
@@ -56,10 +57,6 @@ pub lead_stops : (text : List ℕ) → StartsNoDigit (lead text).1
 unfolding lead
 lead_stops [] = tt
 lead_stops (c ∷ cs) = start_more c cs (is_ascii_digit c) refl (lead_stops cs)
-
-and_parts : (a b : Bool) → (a && b) ≡ true → (a ≡ true) × (b ≡ true)
-and_parts true b e = (refl, e)
-and_parts false b e = absurd cc
 
 lead_stop : (rest : List ℕ) → StartsNoDigit rest → lead rest ≡ ([], rest)
 unfolding lead

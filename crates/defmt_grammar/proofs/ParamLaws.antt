@@ -1,9 +1,9 @@
 -- What is read as a parameter is spelled so, what is spelled so is read, and each fault is the first.
-use Rattle.std.proofs.Common.{◌≡◌, ◌≢◌, ◌<◌, ◌≤◌, ◌+◌, ◌-◌, ◌^◌, ℕ, suc, Bool, true, false, cond, eqb, ltb, leb, ◌&&◌, min, List, [], ◌∷◌, ◌++◌, length, Option, Some, None, Result, Ok, Err, refl, sym, ap, subst, ◌∙◌, arith, option_map, length-append, unwrap_or, ◌⊎◌, inl, inr}
+use Rattle.std.proofs.Common.{◌≡◌, ◌≢◌, ◌<◌, ◌≤◌, ◌+◌, ◌-◌, ◌^◌, ℕ, suc, Bool, true, false, cond, eqb, ltb, leb, min, List, [], ◌∷◌, ◌++◌, length, Option, Some, None, Result, Ok, Err, refl, sym, ap, subst, ◌∙◌, arith, option_map, length-append, unwrap_or, ◌⊎◌, inl, inr}
 use Rattle.std.specs.Prelude.{is_some}
 use Rattle.std.specs.Char.{is_ascii_digit}
 use Rattle.std.specs.Str.{all_ascii_digits}
-use Rattle.std.proofs.lemmas.Bool.{ltb-true, lt-ltb}
+use Rattle.std.proofs.lemmas.Bool.{ltb-true, lt-ltb, and_parts, ne_eqb}
 use Rattle.std.proofs.lemmas.Bool.Decides.{nat_tests}
 use Rattle.std.proofs.lemmas.List.{append-nil}
 use Rattle.std.specs.Str.Parse.{digits_value}
@@ -54,10 +54,6 @@ none_more c x xs true o e k h = absurd cc
 none_more c x xs false None e k h = (e, k refl)
 none_more c x xs false (Some q) e k h = absurd cc
 
-both_true : (a b : Bool) → (a && b) ≡ true → (a ≡ true) × (b ≡ true)
-both_true true b e = (refl, e)
-both_true false b e = absurd cc
-
 zero_from : (digits : List ℕ) (o : Option (List ℕ)) → behind 48 digits ≡ o → is_some o ≡ true → 1 < length digits → HasLeadingZero digits
 zero_from digits None e h long = absurd cc
 zero_from digits (Some []) e h long = absurd (let k = behind_found 48 digits [] e in omega (arith, ap length k))
@@ -73,7 +69,7 @@ cut_none c (x ∷ xs) h = none_more c x xs (eqb x c) (cut c xs) refl (cut_none c
 
 leading_zero : (digits : List ℕ) → has_leading_zero digits ≡ true → HasLeadingZero digits
 leading_zero digits h =
-    let k = both_true (ltb 1 (length digits)) (is_some (behind 48 digits)) h in
+    let k = and_parts (ltb 1 (length digits)) (is_some (behind 48 digits)) h in
     zero_from digits (behind 48 digits) refl k.1 (ltb-true 1 (length digits) k.0)
 
 no_leading_zero : (digits : List ℕ) → has_leading_zero digits ≡ false → HasLeadingZero digits → ⊥
@@ -110,9 +106,6 @@ no_kind_found digits (c ∷ rest) None p e h = absurd (nonempty_err c rest digit
 with_kind_found : (digits rest : List ℕ) (o : Option (List ℕ)) (p : Parts) → behind 61 rest ≡ o → with_kind digits rest o ≡ Ok p → Parted digits rest p
 with_kind_found digits rest (Some more) p e h = subst (Parted digits rest) (okay_is (with_hint digits more (cut 58 more)) p h) (subst (λ (r : List ℕ). Parted digits r (with_hint digits more (cut 58 more))) (sym (behind_found 61 rest more e)) (with_hint_parted digits more (cut 58 more) refl))
 with_kind_found digits rest None p e h = no_kind_found digits rest (behind 58 rest) p refl h
-
-apart : (x c : ℕ) → x ≢ c → eqb x c ≡ false
-apart x c n = grind (arith, nat_tests)
 
 behind_test : (c x : ℕ) (xs : List ℕ) (b : Bool) → eqb x c ≡ b → cond b (Some xs) None ≡ None → x ≡ c → ⊥
 behind_test c x xs true e h same = cc
@@ -200,13 +193,13 @@ zero_again inside f h =
     let more = h.zero.1 in
     let e : inside ≡ 48 ∷ d ∷ (more ++ h.rest) = h.text ∙ ap (λ (t : List ℕ). t ++ h.rest) h.zero.2 in
     let digits : all_ascii_digits (48 ∷ d ∷ more) ≡ true = rw h.zero.2 at h.are_digits in
-    let one : is_ascii_digit d ≡ true = (both_true (is_ascii_digit d) (all_ascii_digits more) digits).0 in
+    let one : is_ascii_digit d ≡ true = (and_parts (is_ascii_digit d) (all_ascii_digits more) digits).0 in
     let z : has_leading_zero (lead inside).0 ≡ true = ap (λ (t : List ℕ). has_leading_zero (lead t).0) e ∙ zero_leads d (more ++ h.rest) one in
     written_by inside (lead inside).0 (lead inside).1 true refl z ∙ ap Err (sym h.is)
 
 wrong_start : (digits : List ℕ) (c : ℕ) (rest : List ℕ) → c ≢ 61 → c ≢ 58 → with_kind digits (c ∷ rest) (behind 61 (c ∷ rest)) ≡ Err (record { cause = causes.Brace; at = 1 + length digits })
 unfolding behind
-wrong_start digits c rest a b = rw (apart c 61 a, apart c 58 b, nonempty c rest) refl
+wrong_start digits c rest a b = rw (ne_eqb c 61 a, ne_eqb c 58 b, nonempty c rest) refl
 
 pub char_again : (inside : List ℕ) (f : Fault) → HasCharFault inside f → written_of inside ≡ Err f
 char_again inside f h =

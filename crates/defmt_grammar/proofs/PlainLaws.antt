@@ -1,19 +1,16 @@
 -- Characters that are no braces.
-use Rattle.std.proofs.Common.{◌≡◌, ◌≢◌, ◌<◌, ◌≤◌, ℕ, suc, zero, Bool, true, false, cond, eqb, ◌||◌, List, [], ◌∷◌, ◌++◌, length, get_or, take, drop, refl, sym, ap, arith, inl, inr, Bor}
+use Rattle.std.proofs.Common.{◌≡◌, ◌<◌, ◌≤◌, ℕ, suc, zero, Bool, true, false, cond, eqb, ◌||◌, List, [], ◌∷◌, ◌++◌, length, get_or, take, drop, refl, sym, ap, arith, inl, inr, Bor}
 use Rattle.std.specs.Str.{IsCharBoundary}
 use Rattle.std.specs.List.{AllByRecursion}
-use Rattle.std.proofs.lemmas.Bool.{eqb-true}
+use Rattle.std.proofs.lemmas.Bool.{eqb-true, ne_eqb}
 use Rattle.std.proofs.lemmas.Bool.Decides.{nat_tests}
 use Rattle.std.proofs.lemmas.Str.{IsCharBoundary-before_ascii}
 use Rattle.defmt_grammar.specs.Param.{both_now}
 use Rattle.defmt_grammar.specs.Step.{plain}
 use Rattle.defmt_grammar.specs.Grammar.{IsPlain, IsBrace}
 
-pub unlike : (x c : ℕ) → x ≢ c → eqb x c ≡ false
-unlike x c n = grind (arith, nat_tests)
-
 pub plain_test : (c : ℕ) → IsPlain c → (eqb c 123 || eqb c 125) ≡ false
-plain_test c p = rw (unlike c 123 p.0, unlike c 125 p.1) refl
+plain_test c p = rw (ne_eqb c 123 p.0, ne_eqb c 125 p.1) refl
 
 pub brace_test : (c : ℕ) → IsBrace c → (eqb c 123 || eqb c 125) ≡ true
 brace_test c (inl e) = rw e refl

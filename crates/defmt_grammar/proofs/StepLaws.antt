@@ -2,7 +2,7 @@
 use Rattle.std.proofs.Common.{◌≡◌, ◌<◌, ◌≤◌, ◌+◌, ◌-◌, ℕ, suc, Bool, true, false, cond, eqb, List, [], ◌∷◌, ◌++◌, length, map, Option, Some, None, Result, Ok, Err, refl, sym, ap, subst, ◌∙◌, arith, length-append, inl, inr}
 use Rattle.std.specs.Prelude.{codes}
 use Rattle.std.specs.List.{AllByRecursion}
-use Rattle.std.proofs.lemmas.Bool.{eqb-true}
+use Rattle.std.proofs.lemmas.Bool.{eqb-true, ne_eqb}
 use Rattle.std.proofs.lemmas.Bool.Decides.{nat_tests}
 use Rattle.defmt_grammar.specs.declared.fault.Cause.TheVariants as causes
 use Rattle.defmt_grammar.specs.declared.fault.Fault.{Fault}
@@ -14,7 +14,7 @@ use Rattle.defmt_grammar.specs.Step.{plain, Read, run, hole as hole_step, inside
 use Rattle.defmt_grammar.specs.Grammar.{Token, char, hole, IsPlain, IsBrace, IsHole, SpellsToken, SpellsTokens, HasTokenFault}
 use Rattle.defmt_grammar.proofs.Cuts.{cut_again, cut_found, cut-lacks, behind_again, behind_found, strip_found, strip_again}
 use Rattle.defmt_grammar.proofs.ParamLaws.{param_found, param_again, param_err, param_err_again, bind_okay, bind_err, okay_is, err_is, cut_none}
-use Rattle.defmt_grammar.proofs.PlainLaws.{unlike, plain_found, starts_with_brace}
+use Rattle.defmt_grammar.proofs.PlainLaws.{plain_found, starts_with_brace}
 
 pub hole_len : (text more inside rest : List ℕ) → behind 123 text ≡ Some more → cut 125 more ≡ Some (inside, rest) → length inside < length text
 hole_len text more inside rest e f =
@@ -225,7 +225,7 @@ at_hole mode size next text inside rest h =
 pub token_again : (mode : Mode) (size next : ℕ) (text : List ℕ) (t : Token) (after : ℕ) (rest : List ℕ) → SpellsToken mode size next text t after rest → next_token mode size next text ≡ found t after rest
 unfolding next_token
 token_again mode size next text (char c) after rest (e, inl (p, is)) =
-    ap (next_token mode size next) is ∙ rw (unlike c 123 p.0, unlike c 125 p.1) (ap (λ (n : ℕ). found (char c) n rest) (sym e))
+    ap (next_token mode size next) is ∙ rw (ne_eqb c 123 p.0, ne_eqb c 125 p.1) (ap (λ (n : ℕ). found (char c) n rest) (sym e))
 token_again mode size next text (char c) after rest (e, inr (inl b, is)) =
     let whole : text ≡ 123 ∷ 123 ∷ rest = is ∙ ap (λ (d : ℕ). d ∷ d ∷ rest) b in
     ap (next_token mode size next) whole ∙ ap (from_open mode (size - length (123 ∷ 123 ∷ rest)) next (123 ∷ rest)) (behind_again 123 rest) ∙ ap (λ (d : ℕ). found (char d) next rest) (sym b) ∙ ap (λ (n : ℕ). found (char c) n rest) (sym e)

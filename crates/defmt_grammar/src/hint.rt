@@ -1,7 +1,6 @@
 //! Hints of how to print a parameter.
 
 ghost use Rattle.std.specs.Prelude.{◌≡◌};
-ghost use Rattle.std.specs.Option.{option_map};
 ghost use Rattle.defmt_grammar.specs.Hint.{named_hint, width_of, base_of, radix_of, hint_of, before_base};
 
 use crate::parts::{before, behind, number_of};

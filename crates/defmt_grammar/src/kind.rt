@@ -1,7 +1,7 @@
 //! Kinds of parameters.
 
 ghost use Rattle.std.specs.Prelude.{◌≡◌};
-ghost use Rattle.std.specs.Prelude.{◌^◌, ◌-◌, min, option_map};
+ghost use Rattle.std.specs.Prelude.{◌-◌};
 ghost use Rattle.defmt_grammar.specs.Kind.{named_kind, count_of, bits_of, array_len, kind_of};
 
 use crate::parts::{behind, behind_text, cut, number_of, skip_spaces};

@@ -1,6 +1,6 @@
 //! What the positions of a text are used for.
 
-ghost use Rattle.std.specs.Prelude.{◌≡◌, MatchOption, MatchBool, MatchResult, IfOk, length};
+ghost use Rattle.std.specs.Prelude.{◌≡◌, MatchOption, MatchBool, MatchResult, IfOk};
 ghost use Rattle.defmt_grammar.specs.Grammar.{FirstClash};
 ghost use Rattle.defmt_grammar.specs.Positions.{AllFit, Apart, IsJoined, span_of, ClashesWith, HoldsMore, CountFits, IsTableOf, IsFront, UsedFrom, UnusedFrom, HeldFit};
 

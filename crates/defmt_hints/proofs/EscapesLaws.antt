@@ -1,6 +1,6 @@
 -- What is escaped.
-use Rattle.std.proofs.Common.{◌≡◌, ◌≢◌, ◌<◌, ◌≤◌, ◌+◌, ◌-◌, ℕ, zero, suc, Bool, true, false, eqb, ◌&&◌, List, [], ◌∷◌, ◌++◌, length, get_or, take, drop, Option, Some, None, refl, arith, inl, inr}
-use Rattle.std.proofs.lemmas.Bool.{cases_lt}
+use Rattle.std.proofs.Common.{◌≡◌, ◌≢◌, ◌<◌, ◌≤◌, ◌+◌, ◌-◌, ℕ, zero, suc, Bool, true, false, ◌&&◌, List, [], ◌∷◌, ◌++◌, length, get_or, take, drop, Option, Some, None, refl, arith, inl, inr}
+use Rattle.std.proofs.lemmas.Bool.{cases_lt, ne_eqb}
 use Rattle.std.proofs.lemmas.Bool.Decides.{nat_tests}
 use Rattle.std.proofs.lemmas.Str.{IsCharBoundary-before_ascii, IsCharBoundary-after_ascii, IsUtf8-from_ascii}
 use Rattle.std.proofs.lemmas.List.{get_or-drop}
@@ -11,16 +11,13 @@ use Rattle.defmt_hints.specs.Escapes.{quote_code, escape_of, byte_escape_of, byt
 use Rattle.defmt_hints.specs.declared.escapes.Quote.{Quote}
 use Rattle.defmt_hints.specs.declared.escapes.Quote.TheVariants.{Single, Double}
 
-unlike : (x c : ℕ) → x ≢ c → eqb x c ≡ false
-unlike x c n = grind (arith, nat_tests)
-
 quote_is_ascii : (quote : Quote) → quote_code quote < 128
 quote_is_ascii Single = omega arith
 quote_is_ascii Double = omega arith
 
 none_beyond : (quote c : ℕ) → quote < 128 → 128 ≤ c → escape_of quote c ≡ None
 unfolding escape_of
-none_beyond quote c small above = rw (unlike c 92 (omega arith), unlike c quote (omega arith), unlike c 10 (omega arith), unlike c 13 (omega arith), unlike c 9 (omega arith)) refl
+none_beyond quote c small above = rw (ne_eqb c 92 (omega arith), ne_eqb c quote (omega arith), ne_eqb c 10 (omega arith), ne_eqb c 13 (omega arith), ne_eqb c 9 (omega arith)) refl
 
 pub escaped_is_ascii : (quote : Quote) (c : ℕ) (written : List ℕ) → escape_of (quote_code quote) c ≡ Some written → c < 128
 escaped_is_ascii quote c written e = elim (cases_lt c 128) [

@@ -1,9 +1,9 @@
 //! Numbers.
 
-ghost use Rattle.std.specs.Prelude.{◌≡◌, ◌<◌, ◌≤◌, ◌+◌, ◌^◌, length};
+ghost use Rattle.std.specs.Prelude.{◌≡◌, ◌<◌, ◌≤◌, ◌+◌, ◌^◌};
 ghost use Rattle.defmt_hints.specs.Appends.{Appends};
 ghost use Rattle.defmt_grammar.specs.Sizes.{size_bits, IsSigned};
-ghost use Rattle.defmt_hints.specs.Printed.{twos_complement, base_number, base_prefix, is_upper, prefix_text, radix_text, fraction_text, decimal_text, signed_text, printed_uint, printed_int};
+ghost use Rattle.defmt_hints.specs.Printed.{twos_complement, base_number, is_upper, prefix_text, radix_text, fraction_text, decimal_text, signed_text, printed_uint, printed_int};
 
 use crate::digits::{divided, push, push_char, push_digits};
 use defmt_grammar::{Base, Hint, IntSize, Memory, Text};

@@ -1,46 +1,15 @@
 -- What a text stands for.
-use Rattle.std.proofs.Common.{◌≡◌, ◌≢◌, ◌<◌, ◌≤◌, ◌+◌, ◌++◌, ◌⊎◌, inl, inr, ℕ, suc, Bool, true, false, cond, eqb, List, [], ◌∷◌, length, get_or, Option, Some, None, Bor, option_map, option_and_then, MatchOption, Result, Ok, Err, refl, sym, ap, subst, ◌∙◌, arith, leb, ◌-◌, append_assoc, length-append}
-use Rattle.std.specs.List.{AllByRecursion}
+use Rattle.std.proofs.Common.{◌≡◌, ◌≢◌, ◌<◌, ◌≤◌, ◌+◌, ◌++◌, ℕ, suc, Bool, true, false, cond, eqb, List, [], ◌∷◌, length, get_or, Option, Some, None, Bor, option_map, option_and_then, MatchOption, refl, sym, ap, ◌∙◌, arith, leb, ◌-◌, append_assoc, length-append}
 use Rattle.std.specs.Prelude.{count_by}
 use Rattle.std.proofs.lemmas.Bool.Decides.{nat_tests}
 use Rattle.std.proofs.lemmas.List.Recursion.{is_count_by}
 use Rattle.std.proofs.lemmas.Str.Pattern.{IsSplitOnceResult, split_parts}
 use Rattle.std.proofs.lemmas.Bool.{ne_eqb}
-use Rattle.defmt_grammar.specs.declared.fault.Mode.{Mode}
 use Rattle.defmt_grammar.specs.declared.fault.Mode.TheVariants.{Lenient}
 use Rattle.defmt_grammar.specs.declared.piece.Piece.{Piece}
-use Rattle.defmt_grammar.specs.Grammar.{Spells}
-use Rattle.defmt_grammar.proofs.Unique.{spells_one}
-use Rattle.defmt_intern.specs.Body.{pieces_in, pieces_of, with_char, variants, forms_of, one_body, forms_body, cut_body, HasNoBar, StartsWith}
+use Rattle.defmt_intern.specs.Body.{with_char, variants, forms_of, one_body, forms_body, cut_body, HasNoBar, StartsWith}
 use Rattle.defmt_intern.specs.declared.parsed.Parsed.TheVariants as bodies
-use Rattle.defmt_intern.specs.Decided.{Decision, decided}
-
--- ---- pieces
-
-found_in : (mode : Mode) (text : List ℕ) (d : Decision mode text) (ps : List Piece) → pieces_in d ≡ Some ps → Spells text mode ps
-found_in mode text (inl d) ps e = let same : d.0 ≡ ps = cc in subst (Spells text mode) same d.1
-found_in mode text (inr d) ps e = absurd cc
-
-again_in : (mode : Mode) (text : List ℕ) (d : Decision mode text) (ps : List Piece) → Spells text mode ps → pieces_in d ≡ Some ps
-again_in mode text (inl d) ps s = ap Some (spells_one text mode d.0 ps d.1 s)
-again_in mode text (inr d) ps s = absurd (d ps s)
-
-none_in : (mode : Mode) (text : List ℕ) (d : Decision mode text) → ((ps : List Piece) → Spells text mode ps → ⊥) → pieces_in d ≡ None
-none_in mode text (inl d) n = absurd (n d.0 d.1)
-none_in mode text (inr d) n = refl
-
--- the function and the grammar say the same
-pub pieces_found : (mode : Mode) (text : List ℕ) (ps : List Piece) → pieces_of mode text ≡ Some ps → Spells text mode ps
-unfolding pieces_of
-pieces_found mode text ps e = found_in mode text (decided mode text) ps e
-
-pub pieces_again : (mode : Mode) (text : List ℕ) (ps : List Piece) → Spells text mode ps → pieces_of mode text ≡ Some ps
-unfolding pieces_of
-pieces_again mode text ps s = again_in mode text (decided mode text) ps s
-
-pub pieces_none : (mode : Mode) (text : List ℕ) → ((ps : List Piece) → Spells text mode ps → ⊥) → pieces_of mode text ≡ None
-unfolding pieces_of
-pieces_none mode text n = none_in mode text (decided mode text) n
+use Rattle.defmt_intern.specs.Pieces.{pieces_of}
 
 -- ---- variants
 

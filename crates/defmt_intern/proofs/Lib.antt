@@ -1,4 +1,5 @@
 pub mod BodyLaws
 pub mod NameLaws
+pub mod PieceLaws
 pub mod Stamps
 pub mod TableLaws

@@ -1,5 +1,5 @@
 -- The map of a table.
-use Rattle.std.proofs.Common.{◌≡◌, ◌≢◌, ◌≤◌, ◌<◌, ◌+◌, ◌^◌, ◌⊎◌, inl, inr, ℕ, Bool, true, false, cond, List, [], ◌∷◌, ◌++◌, length, Option, Some, None, is_eq, refl, sym, ap, subst, ◌∙◌, arith, nat_cmp, Ordering, is_lt, Bor, Result, Ok, Err, MatchOption, option_map, suc, map as map_list, T}
+use Rattle.std.proofs.Common.{◌≡◌, ◌≢◌, ◌≤◌, ◌<◌, ◌+◌, ◌^◌, ◌⊎◌, inl, inr, ℕ, Bool, true, false, cond, List, [], ◌∷◌, ◌++◌, length, Option, Some, None, is_eq, refl, sym, ap, subst, ◌∙◌, arith, nat_cmp, is_lt, Bor, Result, Ok, Err, MatchOption, option_map, suc, map as map_list, T}
 use Rattle.std.specs.Prelude.{SomeIff, ⊤}
 use Rattle.std.specs.Option.{option_copied}
 use Rattle.defmt_intern.specs.declared.table.TableFault.{TableFault}
@@ -22,7 +22,7 @@ use Rattle.std.specs.FinMap as map
 use Rattle.defmt_intern.specs.declared.entry.Entry.{Entry}
 use Rattle.defmt_intern.specs.declared.kept.Kept.{Kept}
 use Rattle.defmt_intern.specs.declared.entry.Tag.TheVariants.{Timestamp}
-use Rattle.defmt_intern.specs.Table.{Map, pairs, map_of, IsStamp, IsLawful, StampIs, IsKept, IsLong, IsSecond, EntryRefused, InsertRefused, AddRefused, IsGreatest, IsNext, Puts, PutsUnlessMemory, RefusesOnly}
+use Rattle.defmt_intern.specs.Table.{Map, pairs, map_of, IsStamp, IsLawful, StampIs, IsKept, IsSecond, EntryRefused, InsertRefused, AddRefused, IsGreatest, IsNext, Puts, PutsUnlessMemory}
 
 abbrev Pairs : Type 0
 Pairs = List (ℕ × Entry)

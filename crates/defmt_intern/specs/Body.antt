@@ -1,9 +1,7 @@
 -- What an entry's text stands for (defmt book, "Formatting parameters"; variants after defmt's derived enums).
-use Rattle.std.specs.Prelude.{◌≡◌, ◌≢◌, ◌++◌, ℕ, List, [], ◌∷◌, length, Option, Some, None, option_map, option_and_then, nat_le, ◌==◌, if◌then◌else◌, ◌⊎◌}
-use Rattle.std.proofs.Common.{inl, inr}
+use Rattle.std.specs.Prelude.{◌≡◌, ◌≢◌, ◌++◌, ℕ, List, [], ◌∷◌, length, Option, Some, None, option_map, option_and_then, nat_le, ◌==◌, if◌then◌else◌}
 use Rattle.std.specs.Borrow.{Bor}
 use Rattle.std.specs.List.{AllByRecursion}
-use Rattle.defmt_grammar.specs.declared.fault.Mode.{Mode}
 use Rattle.defmt_grammar.specs.declared.fault.Mode.TheVariants.{Lenient}
 use Rattle.defmt_grammar.specs.declared.piece.Piece.{Piece}
 use Rattle.defmt_intern.specs.declared.entry.Tag.{Tag}
@@ -11,15 +9,7 @@ use Rattle.defmt_intern.specs.declared.entry.Tag.TheVariants as tags
 use Rattle.defmt_intern.specs.declared.entry.Entry.{Entry}
 use Rattle.defmt_intern.specs.declared.parsed.Parsed.{Parsed}
 use Rattle.defmt_intern.specs.declared.parsed.Parsed.TheVariants as bodies
-use Rattle.defmt_intern.specs.Decided.{Decision, decided}
-
-abbrev pub pieces_in : {mode : Mode} {text : List ℕ} → Decision mode text → Option (List Piece)
-pieces_in (inl found) = Some found.0
-pieces_in (inr none) = None
-
--- the pieces that a text spells, None where it spells none; `spelled` says that it is so
-unfoldable pub pieces_of : Mode → List ℕ → Option (List Piece)
-pieces_of mode text = pieces_in (decided mode text)
+use Rattle.defmt_intern.specs.Pieces.{pieces_of}
 
 -- a character in front of the first variant
 abbrev pub with_char : ℕ → List (List ℕ) → List (List ℕ)

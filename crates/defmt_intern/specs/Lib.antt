@@ -1,5 +1,6 @@
 pub mod Body
-pub mod Decided
+pub mod Catalog
+pub mod Pieces
 pub mod Name
 pub mod Stamp
 pub mod Table

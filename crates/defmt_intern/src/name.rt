@@ -1,6 +1,6 @@
 //! Symbol names, which are JSON objects.
 
-ghost use Rattle.std.specs.Prelude.{◌≡◌, IfOk, codes, Some, None, MatchOption, option_and_then, option_map};
+ghost use Rattle.std.specs.Prelude.{◌≡◌, IfOk, Some, option_and_then, option_map};
 ghost use Rattle.defmt_intern.specs.Name.{HoldsObject, IsSpelled, Names, IsNoObject, LacksKey, ReadsName, ReadsObject, GivesOnly, GivesJson, GivesKey, object_with, written};
 ghost use Rattle.defmt_intern.specs.declared.entry.Entry.{Entry as AnyEntry};
 ghost use Rattle.defmt_intern.specs.declared.name.NameKey.{NameKey as AnyKey};

@@ -5,7 +5,8 @@ ghost use Rattle.std.specs.Str.{IsUtf8};
 ghost use Rattle.defmt_grammar.specs.Grammar.{Spells};
 ghost use Rattle.defmt_grammar.specs.declared.fault.Mode.{Mode as AnyMode};
 ghost use Rattle.defmt_grammar.specs.declared.piece.Piece.{Piece};
-ghost use Rattle.defmt_intern.specs.Body.{pieces_of, variants, forms_of, one_body, cut_body, body_of, StartsWith};
+ghost use Rattle.defmt_intern.specs.Body.{variants, forms_of, one_body, cut_body, body_of, StartsWith};
+ghost use Rattle.defmt_intern.specs.Pieces.{pieces_of};
 
 use crate::entry::{Entry, Tag};
 use defmt_grammar::{GrammarFault, Mode, Pieces, parse};

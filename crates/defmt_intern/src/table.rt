@@ -13,6 +13,7 @@ use crate::map::{Entries, EntryMap};
 use crate::parsed::Parsed;
 use dl_io::Memory;
 use std::alloc::{AllocFailed, Global};
+use std::marker::Model;
 
 /// Why an entry wasn't put into a table.
 #[derive(Clone, Copy, Debug, Drop, PartialEq, Eq)]
@@ -62,6 +63,16 @@ pub enum Profile {
 pub struct Table {
     entries: EntryMap,
     profile: Profile,
+}
+
+impl Model for Table {
+    ghost use Rattle.defmt_intern.specs.Catalog.{Catalog, catalog_code};
+
+    ghost Value = { Catalog };
+
+    ghost coded = { catalog_code };
+
+    ghost view = { λ t. record { entries = t.entries; profile = t.profile } };
 }
 
 impl Table {

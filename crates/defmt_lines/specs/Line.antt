@@ -1,6 +1,5 @@
 -- What one line of a script says.
-use Rattle.std.specs.Prelude.{◌==◌, ℕ, Bool, ◌&&◌, ◌||◌, nat_le, true, false, List, [], ◌∷◌, length, codes, Option, Some, None, if◌then◌else◌, option_and_then, option_map, unwrap_or}
-use Rattle.std.specs.List.{list_all}
+use Rattle.std.specs.Prelude.{◌==◌, ℕ, Bool, true, false, List, [], ◌∷◌, codes, Option, Some, None, if◌then◌else◌, option_and_then, option_map, unwrap_or}
 use Rattle.std.specs.Str.{is_utf8}
 use Rattle.defmt_grammar.specs.Cut.{cut}
 use Rattle.defmt_grammar.specs.Kind.{at_word}
@@ -99,16 +98,3 @@ line_of_known None = other
 -- what a line says; one that isn't UTF-8 has no form
 unfoldable pub line_of : List ℕ → Line
 line_of bytes = line_of_known (text_of bytes)
-
--- ---- names
-
-abbrev pub is_letter : ℕ → Bool
-is_letter b = (nat_le 65 b && nat_le b 90) || (nat_le 97 b && nat_le b 122)
-
-abbrev pub is_name_byte : ℕ → Bool
-is_name_byte b = is_letter b || (nat_le 48 b && nat_le b 57) || (b == 95)
-
--- a letter, and up to 31 letters, digits and `_` behind it, all ASCII
-abbrev pub is_name : List ℕ → Bool
-is_name [] = false
-is_name (b ∷ bytes) = is_letter b && list_all is_name_byte bytes && nat_le (length bytes) 31

@@ -15,6 +15,6 @@ pub use cause::Cause;
 pub use content::{EntryLine, Line, StatementLine};
 pub use cut::next_line;
 pub use form::Form;
-pub use line::{is_name, read_line};
+pub use line::read_line;
 pub use settings::{RingMode, Settings};
 pub use verdict::{judge, one_verdict};

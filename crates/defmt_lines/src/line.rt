@@ -1,9 +1,8 @@
 //! The reading of a line.
 
-ghost use Rattle.std.specs.Prelude.{◌≡◌, ◌<◌, true, unwrap_or, IfSome, option_copied, option_map};
-ghost use Rattle.std.specs.List.{list_all};
+ghost use Rattle.std.specs.Prelude.{◌≡◌, ◌<◌, true, IfSome, option_copied, option_map};
 ghost use Rattle.defmt_grammar.specs.Cut.{cut, parts_of};
-ghost use Rattle.defmt_lines.specs.Line.{by_form, entry_of, field_and_rest, is_blank, is_letter, is_name, is_name_byte, is_string_tag, line_of, one_field, statement_of, tag_of, text_of, two_fields, worded};
+ghost use Rattle.defmt_lines.specs.Line.{by_form, entry_of, field_and_rest, is_blank, is_string_tag, line_of, one_field, statement_of, tag_of, text_of, two_fields, worded};
 ghost use Rattle.defmt_lines.specs.LineView.{line_view};
 
 use crate::content::{EntryLine, Line, StatementLine};
@@ -156,32 +155,4 @@ fn statement_of(text: &str) -> Option<Line<'_>>
     let writer = writer_of(digits)?;
     let (name, args) = field_and_rest(rest);
     Some(Line::Statement(StatementLine { writer, name, args }))
-}
-
-/// A letter, and up to 31 letters, digits and `_` behind it, all ASCII.
-pub fn is_name(name: &[u8]) -> bool
-    ensures { result ≡ is_name name.now }
-{
-    match name {
-        [] => false,
-        [first, more @ ..] => is_letter(*first) && are_name_bytes(more) && more.len() <= 31,
-    }
-}
-
-fn is_letter(byte: u8) -> bool
-    ensures { result ≡ is_letter byte }
-{
-    (byte >= b'A' && byte <= b'Z') || (byte >= b'a' && byte <= b'z')
-}
-
-fn is_name_byte(byte: u8) -> bool
-    ensures { result ≡ is_name_byte byte }
-{
-    is_letter(byte) || (byte >= b'0' && byte <= b'9') || byte == b'_'
-}
-
-fn are_name_bytes(bytes: &[u8]) -> bool
-    ensures { result ≡ list_all is_name_byte bytes.now }
-{
-    bytes.iter().all(|byte| is_name_byte(*byte))
 }

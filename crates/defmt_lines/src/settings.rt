@@ -1,6 +1,6 @@
 //! What the first lines of a script set.
 
-ghost use Rattle.std.specs.Prelude.{◌≡◌, IfOk, false};
+ghost use Rattle.std.specs.Prelude.{◌≡◌, false};
 ghost use Rattle.defmt_lines.specs.Settings.{is_block, late_of, mode_of, no_settings, with_mode, with_reader, with_ring, with_stamp};
 
 use crate::cause::Cause;

@@ -40,9 +40,10 @@ pub trait Listener {
         ensures { (stream : List ℕ) → Stands (framing self) stream
             → events (tells self) stream ≡ begun (tells self) stream ++ option_to_list result };
 
-    /// Appends the output line of an event. On want of memory a front of the line may have been appended.
+    /// Appends the output line of an event. On want of memory nothing was appended.
     fn add_line(alloc: Global, event: &Self::Event, out: &mut Bytes) -> Result<(), Memory>
-        ensures { OnOk result (out.new.items ≡ out.old.items ++ line event.now) };
+        ensures appended { OnOk result (out.new.items ≡ out.old.items ++ line event.now) }
+        ensures err { OnErr result (out.new.items ≡ out.old.items) };
 
     /// Whether an event is a fault of the recording.
     fn is_fault(event: &Self::Event) -> bool

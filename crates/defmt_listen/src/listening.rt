@@ -1,5 +1,5 @@
 // A whole recording is heard.
-ghost use Rattle.std.specs.Prelude.{◌≡◌, ◌≤◌, ◌<◌, ◌+◌, [], ℕ, length, take, IfOk, IfErr};
+ghost use Rattle.std.specs.Prelude.{◌≡◌, ◌≤◌, ◌<◌, ◌+◌, [], length, take, IfOk, IfErr};
 ghost use Rattle.std.specs.Io.KnownBytes.{Consumes, IsAtEnd};
 ghost use Rattle.defmt_framing.specs.Framing.{Stands};
 ghost use Rattle.defmt_listen.specs.Heard.{HeardAll, Breaks, ReadsNo, recording_limit};

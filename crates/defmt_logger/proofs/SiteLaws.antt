@@ -3,6 +3,7 @@ use Rattle.std.proofs.Common.{◌≡◌, ◌∙◌, ◌≤◌, ◌<◌, ℕ, zer
 use Rattle.std.specs.Prelude.{IsSome, is_some, nat_lt, slice_get, slice_index_or}
 use Rattle.std.proofs.lemmas.Bool.Decides.{nat_tests}
 use Rattle.std.proofs.lemmas.Option.{same_Some}
+use Rattle.defmt_encode.proofs.Hears.{one_entry}
 use Rattle.defmt_encode.specs.Carry.{message_of, stamp_args}
 use Rattle.defmt_grammar.specs.Slots.{slots_of}
 use Rattle.defmt_intern.specs.Body.{body_of}
@@ -25,15 +26,12 @@ use Rattle.defmt_values.specs.declared.value.Statement.{Statement}
 
 -- ---- messages
 
-same_entry : (table : Map) (index : ℕ) (d e : Entry) → look table index ≡ Some d → look table index ≡ Some e → d ≡ e
-same_entry table index d e there here = same_Some d e (sym there ∙ here)
-
 pub sound_message : (table : Map) (stamp : Option (ℕ × ℕ)) (stm : Statement) → IsSound table stamp stm → IsMessage table stm.index
 sound_message table stamp stm s = record {
   entry = s.fits.entry;
   pieces = s.fits.pieces;
   there = s.fits.there;
-  logged = ap (λ (e : Entry). is_logged e.tag) (same_entry table stm.index s.fits.entry s.logged.entry s.fits.there s.logged.there) ∙ s.logged.tag;
+  logged = ap (λ (e : Entry). is_logged e.tag) (one_entry table stm.index s.fits.entry s.logged.entry s.fits.there s.logged.there) ∙ s.logged.tag;
   body = s.fits.body;
 }
 
@@ -46,7 +44,7 @@ message_site table index m =
 
 -- what was looked up is what the message has
 pub message_body : (table : Map) (index : ℕ) (m : IsMessage table index) (e : Entry) (body : Parsed) → look table index ≡ Some e → body ≡ body_of e → body ≡ One m.pieces
-message_body table index m e body there is = is ∙ ap body_of (same_entry table index e m.entry there m.there) ∙ m.body
+message_body table index m e body there is = is ∙ ap body_of (one_entry table index e m.entry there m.there) ∙ m.body
 
 -- ---- one site more
 

@@ -18,12 +18,13 @@ use std::alloc::Global;
 use std::marker::Model;
 use std::sync::Wait;
 
-// How many bytes a message and its frame have at most, and how many statements a script has at most.
+// How many bytes a message has at most, and how many statements a script has at most.
 const MESSAGE_SIZE: usize = 2000;
 
-const FRAME_SIZE: usize = 2288;
-
 const STATEMENTS: usize = 4096;
+
+/// How many bytes the frame of a message has at most.
+pub const FRAME_SIZE: usize = 2288;
 
 /// A script, the sites of its strings, the tape of those of its statements that were logged, and the end of a ring that
 /// their frames go to.

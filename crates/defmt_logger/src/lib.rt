@@ -19,7 +19,7 @@ mod sites;
 mod tape;
 
 pub use books::{Books, Eight, Seat, W0, W1, W2, W3, W4, W5, W6, W7, Writer};
-pub use desk::Desk;
+pub use desk::{Desk, FRAME_SIZE};
 pub use locked::Naming;
 pub use logger::Logger;
 pub use mark::Mark;

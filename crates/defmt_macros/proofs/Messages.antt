@@ -3,14 +3,14 @@ use Rattle.std.proofs.Common.{◌≡◌, ℕ, ◌+◌, List, [], ◌∷◌, ◌+
 use Rattle.std.proofs.lemmas.List.{append-nil}
 use Rattle.byteorder.specs.Endian.{little_bytes}
 use Rattle.defmt_encode.proofs.Chain.{later}
+use Rattle.defmt_encode.proofs.Entries.{slots_from}
 use Rattle.defmt_encode.specs.Carry.{bytes_val, bytes_vals, message_of, own_slots, slots_at, slots_in, stamp_args, stamp_slots}
 use Rattle.defmt_intern.specs.Stamp.{stamp_of}
 use Rattle.defmt_grammar.specs.Slots.{slots_of}
-use Rattle.defmt_grammar.specs.declared.piece.Piece.{Piece}
 use Rattle.defmt_grammar.specs.declared.slot.Slot.{Slot}
 use Rattle.defmt_intern.specs.Table.{Map}
 use Rattle.defmt_intern.specs.declared.entry.Tag.{Tag}
-use Rattle.defmt_values.specs.Entries.{Place, look, places_from, places_of}
+use Rattle.defmt_values.specs.Entries.{Place, look, places_of}
 use Rattle.defmt_values.specs.Fits.{Fits, FitsVals}
 use Rattle.defmt_values.specs.Plain.{Val, Vals, no_vals, val, snoc, vals_len}
 use Rattle.defmt_values.specs.Scan.{own_form, own_in}
@@ -104,10 +104,6 @@ module _ (t : Map) (index : ℕ) (slots : List Slot) (stamp : Option ℕ) where
 
 -- ---- values
 
-slots_back : (ps : List Piece) (k : ℕ) (slots : List Slot) → slots_at (places_from ps k slots) ≡ slots
-slots_back ps k [] = refl
-slots_back ps k (s ∷ ss) = ap (λ (rest : List Slot). s ∷ rest) (slots_back ps (k + 1) ss)
-
 each_fits : (t : Map) (vs : Vals) (places : List Place) → FitsVals t 16 places vs → FitSlots t (slots_at places) vs
 each_fits t no_vals [] h = tt
 each_fits t no_vals (p ∷ ps) h = absurd (cc)
@@ -119,7 +115,7 @@ each_fits t (val v vs) places (p, ps, e, h, hs) =
 pub fitting : (t : Map) (index : ℕ) (tag : Tag) (slots : List Slot) (vs : Vals) → Fits t index vs → IsSite t index tag slots → FitSlots t slots vs
 fitting t index tag slots vs f site =
     let there : own_form (look t index) ≡ Ok f.pieces = rw f.there (ap own_in f.body) in
-    let same : slots_at (places_of f.pieces) ≡ slots = slots_back f.pieces 0 (slots_of f.pieces) ∙ ap slots_in (sym there) ∙ own t index tag slots site in
+    let same : slots_at (places_of f.pieces) ≡ slots = slots_from f.pieces 0 (slots_of f.pieces) ∙ ap slots_in (sym there) ∙ own t index tag slots site in
     let P : List Slot → Type 0 = λ ss. FitSlots t ss vs in
     subst P same (each_fits t vs (places_of f.pieces) f.values)
 

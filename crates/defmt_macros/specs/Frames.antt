@@ -33,10 +33,6 @@ PutsInto frame lent = frame.buf.ghost_name ≡ lent.ghost_name
 abbrev pub SameBuffer : Frame → Frame → Type 0
 SameBuffer old new = new.buf.ghost_name ≡ old.buf.ghost_name
 
--- the buffer, as an ended frame gives it back
-abbrev pub buffer_left : {A : Type 0} → MutBor (List ℕ) × A → List ℕ
-buffer_left exit = exit.0.now
-
 -- this slot is the next to come
 abbrev pub IsNext : Frame → Slot → Type 0
 IsNext frame slot = (more : List Slot) × (slots_left frame ≡ slot ∷ more)

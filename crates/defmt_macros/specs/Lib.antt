@@ -1,3 +1,4 @@
 pub mod Frames
 pub mod Sites
+pub mod Spot
 pub mod Stamps

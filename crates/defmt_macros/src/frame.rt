@@ -30,7 +30,8 @@ impl<'b, 's> Frame<'b, 's> {
     ghost use Rattle.defmt_grammar.specs.declared.slot.Slot.TheVariants as slots;
     ghost use Rattle.defmt_values.specs.Fits.{FitsVal, IsBytes};
     ghost use Rattle.defmt_values.specs.View.{plain};
-    ghost use Rattle.defmt_macros.specs.Frames.{buffer_of, bytes_put, count_put, slots_left, head_of, PutsInto, SameBuffer, buffer_left, IsNext, HasRoom, Grows, GrowsByAll, FitSlots};
+    ghost use Rattle.defmt_macros.specs.Frames.{buffer_of, bytes_put, count_put, slots_left, head_of, PutsInto, SameBuffer, IsNext, HasRoom, Grows, GrowsByAll, FitSlots};
+    ghost use Rattle.rzcobs_core.specs.Encoder.{buffer_left};
     ghost use Rattle.byteorder.specs.Endian.{little_bytes};
     ghost use Rattle.std.specs.Int.{w128, cast_unsigned};
 

@@ -9,7 +9,7 @@ use defmt_encode::put_number;
 use defmt_grammar::Slot;
 
 // Puts a number for which there is room.
-#[tactic(auto, using(crate::proofs::Lengths::number_length))]
+#[tactic(auto, using(defmt_encode::proofs::Numbers::length_little))]
 pub fn put_fitting(buf: &mut [u8], at: usize, n: u128, width: u8) -> usize
     requires { (2000 ≤ length buf.old) × (at + width ≤ 2000) }
     ensures { Wrote buf.old buf.new at result (little_bytes width n) }

@@ -12,6 +12,7 @@ use defmt_intern::{Parsed, Table, Tag};
 use defmt_values::{cut, is_logged, look_up};
 use dl_io::Memory;
 use std::alloc::Global;
+use std::marker::Model;
 
 /// Why there is no site.
 #[derive(Clone, Copy, Debug, PartialEq, Eq)]
@@ -46,6 +47,14 @@ pub struct Site {
     index: u16,
     tag: Tag,
     slots: Slots,
+}
+
+impl Model for Site {
+    ghost use Rattle.defmt_macros.specs.Spot.{Spot};
+
+    ghost Value = { Spot };
+
+    ghost view = { λ s. record { index = s.index; tag = s.tag; slots = s.slots } };
 }
 
 // The tag of a message's entry and the slots of its text.

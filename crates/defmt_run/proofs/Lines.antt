@@ -14,10 +14,11 @@ use Rattle.defmt_framing.specs.Frames.{frame_of, frames}
 use Rattle.defmt_intern.specs.Table.{Map}
 use Rattle.defmt_lines.specs.declared.settings.RingMode.{RingMode}
 use Rattle.defmt_lines.specs.declared.settings.RingMode.TheVariants.{Block, Skip, Trim}
+use Rattle.defmt_logger.proofs.Frames.{sound_at}
 use Rattle.defmt_logger.proofs.Room.{writer_below}
 use Rattle.defmt_logger.specs.Tape.{IsLawful as IsLawfulTape, first_stamp, frame_at, frame_with, line_by, line_with, lines_of, mark_frame, mark_line, stamp_in, stamp_step, statements_of, stream_of}
 use Rattle.defmt_logger.specs.declared.mark.Mark.{Mark}
-use Rattle.defmt_run.proofs.Marks.{AreGood, IsGood, IsKept, are_good, sound_at, there}
+use Rattle.defmt_run.proofs.Marks.{AreGood, IsGood, IsKept, are_good, there}
 use Rattle.defmt_run.proofs.Stamped.{Fit}
 use Rattle.defmt_run.specs.Told.{AreLines, LinesIn}
 use Rattle.defmt_script.specs.Lawful.{IsLawful, IsSound}

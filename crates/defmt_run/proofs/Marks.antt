@@ -1,15 +1,13 @@
 -- The marks of a lawful tape stand for statements of the script.
 use Rattle.std.proofs.Common.{◌≡◌, ◌≤◌, ◌<◌, ◌+◌, ◌^◌, ◌==◌, ℕ, zero, suc, List, [], ◌∷◌, ◌++◌, Bool, true, false, length, refl, sym, subst, ◌∙◌, ap, arith, eq-eqb, append_assoc, length-append}
-use Rattle.std.specs.Prelude.{if◌then◌else◌, Some, None, slice_get, slice_index_or}
-use Rattle.std.specs.List.{AllByRecursion}
-use Rattle.std.proofs.lemmas.Option.{same_Some}
+use Rattle.std.specs.Prelude.{if◌then◌else◌, Some, None, slice_get}
 use Rattle.std.proofs.Math.Nat.{mul-le-mul_left}
 use Rattle.defmt_lines.specs.declared.settings.RingMode.TheVariants.{Trim}
 use Rattle.defmt_logger.proofs.Room.{tape_fits}
-use Rattle.defmt_logger.specs.Tape.{FateLaw, IsLawful as IsLawfulTape, Runs, count, mark_frame, marks_of, places, stamp_number, stamp_step, first_stamp, statements_of}
+use Rattle.defmt_logger.specs.Tape.{FateLaw, IsLawful as IsLawfulTape, Runs, count, mark_frame, marks_of, places, stamp_number, stamp_step, first_stamp}
 use Rattle.defmt_logger.specs.declared.mark.Mark.{Mark}
 use Rattle.defmt_run.specs.Printed.{ArePlaced}
-use Rattle.defmt_script.specs.Lawful.{IsLawful, IsSound}
+use Rattle.defmt_script.specs.Lawful.{IsLawful}
 use Rattle.defmt_script.specs.Script.{Script}
 use Rattle.defmt_values.specs.declared.value.Statement.{Statement}
 use Rattle.rtt_modes.specs.declared.fate.Fate.{Fate}
@@ -51,21 +49,6 @@ there (x ∷ xs) (suc k) within = there xs k (omega (arith, within))
 
 pub is_there : (xs : List Statement) (k : ℕ) → k < length xs → None ≡ slice_get xs k → ⊥
 is_there xs k within none = let found = there xs k within in let e : None ≡ Some found.0 = none ∙ found.1 in cc e
-
-at_place : {X : Type 0} (P : X → Type 0) (xs : List X) (i : ℕ) (x : X) → AllByRecursion P xs → slice_get xs i ≡ Some x → P x
-at_place P [] i x all is = absurd (cc is)
-at_place P (y ∷ xs) zero x all is = subst P (same_Some y x is) all.0
-at_place P (y ∷ xs) (suc i) x all is = at_place P xs i x all.1 is
-
-at_writer : (P : List Statement → Type 0) (ws : List (List Statement)) (w : ℕ) → AllByRecursion P ws → P [] → P (slice_index_or ws w [])
-at_writer P [] w all none = none
-at_writer P (l ∷ ws) zero all none = all.0
-at_writer P (l ∷ ws) (suc w) all none = at_writer P ws w all.1 none
-
-pub sound_at : (s : Script) (w k : ℕ) (stm : Statement) → IsLawful s → slice_get (statements_of s w) k ≡ Some stm → IsSound s.table s.settings.stamp stm
-sound_at s w k stm h is =
-    let P : Statement → Type 0 = IsSound s.table s.settings.stamp in
-    at_place P (statements_of s w) k stm (at_writer (λ l. AllByRecursion P l) s.writers w h.sound tt) is
 
 -- ---- what the lines of a tape need
 

@@ -1,6 +1,5 @@
 // A recording is decoded by the table that a file names.
 ghost use Rattle.std.specs.Prelude.{◌≡◌, ◌≤◌, ◌<◌, [], length, IfOk, IfErr};
-ghost use Rattle.std.specs.Io.KnownBytes.{Keeps};
 ghost use Rattle.defmt_framing.specs.Framing.{Stands};
 ghost use Rattle.elf_table.specs.Names.{NamesTable};
 ghost use Rattle.defmt_run.specs.Decoding.{Decodes, Hears, IsFile, Loaded, RefusesFile, RefusesName, RefusesTable, table_limit};

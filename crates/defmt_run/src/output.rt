@@ -1,5 +1,5 @@
 // The output lines of events, and of frames that weren't sent whole.
-ghost use Rattle.std.specs.Prelude.{◌≡◌, ◌++◌, codes, OnOk};
+ghost use Rattle.std.specs.Prelude.{◌≡◌, ◌++◌, codes, OnErr, OnOk};
 ghost use Rattle.std.specs.Fmt.{decimal};
 ghost use Rattle.defmt_run.specs.Output.{ended, event_line, fault_name, is_fault, loss_line, loss_text};
 
@@ -9,18 +9,31 @@ use dl_io::{Bytes, Memory};
 use rtt_modes::Fate;
 use std::alloc::Global;
 
-/// Appends the output line of an event.
+/// Appends the output line of an event. On want of memory nothing was appended.
 #[tactic(auto, unfolding(crate::specs::Output::event_line))]
 pub fn add_line(alloc: Global, event: &Event, out: &mut Bytes) -> Result<(), Memory>
-    ensures { OnOk result (out.new.items ≡ out.old.items ++ event_line event.now) }
+    ensures appended { OnOk result (out.new.items ≡ out.old.items ++ event_line event.now) }
+    ensures err { OnErr result (out.new.items ≡ out.old.items) }
 {
+    let mut told = Bytes::new(alloc);
     match event {
-        Event::Line { text, .. } => out.extend_from_slice(text.as_str().as_bytes())?,
-        Event::Bad { cause } => add_fault(alloc, *cause, out)?,
-        Event::CutFront { bytes } => add_count(alloc, b"-- front ", *bytes, out)?,
-        Event::CutTail { bytes } => add_count(alloc, b"-- tail ", *bytes, out)?,
+        Event::Line { text, .. } => return add_ended(text.as_str().as_bytes(), out),
+        Event::Bad { cause } => add_fault(alloc, *cause, &mut told)?,
+        Event::CutFront { bytes } => add_count(alloc, b"-- front ", *bytes, &mut told)?,
+        Event::CutTail { bytes } => add_count(alloc, b"-- tail ", *bytes, &mut told)?,
     }
-    out.push(b'\n')
+    add_ended(told.as_slice(), out)
+}
+
+// Appends a text and a newline. On want of memory nothing was appended.
+fn add_ended(text: &[u8], out: &mut Bytes) -> Result<(), Memory>
+    ensures appended { OnOk result (out.new.items ≡ out.old.items ++ ended text.now) }
+    ensures err { OnErr result (out.new.items ≡ out.old.items) }
+{
+    out.reserve(text.len() + 1)?;
+    out.extend_reserved(text);
+    out.push_reserved(b'\n');
+    Ok(())
 }
 
 fn add_fault(alloc: Global, cause: u8, out: &mut Bytes) -> Result<(), Memory>

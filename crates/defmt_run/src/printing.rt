@@ -1,5 +1,5 @@
 // What `run` prints.
-ghost use Rattle.std.specs.Prelude.{◌≡◌, ◌++◌, IfOk, OnOk, All, flat_map, if◌then◌else◌};
+ghost use Rattle.std.specs.Prelude.{◌≡◌, ◌++◌, IfOk, OnOk, flat_map, if◌then◌else◌};
 ghost use Rattle.defmt_run.specs.Output.{event_line, loss_lines};
 ghost use Rattle.defmt_run.specs.Printed.{ArePlaced, IsPlaced, group_lines, writer_line, writer_lines};
 

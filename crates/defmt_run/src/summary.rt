@@ -1,5 +1,5 @@
 // Counts of the statements of a run.
-ghost use Rattle.std.specs.Prelude.{[], ◌≡◌, ◌≤◌, ◌++◌, ◌==◌, codes, count_by, sum_by, length, IfOk, OnOk};
+ghost use Rattle.std.specs.Prelude.{[], ◌≡◌, ◌≤◌, ◌++◌, ◌==◌, sum_by, length, IfOk, OnOk};
 ghost use Rattle.defmt_run.specs.Printed.{count_line, has_level, is_of_level, level_line, message_size, summary, writer_count_line};
 
 use crate::output::add_count;

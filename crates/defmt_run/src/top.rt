@@ -1,13 +1,11 @@
 // The top call.
-ghost use Rattle.std.specs.Prelude.{◌≡◌, ◌⊎◌, ◌≤◌, ℕ, List, Some, None, Option, Result, map, string_bytes};
+ghost use Rattle.std.specs.Prelude.{◌≡◌, ◌⊎◌, ◌≤◌, ℕ, List, Some, None, Option, map, string_bytes};
 ghost use Rattle.dl_io.specs.Outside.{Rose};
 ghost use Rattle.defmt_words.specs.Words.{job};
 ghost use Rattle.defmt_run.specs.declared.outcome.Fault.{Fault as AnyFault};
 ghost use Rattle.defmt_run.specs.declared.outcome.Fault.TheVariants.{Fine};
 ghost use Rattle.defmt_run.specs.declared.task.Task.{Task as AnyTask};
 ghost use Rattle.defmt_run.specs.Status.{status_of};
-ghost use Rattle.defmt_script.specs.Reads.{Reads};
-ghost use Rattle.defmt_script.specs.Script.{Refusal, Script as Read};
 ghost use Rattle.defmt_run.specs.Decoding.{DecodingComesTo};
 ghost use Rattle.defmt_run.specs.Running.{RunningComesTo};
 ghost use Rattle.defmt_run.specs.Session.{Answers, OrFails};

@@ -1,7 +1,7 @@
 mod LawfulLaws
 mod ReadingLaws
 mod Settled
-mod Stamps
+pub mod Stamps
 mod Steadiness
 mod Steps
 mod Texts

@@ -21,14 +21,15 @@ use Rattle.defmt_grammar.specs.Cut.{behind}
 use Rattle.defmt_hints.specs.Digits.{zero_filled, number_text}
 use Rattle.defmt_hints.specs.Printed.{fraction_text, printed_uint}
 use Rattle.defmt_hints.proofs.DigitsLaws.{length_zero_filled}
-use Rattle.defmt_intern.specs.Body.{body_of, one_body, pieces_of}
+use Rattle.defmt_intern.specs.Body.{body_of, one_body}
+use Rattle.defmt_intern.specs.Pieces.{pieces_of}
 use Rattle.defmt_intern.specs.Table.{Map, StampIs, IsLawful as IsLawfulTable}
 use Rattle.defmt_intern.specs.declared.entry.Entry.{Entry}
 use Rattle.defmt_intern.specs.declared.entry.Tag.{Tag}
 use Rattle.defmt_intern.specs.declared.entry.Tag.TheVariants.{Timestamp}
 use Rattle.defmt_intern.specs.declared.parsed.Parsed.{Parsed}
 use Rattle.defmt_intern.specs.declared.parsed.Parsed.TheVariants.{One}
-use Rattle.defmt_intern.proofs.BodyLaws.{pieces_again}
+use Rattle.defmt_intern.proofs.PieceLaws.{pieces_again}
 use Rattle.defmt_intern.proofs.Stamps.{stamp_is}
 use Rattle.defmt_values.specs.Entries.{look, places_of}
 use Rattle.defmt_values.specs.Fits.{Fits, FitsStamp, FitsVals}
@@ -51,13 +52,13 @@ short_with table (Some p) stm short n = omega (arith, short, stamp_length table 
 
 -- ---- the timestamp's text
 
-abbrev stamp_spelling : List ℕ
+abbrev pub stamp_spelling : List ℕ
 stamp_spelling = codes "{=u64:us}"
 
-abbrev stamp_param : Param
+abbrev pub stamp_param : Param
 stamp_param = record { position = 0; kind = Uint W64; hint = Micros }
 
-abbrev stamp_pieces : List Piece
+abbrev pub stamp_pieces : List Piece
 stamp_pieces = pieces.Param stamp_param ∷ []
 
 spells_param : SpellsParam Lenient 0 (codes "=u64:us") stamp_param 1
@@ -89,7 +90,7 @@ spells_stamp = record {
   no_gap = λ i u there position below. absurd (omega (arith, below, ap (λ w. w.param.position) (sym (alone _ u i there).1)));
 }
 
-stamp_body : (entry : Entry) → entry.tag ≡ Timestamp → entry.text ≡ stamp_spelling → body_of entry ≡ One stamp_pieces
+pub stamp_body : (entry : Entry) → entry.tag ≡ Timestamp → entry.text ≡ stamp_spelling → body_of entry ≡ One stamp_pieces
 stamp_body entry tag text =
     let here : one_body (pieces_of Lenient entry.text) ≡ One stamp_pieces =
     ap (λ (l : List ℕ). one_body (pieces_of Lenient l)) text ∙ ap one_body (pieces_again Lenient stamp_spelling stamp_pieces spells_stamp) in
@@ -101,7 +102,7 @@ fits_places : (t : Map) (n : ℕ) → n < 2 ^ 64 → FitsVals t 16 (places_of st
 unfolding slots_of slot_of kinds_at positions
 fits_places t n small = (record { slot = OneKind (Uint W64); uses = 1 }, [], refl, record { size = W64; slot_is = refl; in_range = small }, refl)
 
-stamp_looks : (t : Map) → IsLawfulTable t → (index : ℕ) (entry : Entry) → map.get t index ≡ Some entry → look t index ≡ Some entry
+pub stamp_looks : (t : Map) → IsLawfulTable t → (index : ℕ) (entry : Entry) → map.get t index ≡ Some entry → look t index ≡ Some entry
 stamp_looks t lawful index entry there = cond-true (nat_lt index 65536) _ _ (lt-ltb index 65536 (lawful.small index entry there)) ∙ there
 
 stamp_fits : (t : Map) → IsLawfulTable t → (index n : ℕ) (entry : Entry) → map.get t index ≡ Some entry → entry.tag ≡ Timestamp → entry.text ≡ stamp_spelling → n < 2 ^ 64

@@ -14,7 +14,7 @@ use Rattle.defmt_intern.specs.Table.{Map, IsStamp, InsertRefused, IsLawful as Is
 use Rattle.defmt_intern.specs.declared.entry.Entry.{Entry}
 use Rattle.defmt_intern.specs.declared.entry.Tag.{Tag}
 use Rattle.defmt_intern.specs.declared.entry.Tag.TheVariants as tags
-use Rattle.defmt_intern.proofs.TableLaws.{apart, here}
+use Rattle.defmt_intern.proofs.TableLaws.{apart, here, nowhere}
 use Rattle.defmt_lines.specs.Form.{next, rank, in_order}
 use Rattle.defmt_lines.specs.Line.{is_string_tag}
 use Rattle.defmt_lines.specs.Settings.{AreLawful, no_settings}
@@ -44,11 +44,6 @@ state first strings statements settings table names writers = record {
 
 -- ---- at the start
 
-pub nothing_there : (index : ℕ) → IsSome (map.get {X = Entry} {R = nat_cmp} map.empty index) → ⊥
-nothing_there index some =
-    let none : is_some (map.get {X = Entry} {R = nat_cmp} map.empty index) ≡ false = ap is_some (get-empty nat_cmp index) in
-    let clash : false ≡ true = sym none ∙ some in absurd (cc clash)
-
 pub no_stamp_there : (index : ℕ) → IsStamp map.empty index → ⊥
 no_stamp_there index h = let none : None ≡ Some h.entry = sym (get-empty nat_cmp index) ∙ h.there in absurd (cc none)
 
@@ -62,7 +57,7 @@ settings_at_first = record {
 
 open_at_first : IsOpen no_lines
 open_at_first = record {
-  within = λ index some. absurd (nothing_there index some);
+  within = λ index some. absurd (nowhere index some);
   no_stamp = no_stamp_there;
   no_writers = refl;
   none = refl;

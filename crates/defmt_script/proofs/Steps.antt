@@ -15,8 +15,9 @@ use Rattle.defmt_grammar.specs.Kind.{at_word}
 use Rattle.defmt_intern.specs.declared.entry.Tag.{Tag}
 use Rattle.defmt_intern.specs.declared.entry.Tag.TheVariants as tags
 use Rattle.defmt_lines.specs.Form.{form_of, in_order, next, rank}
-use Rattle.defmt_lines.specs.Line.{Line, blank, ring, mode, reader, stamp, entry, statement, other, by_form, entry_of, field_and_rest, is_blank, is_name, is_string_tag, line_of, line_of_known, line_of_text, one_field, or_all, statement_of, tag_of, two_fields, worded}
+use Rattle.defmt_lines.specs.Line.{Line, blank, ring, mode, reader, stamp, entry, statement, other, by_form, entry_of, field_and_rest, is_blank, is_string_tag, line_of, line_of_known, line_of_text, one_field, or_all, statement_of, tag_of, two_fields, worded}
 use Rattle.defmt_lines.specs.Number.{is_digits, within, writer_of}
+use Rattle.defmt_shapes.specs.Shape.{is_name}
 use Rattle.defmt_lines.specs.Settings.{with_ring, with_mode, with_reader, with_stamp}
 use Rattle.defmt_lines.specs.Verdict.{Judges}
 use Rattle.defmt_lines.specs.declared.cause.Cause.{Cause}

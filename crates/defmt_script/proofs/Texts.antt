@@ -7,6 +7,7 @@ use Rattle.std.specs.List.{onto_first, slice_split}
 use Rattle.std.specs.Str.Lines.{lines, lines_of_parts}
 use Rattle.std.proofs.lemmas.Fmt.{length-decimal-le}
 use Rattle.std.proofs.lemmas.List.{length-take}
+use Rattle.defmt_intern.proofs.TableLaws.{nowhere}
 use Rattle.defmt_intern.specs.Table.{Map}
 use Rattle.defmt_intern.specs.declared.entry.Entry.{Entry}
 use Rattle.defmt_intern.specs.declared.entry.Tag.{Tag}
@@ -16,7 +17,7 @@ use Rattle.defmt_lines.specs.Line.{is_string_tag}
 use Rattle.defmt_lines.specs.declared.form.Form.{Form}
 use Rattle.defmt_lines.specs.declared.form.Form.TheVariants as forms
 use Rattle.defmt_lines.specs.declared.settings.Settings.{Settings}
-use Rattle.defmt_script.proofs.Steadiness.{in_order_le, low_when, nothing_there, some_or_before}
+use Rattle.defmt_script.proofs.Steadiness.{in_order_le, low_when, some_or_before}
 use Rattle.defmt_script.proofs.Steps.{Ends, IsString, Keeps, reads_kept, set_to, total}
 use Rattle.defmt_script.specs.Reads.{Reads, with_string}
 use Rattle.defmt_script.specs.Script.{Script}
@@ -136,7 +137,7 @@ module _ (count : Map → ℕ) (counts : CountsTexts count) where
   begins_within : IsWithin count no_lines 0
   begins_within = record {
     few = lit≤ tt;
-    free = λ _ index some. absurd (nothing_there index some);
+    free = λ _ index some. absurd (nowhere index some);
     opened = λ _. omega (arith, counts.empty);
     whole = omega (arith, counts.empty);
   }

@@ -9,7 +9,7 @@ use Rattle.defmt_intern.specs.declared.entry.Entry.{Entry}
 use Rattle.defmt_intern.specs.declared.entry.Tag.{Tag}
 use Rattle.defmt_lines.specs.Cause.{cause_number, inner_number}
 use Rattle.defmt_lines.specs.Form.{in_order, next}
-use Rattle.defmt_lines.specs.Line.{Line, blank, ring, mode, reader, stamp, entry, statement, other, is_name, line_of}
+use Rattle.defmt_lines.specs.Line.{Line, blank, ring, mode, reader, stamp, entry, statement, other, line_of}
 use Rattle.defmt_lines.specs.Settings.{with_ring, with_mode, with_reader, with_stamp}
 use Rattle.defmt_lines.specs.Verdict.{Judges}
 use Rattle.defmt_lines.specs.declared.cause.Cause.{Cause}
@@ -20,6 +20,7 @@ use Rattle.defmt_lines.specs.declared.settings.Settings.{Settings}
 use Rattle.defmt_script.specs.Lawful.{first_message, message_limit, statements_limit}
 use Rattle.defmt_script.specs.Script.{Script, Refusal, add_statement}
 use Rattle.defmt_script.specs.State.{State, closed, entry_at, no_lines, strings_limit}
+use Rattle.defmt_shapes.specs.Shape.{is_name}
 use Rattle.defmt_spelling.specs.Spelling.{ReadsArguments}
 use Rattle.defmt_values.specs.Entries.{look, is_logged}
 use Rattle.defmt_values.specs.Plain.{Vals}

@@ -23,7 +23,8 @@ use crate::fault::LineFault;
 use crate::script::{Script, Statements};
 use defmt_grammar::Text;
 use defmt_intern::{Entry, Table, TableFault, Tag};
-use defmt_lines::{Cause, EntryLine, Form, Line, Settings, StatementLine, is_name, judge};
+use defmt_lines::{Cause, EntryLine, Form, Line, Settings, StatementLine, judge};
+use defmt_shapes::is_name;
 use defmt_spelling::{ArgFault, Names, read_args};
 use defmt_values::{Args, Statement, is_logged};
 use dl_io::Memory;
@@ -243,7 +244,7 @@ impl Reading {
         if !Form::Entry.is_in_order(self.first) {
             return Err(Cause::Line);
         }
-        if !is_name(name.as_bytes()) {
+        if !is_name(name) {
             return Err(Cause::Name);
         }
         if self.names.get(name).is_some() {

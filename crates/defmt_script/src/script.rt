@@ -1,10 +1,9 @@
 //! Scripts.
 
-ghost use Rattle.std.specs.Prelude.{◌≡◌, ◌++◌, ◌∷◌, ◌<◌, ◌≤◌, [], length, slice_get, slice_index_or, OnOk, OnErr, IfSome};
+ghost use Rattle.std.specs.Prelude.{◌≡◌, ◌++◌, ◌∷◌, ◌<◌, [], length, slice_get, slice_index_or, OnOk, OnErr};
 ghost use Rattle.std.specs.Option.{option_copied};
 ghost use Rattle.defmt_intern.specs.declared.table.Profile.TheVariants.{One};
 ghost use Rattle.defmt_script.specs.Lawful.{IsLawful};
-ghost use Rattle.defmt_script.specs.State.{no_statements};
 
 use defmt_intern::{Profile, Table};
 use defmt_lines::{RingMode, Settings};

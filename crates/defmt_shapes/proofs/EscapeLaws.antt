@@ -76,7 +76,7 @@ escape_again front rest c (inr e) = (
   number_again e.digits rest c e.number e.few e.scalar,
 )
 
-guarded : {A : Type 0} (b : Bool) (o : Option A) (x : A) → cond b o None ≡ Some x → (b ≡ true) × (o ≡ Some x)
+pub guarded : {A : Type 0} (b : Bool) (o : Option A) (x : A) → cond b o None ≡ Some x → (b ≡ true) × (o ≡ Some x)
 guarded true o x h = (refl, h)
 guarded false o x h = absurd (none-some x h)
 

@@ -8,14 +8,15 @@ use Rattle.std.proofs.lemmas.Str.Parse.{digit_from_value}
 use Rattle.defmt_grammar.specs.Cut.{behind, strip}
 use Rattle.defmt_grammar.proofs.Cuts.{behind_again}
 use Rattle.defmt_shapes.specs.declared.parts.Class.TheVariants.{Decimal, Hexadecimal, Word}
-use Rattle.defmt_shapes.specs.Shape.{Shape, Shapes, Items, IsNumber, IsVariant, IsName, flag_word, SpellsBytes, SpellsCharacter, SpellsQuoted, IsCallMark, SpellsShape, SpellsShapes, SpellsItems, StartsThere}
+use Rattle.defmt_shapes.specs.Shape.{Shape, IsNumber, IsVariant, IsName, flag_word, SpellsBytes, SpellsCharacter, IsCallMark, SpellsShape}
 use Rattle.defmt_shapes.specs.Shape as shapes
 use Rattle.defmt_shapes.specs.Runs.{in_class, run}
 use Rattle.defmt_shapes.specs.Escapes.{IsCharacter, IsQuotedEnd}
 use Rattle.defmt_shapes.specs.Leads.{Lead, decimal, hexadecimal, negative, flag, character, quoted, interned, bytes, empty, call, sequence, some_digits, decimal_lead, hexadecimal_lead, negative_lead, interned_lead, bytes_lead, variant_lead, flag_lead, named_lead, word_lead, plain_lead, marked_lead, quoted_lead, character_lead, IsCharacterLead, IsQuotedLead, IsLead, IsMark, Leads}
+use Rattle.defmt_shapes.proofs.NameLaws.{name_parts}
 use Rattle.defmt_shapes.proofs.RunLaws.{FailsThere, run_again, digits_pass}
 use Rattle.defmt_shapes.proofs.EscapeLaws.{behind_other, character_again, reads}
-use Rattle.defmt_shapes.proofs.LeadForms.{StopsThere, stops_behind, stops_class, letter_range, letter_no_digit, name_words, name_again, variant_again, bytes_pass, pairs_again}
+use Rattle.defmt_shapes.proofs.LeadForms.{StopsThere, stops_behind, stops_class, letter_range, letter_no_digit, name_words, variant_again, bytes_pass, pairs_again}
 
 abbrev pub begins : Lead → List ℕ → Option (Lead × List ℕ)
 begins lead after = Some (lead, after)
@@ -123,7 +124,7 @@ marked_interned more = refl
 
 interned_again : (name rest : List ℕ) → IsName name → StopsThere rest → interned_lead (name ++ rest) ≡ begins (interned name) rest
 unfolding interned_lead
-interned_again name rest h stops = rw (run_again (in_class Word) name rest (name_words name h) (stops_class Word rest stops)) (rw (name_again name h) refl)
+interned_again name rest h stops = rw (run_again (in_class Word) name rest (name_words name h) (stops_class Word rest stops)) (rw h refl)
 
 pub interned_leads : (name rest : List ℕ) → IsName name → StopsThere rest → IsLead (64 ∷ (name ++ rest)) (begins (interned name) rest)
 interned_leads name rest h stops =
@@ -163,14 +164,15 @@ letter_plain c cs h = let r = letter_range c h in rw (ne_eqb c 48 (λ e. omega (
 
 word_again : (name rest : List ℕ) → IsName name → FailsThere (in_class Word) rest → word_lead (name ++ rest) ≡ named_lead name rest
 unfolding word_lead
-word_again name rest h fails = rw (run_again (in_class Word) name rest (name_words name h) fails) (rw (name_again name h) refl)
+word_again name rest h fails = rw (run_again (in_class Word) name rest (name_words name h) fails) (rw h refl)
 
 named_leads : (name rest : List ℕ) (o : Option (Lead × List ℕ)) → IsName name → FailsThere (in_class Word) rest → named_lead name rest ≡ o → IsLead (name ++ rest) o
 named_leads name rest o h fails e =
-    let whole : h.first ∷ (h.more ++ rest) ≡ name ++ rest = ap (λ (t : List ℕ). t ++ rest) (sym h.name_is) in
+    let n = name_parts name h in
+    let whole : n.first ∷ (n.more ++ rest) ≡ name ++ rest = ap (λ (t : List ℕ). t ++ rest) (sym n.name_is) in
     subst (λ (t : List ℕ). IsLead t o) whole
-    (as_plain h.first (h.more ++ rest) o (letter_start h.first h.letter)
-    (letter_plain h.first (h.more ++ rest) h.letter ∙ ap word_lead whole ∙ word_again name rest h fails ∙ e))
+    (as_plain n.first (n.more ++ rest) o (letter_start n.first n.letter)
+    (letter_plain n.first (n.more ++ rest) n.letter ∙ ap word_lead whole ∙ word_again name rest h fails ∙ e))
 
 named_flag : (b : Bool) (rest : List ℕ) → StopsThere rest → named_lead (flag_word b) rest ≡ begins (flag b) rest
 unfolding named_lead flag_lead
@@ -178,8 +180,8 @@ named_flag true rest stops = rw (stops_behind 40 rest (λ e. omega arith) (λ e.
 named_flag false rest stops = rw (stops_behind 40 rest (λ e. omega arith) (λ e. omega arith) stops, stops_behind 58 rest (λ e. omega arith) (λ e. omega arith) stops, stops_behind 91 rest (λ e. omega arith) (λ e. omega arith) stops) refl
 
 flag_name : (b : Bool) → IsName (flag_word b)
-flag_name true = record { first = 116; more = codes "rue"; name_is = refl; letter = refl; words = refl; few = omega arith }
-flag_name false = record { first = 102; more = codes "alse"; name_is = refl; letter = refl; words = refl; few = omega arith }
+flag_name true = refl
+flag_name false = refl
 
 pub flag_leads : (b : Bool) (rest : List ℕ) → StopsThere rest → IsLead (flag_word b ++ rest) (begins (flag b) rest)
 flag_leads b rest stops = named_leads (flag_word b) rest (begins (flag b) rest) (flag_name b) (stops_class Word rest stops) (named_flag b rest stops)

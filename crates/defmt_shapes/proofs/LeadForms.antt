@@ -3,7 +3,7 @@ use Rattle.std.proofs.Common.{◌≡◌, ◌≢◌, ◌<◌, ◌≤◌, ◌+◌,
 use Rattle.std.specs.Char.{digit_value, is_ascii_alphabetic, is_ascii_alphanumeric}
 use Rattle.std.specs.List.{list_all}
 use Rattle.std.specs.Str.Parse.{AllDigits}
-use Rattle.std.proofs.lemmas.Bool.{and_parts, or_cases, ltb-true, leb-true, lt-ltb, le-leb, ne_eqb, both_ways, false_from_ne_true, or_left, not-true}
+use Rattle.std.proofs.lemmas.Bool.{and_parts, or_cases, ltb-true, leb-true, lt-ltb, ne_eqb, both_ways, false_from_ne_true, or_left, not-true}
 use Rattle.std.proofs.lemmas.Str.Parse.{digit_from_value}
 use Rattle.defmt_grammar.specs.Cut.{behind}
 use Rattle.defmt_grammar.specs.Param.{HasLeadingZero, has_leading_zero}
@@ -11,7 +11,8 @@ use Rattle.defmt_grammar.proofs.Cuts.{behind_again, behind_found}
 use Rattle.defmt_shapes.specs.declared.parts.Class.{Class}
 use Rattle.defmt_shapes.specs.declared.parts.Class.TheVariants.{Decimal, Hexadecimal, Word}
 use Rattle.defmt_shapes.specs.Shape.{IsVariant, IsName, is_word, SpellsBytes}
-use Rattle.defmt_shapes.specs.Runs.{in_class, is_name, is_variant}
+use Rattle.defmt_shapes.specs.Runs.{in_class, is_variant}
+use Rattle.defmt_shapes.proofs.NameLaws.{NameParts, name_parts}
 use Rattle.defmt_shapes.proofs.RunLaws.{FailsThere}
 
 -- what follows a value inside brackets or outside
@@ -56,20 +57,11 @@ letter_word c h = or_left (is_ascii_alphanumeric c) (eqb c 95) (letter_word_at (
 
 -- ---- names and variants
 
+words_of : (name : List ℕ) → NameParts name → list_all (in_class Word) name ≡ true
+words_of name n = rw n.name_is (rw (letter_word n.first n.letter, n.words) refl)
+
 pub name_words : (name : List ℕ) → IsName name → list_all (in_class Word) name ≡ true
-name_words name h = rw h.name_is (rw (letter_word h.first h.letter, h.words) refl)
-
-pub name_again : (name : List ℕ) → IsName name → is_name name ≡ true
-unfolding is_name
-name_again name h = rw h.name_is (rw (h.letter, le-leb (suc (length h.more)) 32 (omega (arith, h.few))) refl)
-
-pub name_found : (name : List ℕ) → list_all (in_class Word) name ≡ true → is_name name ≡ true → IsName name
-unfolding is_name
-name_found [] w h = absurd (both_ways false refl h)
-name_found (c ∷ cs) w h =
-    let p = and_parts (is_ascii_alphabetic c) (leb (suc (length cs)) 32) h in
-    let q = and_parts (is_word c) (list_all is_word cs) w in
-    record { first = c; more = cs; name_is = refl; letter = p.0; words = q.1; few = let k = leb-true (suc (length cs)) 32 p.1 in omega arith }
+name_words name h = words_of name (name_parts name h)
 
 zero_at : (digits : List ℕ) (o : Option (List ℕ)) → behind 48 digits ≡ o → (HasLeadingZero digits → ⊥) → (ltb 1 (length digits) && is_some o) ≡ false
 zero_at digits None e h = grind arith

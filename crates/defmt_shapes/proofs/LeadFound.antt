@@ -7,14 +7,14 @@ use Rattle.std.proofs.lemmas.Slice.Eq.{bytes_eq-Decides}
 use Rattle.defmt_grammar.specs.Cut.{behind, strip}
 use Rattle.defmt_grammar.proofs.Cuts.{behind_found, strip_found}
 use Rattle.defmt_shapes.specs.declared.parts.Class.TheVariants.{Decimal, Hexadecimal, Word}
-use Rattle.defmt_shapes.specs.Shape.{Shape, IsNumber, IsVariant, IsName, flag_word, SpellsBytes, IsCallMark, SpellsShape}
+use Rattle.defmt_shapes.specs.Shape.{Shape, IsNumber, IsVariant, IsName, is_name, flag_word, IsCallMark, SpellsShape}
 use Rattle.defmt_shapes.specs.Shape as shapes
-use Rattle.defmt_shapes.specs.Runs.{in_class, run, either, is_name, is_variant}
+use Rattle.defmt_shapes.specs.Runs.{in_class, run, either, is_variant}
 use Rattle.defmt_shapes.specs.Escapes.{IsCharacter, IsQuotedEnd}
 use Rattle.defmt_shapes.specs.Leads.{Lead, decimal, hexadecimal, negative, flag, character, quoted, interned, bytes, empty, call, sequence, some_digits, decimal_lead, hexadecimal_lead, negative_lead, interned_lead, bytes_lead, variant_lead, flag_lead, named_lead, word_lead, or_word, plain_lead, marked_lead, quoted_lead, character_lead, IsCharacterLead, IsQuotedLead, IsLead, IsMark, Leads, IsWhole}
 use Rattle.defmt_shapes.proofs.RunLaws.{run_found, pass_digits}
-use Rattle.defmt_shapes.proofs.EscapeLaws.{either_found, character_found, character_one, quoted_one}
-use Rattle.defmt_shapes.proofs.LeadForms.{name_found, variant_found, pairs_found}
+use Rattle.defmt_shapes.proofs.EscapeLaws.{either_found, guarded, character_found, character_one, quoted_one}
+use Rattle.defmt_shapes.proofs.LeadForms.{variant_found, pairs_found}
 
 -- a value that is read whole
 abbrev pub FoundWhole : List ℕ → Lead → List ℕ → Type 0
@@ -104,7 +104,7 @@ interned_found text more p e h =
     let d = run (in_class Word) more in
     let r = run_found (in_class Word) more in
     let k = cond_some (is_name d.0) (interned d.0, d.1) p h in
-    subst (Finds text) k.1 (64 ∷ d.0, shapes.interned d.0, (name_found d.0 r.passes k.0, refl), e ∙ ap (λ (t : List ℕ). 64 ∷ t) r.text_is, (refl, refl))
+    subst (Finds text) k.1 (64 ∷ d.0, shapes.interned d.0, (k.0, refl), e ∙ ap (λ (t : List ℕ). 64 ∷ t) r.text_is, (refl, refl))
 
 halves : (n : ℕ) → n % 2 ≡ 0 → n ≡ 2 * (n / 2)
 halves n h = omega arith
@@ -117,10 +117,6 @@ bytes_found text more p e h =
     let k = cond_some (eqb (length d.0 % 2) 0) (bytes d.0, d.1) p h in
     let b = pairs_found (length d.0 / 2) d.0 (halves (length d.0) (eqb-true (length d.0 % 2) 0 k.0)) (pass_digits 16 d.0 r.passes) in
     subst (Finds text) k.1 (35 ∷ d.0, shapes.bytes b.0, (d.0, b.1, refl), e ∙ ap (λ (t : List ℕ). 35 ∷ t) r.text_is, (b.0, refl, b.1, refl))
-
-guarded : {A : Type 0} (b : Bool) (o : Option A) (x : A) → cond b o None ≡ Some x → (b ≡ true) × (o ≡ Some x)
-guarded true o x h = (refl, h)
-guarded false o x h = absurd (none-some x h)
 
 variant_leads_found : (text name more : List ℕ) (p : Lead × List ℕ) → IsName name → text ≡ name ++ 58 ∷ more → variant_lead name more ≡ Some p → Finds text p
 unfolding variant_lead
@@ -176,7 +172,7 @@ word_found text p h =
     let d = run (in_class Word) text in
     let r = run_found (in_class Word) text in
     let g = guarded (is_name d.0) (named_lead d.0 d.1) p h in
-    named_found text d.0 d.1 p (name_found d.0 r.passes g.0) r.text_is g.1
+    named_found text d.0 d.1 p g.0 r.text_is g.1
 
 or_word_found : (text : List ℕ) (o : Option (Lead × List ℕ)) (p : Lead × List ℕ) → decimal_lead text ≡ o → or_word text o ≡ Some p → Finds text p
 or_word_found text None p e h = word_found text p h

@@ -1,5 +1,5 @@
 -- What stands between brackets: where the text is enclosed, each step goes on to its end.
-use Rattle.std.proofs.Common.{◌≡◌, ◌≢◌, ◌<◌, ◌-◌, ◌+◌, ℕ, List, [], ◌∷◌, ◌++◌, length, get_or, take, refl, sym, ap, subst, ◌∙◌, arith, Option, Some, None, inl, inr, append_assoc, length-append, reverse}
+use Rattle.std.proofs.Common.{◌≡◌, ◌≢◌, ◌<◌, ◌-◌, ◌+◌, ℕ, List, [], ◌∷◌, ◌++◌, length, get_or, take, refl, sym, ap, subst, ◌∙◌, arith, Option, Some, None, append_assoc, length-append, reverse}
 use Rattle.std.specs.Str.{IsCharBoundary}
 use Rattle.std.proofs.lemmas.List.{take_at, reverse-append}
 use Rattle.std.proofs.lemmas.Option.{same_Some, none-some}
@@ -17,11 +17,11 @@ use Rattle.defmt_shapes.specs.Leads.{Lead, IsLead, item_of, Leads}
 use Rattle.defmt_shapes.specs.Leads as leads
 use Rattle.defmt_shapes.specs.Scan.{closing, MayStand, Encloses, IsEnclosed, step_of_lead, lead_step, after_step, item_step, IsValueStep, IsStep, Awaits, Leaves, LeavesAt, InBrackets}
 use Rattle.defmt_shapes.proofs.EscapeLaws.{behind_other}
-use Rattle.defmt_shapes.proofs.LeadForms.{StopsThere}
 use Rattle.defmt_shapes.proofs.LeadAgain.{begins, begins_with}
 use Rattle.defmt_shapes.proofs.LeadFound.{lead_one}
 use Rattle.defmt_shapes.proofs.ShapeLaws.{value_starts, skip_more, shapes_skip, skip_one, mark_starts, starts_skip}
 use Rattle.defmt_shapes.proofs.ScanLaws.{goes_on, item_again, step_sound}
+use Rattle.defmt_shapes.proofs.OneLaws.{stops_inside}
 
 abbrev pub LeavesNext : Bracket → List Bracket → Step → List ℕ → List ℕ → Type 0
 LeavesNext b bs Begin rest end = LeavesAt b bs Before rest end
@@ -76,10 +76,6 @@ has_spaced bs inside t after rest end ss o h i e l s =
     has_space Round bs inside t after rest end o i e (ss, k) l s
 
 -- ---- a value
-
-stops_inside : (more after : List ℕ) → EndsThere more → StopsThere (more ++ 41 ∷ after)
-stops_inside [] after h = inr refl
-stops_inside (c ∷ cs) after h = inl h
 
 after_none : (text more : List ℕ) (c : ℕ) → text ≡ c ∷ more → c ≢ 32 → c ≢ 41 → after_step Round text ≡ None
 after_none text more c e n m = ap (after_step Round) e ∙ rw (behind_other 41 c more m, behind_other 32 c more n) refl

@@ -1,5 +1,6 @@
 pub mod RunLaws
 pub mod NumberLaws
+pub mod NameLaws
 pub mod EscapeLaws
 pub mod LeadForms
 pub mod LeadAgain

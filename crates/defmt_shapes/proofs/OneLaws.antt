@@ -4,7 +4,7 @@ use Rattle.std.proofs.lemmas.Option.{same_Some, none-some}
 use Rattle.std.specs.Char.{digit_value}
 use Rattle.defmt_grammar.specs.Cut.{AreSpaces, behind, skip_spaces}
 use Rattle.defmt_grammar.proofs.Cuts.{skip_again}
-use Rattle.defmt_shapes.specs.Shape.{Shape, Shapes, Items, no_shapes, shape, no_items, item, IsVariant, SpellsBytes, SpellsQuoted, IsItemMark, SpellsShape, SpellsShapes, SpellsItems, EndsThere, StartsThere, HeadShape}
+use Rattle.defmt_shapes.specs.Shape.{Shape, Shapes, Items, no_shapes, shape, no_items, item, SpellsBytes, SpellsQuoted, SpellsShape, SpellsShapes, SpellsItems, EndsThere, HeadShape}
 use Rattle.defmt_shapes.specs.Shape as shapes
 use Rattle.defmt_shapes.specs.Runs.{run}
 use Rattle.defmt_shapes.specs.Leads.{Lead, IsLead, item_of, IsMark, Leads, IsWhole}
@@ -179,9 +179,9 @@ two_sequences name items t rest tail h =
     let r : Leads (leads.sequence name) h.after tail t = subst (λ (l : Lead). Leads l h.after tail t) c.lead_is h.right in
     record { others = r.0; t_is = sym r.2; inside = c.inside; within = r.1; left = c.spelled; right = r.4; same = sym c.after_is ∙ r.5 }
 
-stops : (more after : List ℕ) → EndsThere more → StopsThere (more ++ 41 ∷ after)
-stops [] after h = inr refl
-stops (c ∷ cs) after h = inl h
+pub stops_inside : (more after : List ℕ) → EndsThere more → StopsThere (more ++ 41 ∷ after)
+stops_inside [] after h = inr refl
+stops_inside (c ∷ cs) after h = inl h
 
 -- values up to their `)`
 pub record TwoFirsts (s : Shape) (ss : Shapes) (t : Shape) (tt' : Shapes) (rest tail : List ℕ) : Type 0 where
@@ -334,7 +334,7 @@ mutual
   shapes_one (shape s ss) no_shapes inside rest fore tail h k e = absurd (no_value s ss inside rest fore tail k h e)
   shapes_one (shape s ss) (shape t tt') inside rest fore tail h k e =
       let x = two_firsts s ss t tt' inside rest fore tail h k e in
-      let y = shape_one s t x.front (x.more ++ 41 ∷ rest) x.fore (x.others ++ 41 ∷ tail) x.left (stops x.more rest x.left_ends) x.right (stops x.others tail x.right_ends) x.same in
+      let y = shape_one s t x.front (x.more ++ 41 ∷ rest) x.fore (x.others ++ 41 ∷ tail) x.left (stops_inside x.more rest x.left_ends) x.right (stops_inside x.others tail x.right_ends) x.same in
       let z = shapes_one ss tt' x.more rest x.others tail x.left_more x.right_more y.1 in
       (ap (λ (u : Shape). shape u ss) y.0 ∙ ap (λ (u : Shapes). shape t u) z.0, z.1)
 

@@ -14,10 +14,10 @@ use Rattle.defmt_shapes.specs.declared.scan.Place.{Place}
 use Rattle.defmt_shapes.specs.declared.scan.Place.TheVariants.{Before, After}
 use Rattle.defmt_shapes.specs.declared.scan.Step.{Step}
 use Rattle.defmt_shapes.specs.declared.scan.Step.TheVariants.{Begin, End, Open, Close}
-use Rattle.defmt_shapes.specs.Shape.{Shape, Shapes, Items, no_shapes, shape, no_items, item, IsVariant, IsItemMark, SpellsShape, SpellsShapes, SpellsItems, EndsThere, StartsThere}
+use Rattle.defmt_shapes.specs.Shape.{Shape, no_shapes, shape, no_items, item, IsVariant, IsItemMark, SpellsShape}
 use Rattle.defmt_shapes.specs.Shape as shapes
 use Rattle.defmt_shapes.specs.Runs.{in_class, run, either}
-use Rattle.defmt_shapes.specs.Leads.{Lead, call, sequence, IsLead, mark_of, item_in, item_of, view_whole, IsMark, Leads, IsWhole}
+use Rattle.defmt_shapes.specs.Leads.{Lead, call, sequence, IsLead, mark_of, item_of, view_whole, IsMark}
 use Rattle.defmt_shapes.specs.Leads as leads
 use Rattle.defmt_shapes.specs.Scan.{closing, MayStand, step_of_lead, lead_step, after_step, IsValueStep, IsStep, Ends, Awaits}
 use Rattle.defmt_shapes.proofs.RunLaws.{run_found, run_again, digits_pass, pass_digits}

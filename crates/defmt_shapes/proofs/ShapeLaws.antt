@@ -6,6 +6,7 @@ use Rattle.defmt_grammar.specs.Cut.{AreSpaces, skip_spaces}
 use Rattle.defmt_grammar.proofs.Cuts.{skip_again, skip_found}
 use Rattle.defmt_shapes.specs.Shape.{Shape, Shapes, Items, no_shapes, shape, no_items, item, decimal, hexadecimal, negative, flag, character, quoted, interned, bytes, call, empty, sequence, IsNumber, IsName, SpellsShape, SpellsShapes, SpellsItems, StartsThere, IsItemMark, HeadShape}
 use Rattle.defmt_shapes.proofs.LeadForms.{letter_range}
+use Rattle.defmt_shapes.proofs.NameLaws.{name_parts}
 
 -- ---- spaces
 
@@ -61,8 +62,9 @@ starts_with text more c e n m = record { first = c; more = more; text_is = e; no
 
 name_starts : (text name more : List ℕ) → IsName name → text ≡ name ++ more → StartsValue text
 name_starts text name more h e =
-    let r = letter_range h.first h.letter in
-    starts_with text (h.more ++ more) h.first (e ∙ ap (λ (t : List ℕ). t ++ more) h.name_is) (λ k. omega (arith, r.0)) (λ k. omega (arith, r.0))
+    let n = name_parts name h in
+    let r = letter_range n.first n.letter in
+    starts_with text (n.more ++ more) n.first (e ∙ ap (λ (t : List ℕ). t ++ more) n.name_is) (λ k. omega (arith, r.0)) (λ k. omega (arith, r.0))
 
 digits_start : (text : List ℕ) (n : ℕ) → IsNumber 10 text n → StartsValue text
 digits_start [] n h = absurd (omega (arith, h.some))

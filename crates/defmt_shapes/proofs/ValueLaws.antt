@@ -7,7 +7,7 @@ use Rattle.defmt_grammar.proofs.Cuts.{behind_again, behind_found}
 use Rattle.defmt_shapes.specs.declared.head.Whole.{Whole}
 use Rattle.defmt_shapes.specs.declared.head.Whole.TheVariants as wholes
 use Rattle.defmt_shapes.specs.declared.scan.Bracket.TheVariants.{Round, Square}
-use Rattle.defmt_shapes.specs.Shape.{Shape, Shapes, Items, SpellsShapes, SpellsItems, StartsThere, EndsThere, HeadShape, IsItemMark}
+use Rattle.defmt_shapes.specs.Shape.{Shape, Shapes, Items, SpellsShapes, SpellsItems, StartsThere, EndsThere, HeadShape}
 use Rattle.defmt_shapes.specs.Shape as shapes
 use Rattle.defmt_shapes.specs.Leads.{Lead, call, sequence, IsLead, view_whole, item_of, IsMark, Leads, IsWhole}
 use Rattle.defmt_shapes.specs.Scan.{Encloses, IsEnclosed}

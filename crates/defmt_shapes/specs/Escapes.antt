@@ -64,9 +64,6 @@ abbrev pub IsQuotedEnd : List ℕ → Option (List ℕ × List ℕ) → Type 0
 IsQuotedEnd text None = (inside rest : List ℕ) → ClosesQuote text inside rest → ⊥
 IsQuotedEnd text (Some p) = ClosesQuote text p.0 p.1
 
-abbrev pub parts_of : Option (Bor (List ℕ) × Bor (List ℕ)) → Option (List ℕ × List ℕ)
-parts_of o = option_map (λ p. (p.0.now, p.1.now)) o
-
 -- how far a reader of a text in quotes has come: what closes the rest closes the text, and back
 pub record InQuotes (text rest : List ℕ) : Type 0 where
   pub sound : (inside after : List ℕ) → ClosesQuote rest inside after → (front : List ℕ) × ClosesQuote text front after

@@ -9,9 +9,9 @@ use Rattle.defmt_shapes.specs.declared.head.Head.{Head}
 use Rattle.defmt_shapes.specs.declared.head.Head.TheVariants as heads
 use Rattle.defmt_shapes.specs.declared.head.Whole.{Whole}
 use Rattle.defmt_shapes.specs.declared.head.Whole.TheVariants as wholes
-use Rattle.defmt_shapes.specs.Runs.{in_class, run, either, is_name, is_variant}
+use Rattle.defmt_shapes.specs.Runs.{in_class, run, either, is_variant}
 use Rattle.defmt_shapes.specs.Escapes.{IsCharacter, IsQuotedEnd}
-use Rattle.defmt_shapes.specs.Shape.{Shape, Shapes, Items, IsNumber, IsVariant, SpellsBytes, SpellsQuoted, SpellsShapes, SpellsItems, StartsThere}
+use Rattle.defmt_shapes.specs.Shape.{Shape, Shapes, Items, IsNumber, IsVariant, is_name, SpellsBytes, SpellsQuoted, SpellsShapes, SpellsItems, StartsThere}
 use Rattle.defmt_shapes.specs.Shape as shapes
 
 -- a value without values inside, with its digits, its name or what stands in its quotes, or the front

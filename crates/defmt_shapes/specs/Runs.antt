@@ -1,6 +1,6 @@
 -- Parts of a text, as functions on lists.
-use Rattle.std.specs.Prelude.{ℕ, Bool, nat_lt, nat_le, ◌&&◌, not, false, List, [], ◌∷◌, length, Option, Some, None, if◌then◌else◌}
-use Rattle.std.specs.Char.{digit_value, is_ascii_alphabetic}
+use Rattle.std.specs.Prelude.{ℕ, Bool, nat_lt, ◌&&◌, not, List, [], ◌∷◌, length, Option, Some, None, if◌then◌else◌}
+use Rattle.std.specs.Char.{digit_value}
 use Rattle.defmt_grammar.specs.Param.{has_leading_zero}
 use Rattle.defmt_shapes.specs.declared.parts.Class.{Class}
 use Rattle.defmt_shapes.specs.declared.parts.Class.TheVariants.{Decimal, Hexadecimal, Word}
@@ -25,14 +25,6 @@ either (Some rest) f other = f rest
 unfoldable pub first_ascii : List ℕ → Option (ℕ × List ℕ)
 first_ascii [] = None
 first_ascii (c ∷ cs) = if nat_lt c 128 then Some (c, cs) else None
-
-abbrev pub starts_with_letter : List ℕ → Bool
-starts_with_letter [] = false
-starts_with_letter (c ∷ cs) = is_ascii_alphabetic c
-
--- whether letters, digits and `_` are a name
-unfoldable pub is_name : List ℕ → Bool
-is_name text = starts_with_letter text && nat_le (length text) 32
 
 -- whether decimal digits are a variant's number
 unfoldable pub is_variant : List ℕ → Bool

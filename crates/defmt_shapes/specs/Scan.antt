@@ -2,7 +2,7 @@
 use Rattle.std.specs.Prelude.{◌≡◌, ℕ, List, [], ◌∷◌, ◌++◌, Option, Some, None, Result, Ok, Err, option_map}
 use Rattle.std.specs.Borrow.{Bor}
 use Rattle.dl_io.specs.declared.fault.Memory.{Memory}
-use Rattle.defmt_grammar.specs.Cut.{behind, skip_spaces}
+use Rattle.defmt_grammar.specs.Cut.{behind, parts_of, skip_spaces}
 use Rattle.defmt_shapes.specs.declared.scan.Bracket.{Bracket}
 use Rattle.defmt_shapes.specs.declared.scan.Bracket.TheVariants.{Round, Square}
 use Rattle.defmt_shapes.specs.declared.scan.Place.{Place}
@@ -11,8 +11,7 @@ use Rattle.defmt_shapes.specs.declared.scan.Step.{Step}
 use Rattle.defmt_shapes.specs.declared.scan.Step.TheVariants.{Begin, End, Open, Close}
 use Rattle.defmt_shapes.specs.Shape.{Shapes, Items, SpellsShapes, SpellsItems, EndsThere, StartsThere}
 use Rattle.defmt_shapes.specs.Runs.{either}
-use Rattle.defmt_shapes.specs.Escapes.{parts_of}
-use Rattle.defmt_shapes.specs.Leads.{Lead, call, sequence, IsLead, item_of}
+use Rattle.defmt_shapes.specs.Leads.{Lead, IsLead, item_of}
 use Rattle.defmt_shapes.specs.Leads as leads
 
 -- ---- what may stand between brackets

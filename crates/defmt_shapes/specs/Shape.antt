@@ -1,7 +1,7 @@
 -- What the texts of arguments spell, without any table. A text is the list of its bytes in UTF-8.
 -- Each character with a meaning of its own is ASCII, so it is one byte, and no byte of another
 -- character is below 128.
-use Rattle.std.specs.Prelude.{◌≡◌, ◌≢◌, ◌⊎◌, ◌<◌, ◌≤◌, ◌+◌, ◌*◌, ℕ, Bool, true, false, ◌||◌, ◌==◌, if◌then◌else◌, List, [], ◌∷◌, ◌++◌, length, codes, Option, Some, None, encode_utf8, encode_utf8_all}
+use Rattle.std.specs.Prelude.{◌≡◌, ◌≢◌, ◌⊎◌, ◌<◌, ◌≤◌, ◌+◌, ◌*◌, ℕ, Bool, true, false, ◌&&◌, ◌||◌, ◌==◌, nat_le, if◌then◌else◌, List, [], ◌∷◌, ◌++◌, length, codes, Option, Some, None, encode_utf8, encode_utf8_all}
 use Rattle.std.specs.Char.{IsScalar, digit_value, is_ascii_alphabetic, is_ascii_alphanumeric}
 use Rattle.std.specs.List.{list_all}
 use Rattle.std.specs.Str.Parse.{AllDigits, digits_value}
@@ -51,13 +51,12 @@ abbrev pub is_word : ℕ → Bool
 is_word c = is_ascii_alphanumeric c || c == 95
 
 -- a letter, and at most 31 letters, digits and `_`
-pub record IsName (name : List ℕ) : Type 0 where
-  pub first : ℕ
-  pub more : List ℕ
-  pub name_is : name ≡ first ∷ more
-  pub letter : is_ascii_alphabetic first ≡ true
-  pub words : list_all is_word more ≡ true
-  pub few : length more ≤ 31
+abbrev pub is_name : List ℕ → Bool
+is_name [] = false
+is_name (c ∷ cs) = is_ascii_alphabetic c && list_all is_word cs && nat_le (length cs) 31
+
+abbrev pub IsName : List ℕ → Type 0
+IsName name = is_name name ≡ true
 
 -- `true` or `false`
 abbrev pub flag_word : Bool → List ℕ

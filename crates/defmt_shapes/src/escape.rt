@@ -3,8 +3,9 @@
 ghost use Rattle.std.specs.Prelude.{◌≡◌, ◌<◌, IfSome};
 ghost use Rattle.std.specs.Str.{IsUtf8};
 ghost use Rattle.std.specs.Str.Parse.{digits_value, IsNumeral};
+ghost use Rattle.defmt_grammar.specs.Cut.{parts_of};
 ghost use Rattle.defmt_shapes.specs.Shape.{escaped};
-ghost use Rattle.defmt_shapes.specs.Escapes.{with_rest, parts_of, scalar_of, number_escape, escape_of, IsFirstChar, IsCharacter, IsQuotedEnd};
+ghost use Rattle.defmt_shapes.specs.Escapes.{with_rest, scalar_of, number_escape, escape_of, IsFirstChar, IsCharacter, IsQuotedEnd};
 
 use crate::parts::{Class, behind, first_ascii, split_run};
 

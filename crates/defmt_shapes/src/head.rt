@@ -2,7 +2,6 @@
 
 ghost use Rattle.std.specs.Prelude.{◌≡◌, IfSome};
 ghost use Rattle.std.specs.Str.{IsUtf8};
-ghost use Rattle.defmt_shapes.specs.Escapes.{with_rest};
 ghost use Rattle.defmt_shapes.specs.Leads.{view_heads, decimal_lead, hexadecimal_lead, negative_lead, interned_lead, bytes_lead, variant_lead, flag_lead, named_lead, word_lead, plain_lead, marked_lead, IsLead, view_item, item_of};
 
 use crate::escape::{character_of, quoted_end};

@@ -13,5 +13,5 @@ mod spelling;
 pub use laws::{element_by_element, one_head, one_shape, value_by_value};
 pub use meaning::{bytes_of, unescape};
 pub use number::Number;
-pub use parts::skip_spaces;
+pub use parts::{is_name, skip_spaces};
 pub use spelling::{Item, Spelling, first_item, first_value};

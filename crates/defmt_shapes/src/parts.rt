@@ -1,12 +1,14 @@
 //! Parts of a text.
 
 ghost use Rattle.std.specs.Prelude.{◌≡◌, ◌<◌, IfSome};
+ghost use Rattle.std.specs.List.{list_all};
 ghost use Rattle.std.specs.Str.{IsUtf8};
 ghost use Rattle.std.specs.Option.{option_copied};
 ghost use Rattle.defmt_grammar.specs.Cut.{behind, strip, skip_spaces};
 ghost use Rattle.defmt_grammar.specs.Param.{both_now, has_leading_zero};
 ghost use Rattle.defmt_shapes.specs.Escapes.{with_rest};
-ghost use Rattle.defmt_shapes.specs.Runs.{in_class, run, first_ascii, is_name, is_variant};
+ghost use Rattle.defmt_shapes.specs.Runs.{in_class, run, first_ascii, is_variant};
+ghost use Rattle.defmt_shapes.specs.Shape.{is_name, is_word};
 
 /// Characters that stand together in numbers and names.
 #[derive(Clone, Copy)]
@@ -89,15 +91,26 @@ pub fn first_ascii(text: &str) -> Option<(u8, &str)>
     Some((*first, rest))
 }
 
-/// Whether letters, digits and `_` are a name.
-#[tactic(auto, unfolding(crate::specs::Runs::is_name))]
+/// Whether a text is spelled as names are: a letter, and up to 31 letters, digits and `_` behind it, all ASCII.
 pub fn is_name(text: &str) -> bool
     ensures { result ≡ is_name text.now }
 {
     match text.as_bytes() {
         [] => false,
-        [first, ..] => first.is_ascii_alphabetic() && text.len() <= 32,
+        [first, more @ ..] => first.is_ascii_alphabetic() && are_words(more) && more.len() <= 31,
     }
+}
+
+fn is_word(byte: u8) -> bool
+    ensures { result ≡ is_word byte }
+{
+    byte.is_ascii_alphanumeric() || byte == b'_'
+}
+
+fn are_words(bytes: &[u8]) -> bool
+    ensures { result ≡ list_all is_word bytes.now }
+{
+    bytes.iter().all(|byte| is_word(*byte))
 }
 
 /// Whether decimal digits have a zero in front of others.

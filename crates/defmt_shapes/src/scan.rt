@@ -1,6 +1,6 @@
 //! What stands between brackets, however deep others stand inside.
 
-ghost use Rattle.std.specs.Prelude.{◌≡◌, ◌<◌, length, IfSome, IfOk, OnOk};
+ghost use Rattle.std.specs.Prelude.{◌≡◌, ◌<◌, IfSome, IfOk};
 ghost use Rattle.std.specs.Str.{IsUtf8};
 ghost use Rattle.defmt_shapes.specs.Leads.{view_head};
 ghost use Rattle.defmt_shapes.specs.Scan.{FindsClosing, IsStep, step_rest, step_of_lead, closing, after_step};

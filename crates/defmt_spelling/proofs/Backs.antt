@@ -12,8 +12,9 @@ use Rattle.defmt_grammar.specs.declared.slot.Slot.{Slot}
 use Rattle.defmt_intern.specs.Table.{Map}
 use Rattle.defmt_intern.specs.declared.parsed.Parsed.{Parsed}
 use Rattle.defmt_shapes.specs.Shape as shapes
-use Rattle.defmt_shapes.specs.Shape.{Shape, Shapes, no_shapes, shape, Items, no_items, item, SpellsShape, SpellsShapes, SpellsItems, EndsThere, StartsThere, IsName}
-use Rattle.defmt_spelling.proofs.Heads.{mark_starts, starts_longer}
+use Rattle.defmt_shapes.specs.Shape.{Shape, Shapes, no_shapes, shape, Items, no_items, item, SpellsShape, SpellsShapes, SpellsItems, EndsThere, IsName}
+use Rattle.defmt_shapes.proofs.ShapeLaws.{mark_starts}
+use Rattle.defmt_spelling.proofs.Heads.{starts_longer}
 use Rattle.defmt_spelling.proofs.NameLaws.{turned}
 use Rattle.defmt_spelling.proofs.Writable.{IsWritable, AreWritable, ElemsWritable, vals_writable}
 use Rattle.defmt_spelling.proofs.Written.{uint_spelled, item_mark_spelled, call_mark_spelled, positive_spelled, negative_spelled, flag_spelled, char_spelled, str_spelled, hex_spelled}

@@ -5,7 +5,7 @@ use Rattle.defmt_grammar.specs.declared.slot.Slot.{Slot}
 use Rattle.defmt_intern.specs.Table.{Map}
 use Rattle.defmt_intern.specs.declared.parsed.Parsed.{Parsed}
 use Rattle.defmt_shapes.specs.Shape as shapes
-use Rattle.defmt_shapes.specs.Shape.{Shape, Shapes, Items, SpellsItems, StartsThere}
+use Rattle.defmt_shapes.specs.Shape.{Shapes, Items, SpellsItems, StartsThere}
 use Rattle.defmt_spelling.proofs.Arms.{node_kind, node_entry, node_inside, node_value, list_kind, list_entry, list_inside, list_value, item_heavy, item_nowhere, item_values, inside_there}
 use Rattle.defmt_spelling.specs.Leaves.{sum_or}
 use Rattle.defmt_spelling.specs.Meaning.{index_of, meant_val, meant_vals, meant_elems}

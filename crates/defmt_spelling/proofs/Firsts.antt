@@ -10,7 +10,7 @@ one_head text s r rest after h k = head_one text rest after s r h k
 
 -- an element behind a name is a Format value
 a_name : IsName (97 ∷ [])
-a_name = record { first = 97; more = []; name_is = refl; letter = refl; words = refl; few = omega arith }
+a_name = refl
 
 named : (text rest : List ℕ) (ss : Shapes) → HeadItem text None ss rest → HeadShape (97 ∷ text) (call (97 ∷ []) None ss) rest
 named text rest ss h = record {

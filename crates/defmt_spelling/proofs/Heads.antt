@@ -1,12 +1,13 @@
 -- The values at the front of a text, and behind spaces.
-use Rattle.std.proofs.Common.{◌≡◌, ◌≢◌, ◌<◌, ◌≤◌, ◌+◌, ◌++◌, ◌⊎◌, inl, inr, ℕ, Bool, true, false, List, [], ◌∷◌, length, Option, Some, None, refl, sym, ap, subst, ◌∙◌, arith, codes, length-append}
+use Rattle.std.proofs.Common.{◌≡◌, ◌≢◌, ◌<◌, ◌≤◌, ◌+◌, ◌++◌, ◌⊎◌, inl, inr, ℕ, Bool, true, false, List, [], ◌∷◌, length, Option, refl, sym, ap, subst, ◌∙◌, arith, codes, length-append}
 use Rattle.std.proofs.lemmas.Bool.{cases_eq}
-use Rattle.std.proofs.lemmas.Bool.Decides.{nat_tests}
 use Rattle.std.specs.Char.{digit_value, is_ascii_alphabetic}
 use Rattle.std.proofs.lemmas.List.{append-nil}
 use Rattle.defmt_grammar.proofs.Cuts.{skip_found, skip_again}
 use Rattle.defmt_grammar.specs.Cut.{skip_spaces, AreSpaces}
-use Rattle.defmt_shapes.specs.Shape.{Shape, decimal, hexadecimal, negative, flag, character, quoted, interned, bytes, call, empty, sequence, Shapes, shape, Items, item, SpellsShape, SpellsShapes, SpellsItems, HeadShape, StartsThere, IsNumber, IsName, IsItemMark}
+use Rattle.defmt_shapes.proofs.NameLaws.{name_parts}
+use Rattle.defmt_shapes.proofs.ShapeLaws.{mark_starts, starts_skip}
+use Rattle.defmt_shapes.specs.Shape.{Shape, decimal, hexadecimal, negative, flag, character, quoted, interned, bytes, call, empty, sequence, Shapes, shape, Items, item, SpellsShape, SpellsShapes, SpellsItems, HeadShape, StartsThere, IsNumber, IsName}
 use Rattle.defmt_shapes.specs.Spelling.{HeadItem}
 
 number_starts : (radix : ℕ) (digits : List ℕ) (n : ℕ) → radix ≤ 36 → IsNumber radix digits n → StartsThere digits
@@ -21,7 +22,7 @@ letter_apart : (c : ℕ) → is_ascii_alphabetic c ≡ true → c ≢ 32
 letter_apart c h e = let k : is_ascii_alphabetic 32 ≡ true = subst (λ (x : ℕ). is_ascii_alphabetic x ≡ true) e h in absurd cc
 
 name_starts : (name more text : List ℕ) → IsName name → text ≡ name ++ more → StartsThere text
-name_starts name more text n e = first_starts n.first (n.more ++ more) text (e ∙ ap (λ (x : List ℕ). x ++ more) n.name_is) (letter_apart n.first n.letter)
+name_starts name more text h e = let n = name_parts name h in first_starts n.first (n.more ++ more) text (e ∙ ap (λ (x : List ℕ). x ++ more) n.name_is) (letter_apart n.first n.letter)
 
 flag_starts : (text : List ℕ) (b : Bool) → SpellsShape text (flag b) → StartsThere text
 flag_starts text true h = first_starts 116 (codes "rue") text h (λ e. omega arith)
@@ -45,18 +46,7 @@ pub starts_longer : (front rest : List ℕ) → StartsThere front → StartsTher
 starts_longer [] rest h = absurd h
 starts_longer (c ∷ cs) rest h = h
 
--- no space is passed over where there is none
-pub stands : (text : List ℕ) → StartsThere text → skip_spaces text ≡ text
-unfolding skip_spaces
-stands [] h = absurd h
-stands (c ∷ cs) h = grind (arith, nat_tests, h)
-
 -- ---- behind spaces
-
-pub nothing_left : (text : List ℕ) → AreSpaces text → skip_spaces text ≡ []
-unfolding skip_spaces
-nothing_left [] h = refl
-nothing_left (c ∷ cs) h = rw h.0 (nothing_left cs h.1)
 
 pub all_spaces : (text : List ℕ) → skip_spaces text ≡ [] → AreSpaces text
 all_spaces text h = let f = skip_found text in subst AreSpaces (sym (f.2 ∙ ap (λ (x : List ℕ). f.0 ++ x) h ∙ append-nil f.0)) f.1
@@ -64,7 +54,7 @@ all_spaces text h = let f = skip_found text in subst AreSpaces (sym (f.2 ∙ ap 
 skipped_by : (c : ℕ) (cs : List ℕ) → (skip_spaces cs ≡ []) ⊎ StartsThere (skip_spaces cs) → (c ≡ 32) ⊎ (c ≢ 32) → (skip_spaces (c ∷ cs) ≡ []) ⊎ StartsThere (skip_spaces (c ∷ cs))
 unfolding skip_spaces
 skipped_by c cs h (inl e) = rw e h
-skipped_by c cs h (inr n) = inr (subst StartsThere (sym (stands (c ∷ cs) n)) n)
+skipped_by c cs h (inr n) = inr (subst StartsThere (sym (starts_skip (c ∷ cs) n)) n)
 
 -- behind the spaces there is nothing, or something that is none
 pub skipped : (text : List ℕ) → (skip_spaces text ≡ []) ⊎ StartsThere (skip_spaces text)
@@ -91,19 +81,12 @@ split text s ss h = record {
     front = h.1;
     spelled = h.4;
     ends = h.5;
-    text_is = ap skip_spaces h.7 ∙ skip_again h.0 (h.1 ++ h.2) h.3 (stands (h.1 ++ h.2) (starts_longer h.1 h.2 (starts h.1 s h.4)));
+    text_is = ap skip_spaces h.7 ∙ skip_again h.0 (h.1 ++ h.2) h.3 (starts_skip (h.1 ++ h.2) (starts_longer h.1 h.2 (starts h.1 s h.4)));
   };
   others = h.6;
 }
 
-pub join : (text rest : List ℕ) (s : Shape) (ss : Shapes) → HeadShape (skip_spaces text) s rest → SpellsShapes rest ss → SpellsShapes text (shape s ss)
-join text rest s ss h o = let f = skip_found text in (f.0, h.front, rest, f.1, h.spelled, h.ends, o, f.2 ∙ ap (λ (x : List ℕ). f.0 ++ x) h.text_is)
-
 -- ---- elements
-
-pub mark_starts : (mark rest : List ℕ) (variant : Option ℕ) → IsItemMark mark variant → StartsThere (mark ++ 40 ∷ rest)
-mark_starts mark rest None h = subst (λ (m : List ℕ). StartsThere (m ++ 40 ∷ rest)) (sym h) (λ e. omega arith)
-mark_starts mark rest (Some v) h = starts_longer mark (40 ∷ rest) (number_starts 10 mark v (omega arith) h.number)
 
 pub item_starts : (text rest : List ℕ) (variant : Option ℕ) (ss : Shapes) → HeadItem text variant ss rest → StartsThere text
 item_starts text rest variant ss h = subst StartsThere (sym h.text_is) (mark_starts h.mark (h.inside ++ 41 ∷ rest) variant h.is_mark)
@@ -123,7 +106,7 @@ split_item text variant ss more h = record {
     is_mark = h.5;
     spelled = h.6;
     ends = h.7;
-    text_is = ap skip_spaces h.9 ∙ skip_again h.0 (h.1 ++ 40 ∷ (h.2 ++ 41 ∷ h.3)) h.4 (stands (h.1 ++ 40 ∷ (h.2 ++ 41 ∷ h.3)) (mark_starts h.1 (h.2 ++ 41 ∷ h.3) variant h.5));
+    text_is = ap skip_spaces h.9 ∙ skip_again h.0 (h.1 ++ 40 ∷ (h.2 ++ 41 ∷ h.3)) h.4 (starts_skip (h.1 ++ 40 ∷ (h.2 ++ 41 ∷ h.3)) (mark_starts h.1 (h.2 ++ 41 ∷ h.3) variant h.5));
   };
   others = h.8;
 }

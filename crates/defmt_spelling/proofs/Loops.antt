@@ -8,12 +8,13 @@ use Rattle.defmt_grammar.specs.declared.piece.Piece.{Piece}
 use Rattle.defmt_grammar.specs.declared.slot.Slot.{Slot}
 use Rattle.defmt_intern.specs.Table.{Map}
 use Rattle.defmt_intern.specs.declared.parsed.Parsed.{Parsed}
+use Rattle.defmt_shapes.proofs.ShapeLaws.{join_shape, skip_all}
 use Rattle.defmt_shapes.specs.Shape.{Shape, Shapes, no_shapes, shape, Items, no_items, item, SpellsShapes, SpellsItems, HeadShape, StartsThere}
 use Rattle.defmt_shapes.specs.Spelling.{HeadItem, HoldsVariant, IsItem}
 use Rattle.defmt_shapes.specs.declared.spelling.Item.{Item}
 use Rattle.defmt_shapes.specs.declared.number.Number.{Number}
 use Rattle.defmt_spelling.proofs.Arms.{elem_is, places_there}
-use Rattle.defmt_spelling.proofs.Heads.{nothing_left, all_spaces, skipped, empty_starts, head_starts, split, join, item_starts, split_item, item_shorter}
+use Rattle.defmt_spelling.proofs.Heads.{all_spaces, skipped, empty_starts, head_starts, split, item_starts, split_item, item_shorter}
 use Rattle.defmt_spelling.specs.Meaning.{meant_val, meant_vals, meant_elems}
 use Rattle.defmt_spelling.specs.Names.{NameMap}
 use Rattle.defmt_spelling.specs.Reading.{Means, judged, ScannedFault, Front, FrontFault, ReadsFront, ReadsValues, GivesValues, GivesElems, GivesItem, item_scan, meant_inside}
@@ -64,7 +65,7 @@ module _ (names : NameMap) (t : Map) (left weight : ℕ) where
       let one : scan_val t left p.slot (p.uses * weight) sum v ≡ Ok next = sym (same t left p.slot (p.uses * weight) u sum v cap) ∙ f.fits in
       record {
         shapes = shape f.shape m.shapes;
-        spelled = join text rest f.shape m.shapes f.head m.spelled;
+        spelled = join_shape text rest f.shape m.shapes f.head m.spelled;
         meant = ap (λ (x : Val). val x (meant_vals names t ps m.shapes)) f.meant ∙ ap (val v) m.meant;
         fits = rw one m.fits;
       }
@@ -127,8 +128,8 @@ module _ (names : NameMap) (t : Map) (left weight : ℕ) where
   module _ (one : (text : List ℕ) (s r : Shape) (rest after : List ℕ) → HeadShape text s rest → HeadShape text r after → (s ≡ r) × (rest ≡ after)) where
     pub one_shapes : (text : List ℕ) (ss rs : Shapes) → SpellsShapes text ss → SpellsShapes text rs → ss ≡ rs
     one_shapes text no_shapes no_shapes a b = refl
-    one_shapes text no_shapes (shape r rs) a b = let h = split text r rs b in absurd (empty_starts (skip_spaces text) (nothing_left text a) (head_starts (skip_spaces text) h.rest r h.head))
-    one_shapes text (shape s ss) no_shapes a b = let h = split text s ss a in absurd (empty_starts (skip_spaces text) (nothing_left text b) (head_starts (skip_spaces text) h.rest s h.head))
+    one_shapes text no_shapes (shape r rs) a b = let h = split text r rs b in absurd (empty_starts (skip_spaces text) (skip_all text a) (head_starts (skip_spaces text) h.rest r h.head))
+    one_shapes text (shape s ss) no_shapes a b = let h = split text s ss a in absurd (empty_starts (skip_spaces text) (skip_all text b) (head_starts (skip_spaces text) h.rest s h.head))
     one_shapes text (shape s ss) (shape r rs) a b =
         let h = split text s ss a in
         let k = split text r rs b in
@@ -138,11 +139,11 @@ module _ (names : NameMap) (t : Map) (left weight : ℕ) where
 
     pub fault_scan : (places : List Place) (sum : ℕ) (text : List ℕ) (c : ℕ) (ss : Shapes) → ScannedFault names t left weight places sum text c → SpellsShapes text ss → scan_vals t left places weight sum (meant_vals names t places ss) ≡ Err c
     unfolding scan_val meant_val
-    fault_scan [] sum text c no_shapes h s = absurd (empty_starts (skip_spaces text) (nothing_left text s) h.0)
+    fault_scan [] sum text c no_shapes h s = absurd (empty_starts (skip_spaces text) (skip_all text s) h.0)
     fault_scan [] sum text c (shape r rs) h s = ap Err (sym h.1)
     fault_scan (p ∷ ps) sum text c no_shapes (inl h) s = ap Err (sym h.1)
-    fault_scan (p ∷ ps) sum text c no_shapes (inr (inl h)) s = absurd (empty_starts (skip_spaces text) (nothing_left text s) h.0)
-    fault_scan (p ∷ ps) sum text c no_shapes (inr (inr h)) s = absurd (empty_starts (skip_spaces text) (nothing_left text s) (head_starts (skip_spaces text) h.1 h.0 h.2))
+    fault_scan (p ∷ ps) sum text c no_shapes (inr (inl h)) s = absurd (empty_starts (skip_spaces text) (skip_all text s) h.0)
+    fault_scan (p ∷ ps) sum text c no_shapes (inr (inr h)) s = absurd (empty_starts (skip_spaces text) (skip_all text s) (head_starts (skip_spaces text) h.1 h.0 h.2))
     fault_scan (p ∷ ps) sum text c (shape r rs) (inl h) s = let k = split text r rs s in absurd (empty_starts (skip_spaces text) h.0 (head_starts (skip_spaces text) k.rest r k.head))
     fault_scan (p ∷ ps) sum text c (shape r rs) (inr (inl h)) s = let k = split text r rs s in absurd (h.1 r k.rest k.head)
     fault_scan (p ∷ ps) sum text c (shape r rs) (inr (inr h)) s =

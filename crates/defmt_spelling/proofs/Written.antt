@@ -1,6 +1,6 @@
 -- What is written spells what it was written for: numbers, characters, texts and bytes.
-use Rattle.std.proofs.Common.{◌≡◌, ◌≢◌, ◌⊎◌, inl, inr, ◌<◌, ◌≤◌, ◌+◌, ◌*◌, ◌-◌, ◌&&◌, ◌++◌, ℕ, zero, suc, pos, negsuc, Bool, true, false, cond, List, [], ◌∷◌, length, map, replicate, get_or, Option, Some, None, refl, sym, ap, subst, ◌∙◌, arith, nat_lt}
-use Rattle.std.proofs.lemmas.Bool.{cases_eq, cases_lt, ne_eqb}
+use Rattle.std.proofs.Common.{◌≡◌, ◌≢◌, ◌⊎◌, inl, inr, ◌<◌, ◌≤◌, ◌+◌, ◌*◌, ◌-◌, ◌++◌, ℕ, zero, suc, pos, negsuc, Bool, true, false, cond, List, [], ◌∷◌, length, map, replicate, get_or, Option, Some, None, refl, sym, ap, subst, ◌∙◌, arith, nat_lt}
+use Rattle.std.proofs.lemmas.Bool.{cases_eq, cases_lt, ne_eqb, and_parts}
 use Rattle.std.proofs.lemmas.Int.Digits.{digits_value_is}
 use Rattle.std.proofs.lemmas.List.Concat.{flat_map-append}
 use Rattle.std.proofs.lemmas.Str.{encode_ascii, inside_one}
@@ -182,14 +182,10 @@ module _ (quote : ℕ) (facts : QuoteFacts quote) where
     ]
   ]
 
-  both_true : (a b : Bool) → (a && b) ≡ true → (a ≡ true) × (b ≡ true)
-  both_true true b h = (refl, h)
-  both_true false b h = absurd (cc)
-
   chars_spelled : (cs : List ℕ) → all_scalars cs ≡ true → SpellsCharacters quote (flat_map (written quote) (encode_utf8_all cs)) cs
   chars_spelled [] h = refl
   chars_spelled (c ∷ cs) h =
-      let b = both_true _ (all_scalars cs) h in
+      let b = and_parts _ (all_scalars cs) h in
       (flat_map (written quote) (encode_utf8 c), flat_map (written quote) (encode_utf8_all cs), one_char c b.0, chars_spelled cs b.1, flat_map-append (written quote) (encode_utf8 c) (encode_utf8_all cs))
 
 pub char_spelled : (c : ℕ) → IsScalar c → SpellsShape (printed_char c Debug) (shapes.character c)

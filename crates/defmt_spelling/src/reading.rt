@@ -1,5 +1,5 @@
 //! Reading the arguments of a statement from text.
-ghost use Rattle.std.specs.Prelude.{◌≡◌, ◌<◌, ◌≤◌, ◌+◌, ℕ, List, Option, Result, Ok, IfOk, OnOk, nat_lt};
+ghost use Rattle.std.specs.Prelude.{◌≡◌, ◌<◌, ◌≤◌, ◌+◌, ℕ, List, Option, Result, Ok, IfOk, OnOk};
 ghost use Rattle.std.specs.Str.{IsUtf8};
 ghost use Rattle.defmt_grammar.specs.Slots.{IsSound};
 ghost use Rattle.defmt_shapes.specs.Shape.{Shape as AnyShape, Shapes, Items as AnyItems, call, sequence, SpellsShapes, SpellsItems, StartsThere};
@@ -8,7 +8,7 @@ ghost use Rattle.defmt_spelling.specs.Leaves.{sum_or};
 ghost use Rattle.defmt_spelling.specs.Meaning.{meant_val, meant_elems};
 ghost use Rattle.defmt_intern.specs.Table.{Map as AnyTable};
 ghost use Rattle.defmt_spelling.specs.Names.{NameMap};
-ghost use Rattle.defmt_spelling.specs.Reading.{GivesLeaf, GivesValue, GivesElems, GivesItem, GivesForm, GivesVariant, GivesSum, Tests, IsLeaf, form_scan, item_scan, meant_inside, ReadsValues, ReadsFront, Reads, GivesOnly, SmallValue, SmallFront};
+ghost use Rattle.defmt_spelling.specs.Reading.{GivesLeaf, GivesValue, GivesElems, GivesItem, GivesForm, GivesVariant, GivesSum, Tests, IsLeaf, item_scan, meant_inside, ReadsValues, ReadsFront, Reads, GivesOnly, SmallValue, SmallFront};
 ghost use Rattle.defmt_spelling.specs.Spelling.{ReadsArguments};
 ghost use Rattle.defmt_values.specs.Entries.{places_of};
 ghost use Rattle.defmt_values.specs.Fits.{Fits};

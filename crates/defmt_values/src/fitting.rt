@@ -3,14 +3,13 @@ ghost use Rattle.std.specs.Prelude.{◌≡◌, ◌+◌, ◌*◌, ◌==◌, ◌%�
 ghost use Rattle.defmt_intern.specs.Body.{body_of};
 ghost use Rattle.defmt_values.specs.Entries.{look, is_format, is_interned, is_logged};
 ghost use Rattle.defmt_values.specs.Scan.{test, uint_cause, int_cause, flag_cause, char_cause, str_cause, istr_cause, bytes_cause, bits_cause, node_cause, list_cause, count_cause, form_at, pick, add, list_form, no_index, scan_val, scan_vals, scan_elems, own_form, own_cause, leaf_cause, opened, started};
-ghost use Rattle.defmt_grammar.specs.Slots.{slots_of};
-ghost use Rattle.defmt_values.specs.Entries.{places_of, places_from};
+ghost use Rattle.defmt_values.specs.Entries.{places_of};
 ghost use Rattle.defmt_values.specs.Faults.{StatementFault};
 ghost use Rattle.defmt_values.specs.Fits.{Fits};
 ghost use Rattle.defmt_values.specs.Now.{now_of, pair_now, option_now};
 ghost use Rattle.defmt_grammar.specs.Sizes.{size_bits, is_signed};
 ghost use Rattle.defmt_values.specs.Plain.{elems_empty};
-ghost use Rattle.defmt_values.specs.View.{plain, vals_of, elems_of};
+ghost use Rattle.defmt_values.specs.View.{plain};
 
 use crate::value::{Args, Items, Node, Seq, Statement, Value};
 use defmt_grammar::{IntSize, Kind, Pieces, Slot};

@@ -4,6 +4,7 @@ use Rattle.std.specs.Prelude.{Option, Some, None, if◌then◌else◌, nat_lt, n
 use Rattle.std.specs.Str.{bytes_eq, all_ascii_digits}
 use Rattle.std.specs.Char.{is_ascii_digit}
 use Rattle.std.proofs.lemmas.Bool.Decides.{nat_tests}
+use Rattle.std.proofs.lemmas.Bool.{and_parts}
 use Rattle.clap.specs.Words.{Row, Text, first_of}
 use Rattle.defmt_words.specs.Words.{Job, running, recording, table_file, printing, decoding, generating, read_on, count_in, run_by, bare, decode_by, generate_by, choice, is_true_text, picked, chosen, found, job}
 
@@ -21,14 +22,10 @@ grows : (n : ℕ) (cs : List ℕ) → n ≤ read_on n cs
 grows n [] = omega arith
 grows n (c ∷ cs) = let h : 10 * n + (c - 48) ≤ read_on (10 * n + (c - 48)) cs = grows (10 * n + (c - 48)) cs in omega (arith, h)
 
-both : (a b : Bool) → (a && b) ≡ true → (a ≡ true) × (b ≡ true)
-both true b h = (refl, h)
-both false b h = absurd cc
-
 at_least_one : (text : List ℕ) → nat_lt 0 (length text) ≡ true → all_ascii_digits text ≡ true → (slice_index text 0 == 48) ≡ false → 1 ≤ read_on 0 text
 at_least_one [] some digits first = absurd cc
 at_least_one (c ∷ cs) some digits first =
-    let digit : is_ascii_digit c ≡ true = (both (is_ascii_digit c) (all_ascii_digits cs) digits).0 in
+    let digit : is_ascii_digit c ≡ true = (and_parts (is_ascii_digit c) (all_ascii_digits cs) digits).0 in
     let least : 48 ≤ c = grind (arith, nat_tests, digit) in
     let other : c ≢ 48 = grind (arith, nat_tests, first) in
     let more : 10 * 0 + (c - 48) ≤ read_on (10 * 0 + (c - 48)) cs = grows (10 * 0 + (c - 48)) cs in

@@ -11,7 +11,7 @@ use crate::gate::Gate;
 use crate::serving::serve_here;
 use crate::writers::{work, write};
 use defmt_hooks::{Clock, Stamp};
-use defmt_logger::{Books, Eight, Logger, Naming, Pen, Pens, Seat, Tape};
+use defmt_logger::{Books, Eight, FRAME_SIZE, Logger, Naming, Pen, Pens, Seat, Tape};
 use defmt_script::Script;
 use dl_io::{Bytes, Memory};
 use rtt_ring::{Channel, RingFault, Settled, UpEnd};
@@ -21,9 +21,6 @@ use std::marker::Brand;
 use std::sync::Wait;
 use std::sync::ledger::{Blank, Ledger};
 use std::thread::Threads;
-
-// The most bytes of a frame.
-const FRAME_SIZE: usize = 2288;
 
 /// What a run answers.
 #[derive(Drop)]

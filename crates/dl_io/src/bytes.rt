@@ -15,7 +15,7 @@ pub struct Bytes {
 }
 
 impl Model for Bytes {
-    ghost use Rattle.std.specs.Prelude.{ℕ, ◌+◌, ◌≤◌, vec_len, vec_capacity};
+    ghost use Rattle.std.specs.Prelude.{◌+◌, ◌≤◌, vec_len, vec_capacity};
     ghost use Rattle.dl_io.specs.Buffer.{Buffer};
 
     ghost Value = { Buffer };

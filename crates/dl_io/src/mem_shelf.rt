@@ -2,7 +2,7 @@ ghost use Rattle.std.specs.Prelude.{◌≡◌, ◌⊎◌, ◌↔◌, ◌-◌, �
 ghost use Rattle.std.specs.Option.{option_copied};
 ghost use Rattle.std.specs.Io.{ReadsAtMost};
 ghost use Rattle.std.specs.FinMap as map;
-ghost use Rattle.dl_io.specs.Outside.{Rose, Fetches, FetchesFrom, Lacks, IsListed, is_listed, counted, fresh};
+ghost use Rattle.dl_io.specs.Outside.{Rose, FetchesFrom, IsListed, is_listed, counted, fresh};
 
 use crate::memory::Fails;
 use crate::{Bytes, Failed, Memory, Shelf};

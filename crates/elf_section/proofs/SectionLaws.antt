@@ -4,7 +4,7 @@ use Rattle.std.specs.Prelude.{IsSome, is_some}
 use Rattle.std.specs.Option.{option_copied}
 use Rattle.std.proofs.lemmas.Bool.{cases_lt}
 use Rattle.elf_section.specs.File.{header, section, section_len, class_of, Fits, IsPlain, IsFirst, IsSymbols, HasSymbols, strings}
-use Rattle.elf_section.specs.Checks.{Check, place, Holds, refusal, Refused, Passed, IsTable, Says, SaysIn, HasMarker, SaysSome, Seen}
+use Rattle.elf_section.specs.Checks.{refusal, Refused, Passed, IsTable}
 use Rattle.elf_section.specs.Checks as check
 use Rattle.elf_section.specs.declared.file.Class.{Class}
 use Rattle.elf_section.specs.declared.file.Class.TheVariants.{Elf32, Elf64}

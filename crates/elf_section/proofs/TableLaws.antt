@@ -7,7 +7,7 @@ use Rattle.std.proofs.lemmas.List.{append_cancel_left}
 use Rattle.std.proofs.lemmas.Slice.Eq.{bytes_eq-Decides}
 use Rattle.elf_section.specs.Bytes.{IsUnquoted, IsBehind}
 use Rattle.elf_section.specs.File.{header, section, symbol_len, class_of, Fits, IsSymbols, HasSymbols, strings, count, symbol, symbol_name}
-use Rattle.elf_section.specs.Checks.{Check, place, Holds, refusal, Refused, Passed, IsTable, Says, SaysIn, HasMarker, SaysSome, Seen}
+use Rattle.elf_section.specs.Checks.{refusal, Refused, Passed, IsTable, Says, SaysIn, HasMarker, SaysSome, Seen}
 use Rattle.elf_section.specs.Checks as check
 use Rattle.elf_section.specs.declared.file.Class.{Class}
 use Rattle.elf_section.specs.declared.file.Class.TheVariants.{Elf32, Elf64}

@@ -1,6 +1,6 @@
 //! The fields of a file, at the places of the ELF gABI.
 
-ghost use Rattle.std.specs.Prelude.{◌≡◌, ◌≤◌, ◌<◌, ◌+◌, ◌*◌, ◌^◌, length};
+ghost use Rattle.std.specs.Prelude.{◌≡◌, ◌≤◌, ◌<◌, ◌+◌, ◌^◌, length};
 ghost use Rattle.elf_section.specs.File.{class_of, header_len, section_len, symbol_len, header_in, section_in, symbol_in};
 
 use byte_images::{half_at, long_at, word_at};

@@ -1,7 +1,7 @@
 //! The checks of the header.
 
-ghost use Rattle.std.specs.Prelude.{◌≡◌, ◌≤◌, ◌<◌, ◌^◌, length, MatchBool};
-ghost use Rattle.elf_section.specs.File.{header, header_len};
+ghost use Rattle.std.specs.Prelude.{◌≡◌, ◌<◌, ◌^◌, MatchBool};
+ghost use Rattle.elf_section.specs.File.{header};
 ghost use Rattle.elf_section.specs.Checks.{Holds, Passed, Goes};
 ghost use Rattle.elf_section.specs.Checks as check;
 

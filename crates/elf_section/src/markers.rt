@@ -1,6 +1,6 @@
 //! The symbols that mark the wire version and the encoding.
 
-ghost use Rattle.std.specs.Prelude.{◌≡◌, ◌<◌, MatchBool};
+ghost use Rattle.std.specs.Prelude.{◌<◌, MatchBool};
 ghost use Rattle.elf_section.specs.Checks.{Passed, Goes, SaysIn, HasMarker};
 ghost use Rattle.elf_section.specs.Table.{IsOpen};
 

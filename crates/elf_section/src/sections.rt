@@ -1,6 +1,6 @@
 //! The sections of a file.
 
-ghost use Rattle.std.specs.Prelude.{◌≡◌, ◌≤◌, ◌<◌, ◌+◌, ◌*◌, ◌^◌, ℕ, length, take, drop, Some, MatchBool, MatchOption, IfOk, codes, IsSome, IsTrue, ◌↔◌};
+ghost use Rattle.std.specs.Prelude.{◌≡◌, ◌<◌, ◌+◌, ◌*◌, ◌^◌, length, Some, MatchBool, IfOk, IsTrue, ◌↔◌};
 ghost use Rattle.std.specs.Option.{option_copied};
 ghost use Rattle.elf_section.specs.File.{header, section, Fits, contents, section_names, section_name, IsDefmt, IsSymbols, HasDefmtName, HasSymbols};
 ghost use Rattle.elf_section.specs.Checks.{Holds, Passed, Goes, Finds};

@@ -1,6 +1,6 @@
 //! The symbols of `.defmt`.
 
-ghost use Rattle.std.specs.Prelude.{◌≡◌, ◌≤◌, ◌<◌, ◌^◌, ℕ, List, length, IfOk};
+ghost use Rattle.std.specs.Prelude.{◌≡◌, ◌≤◌, ◌<◌, ◌^◌, List, length, IfOk};
 ghost use Rattle.elf_section.specs.Checks.{Passed, Refusal, Refused};
 ghost use Rattle.elf_section.specs.File.{IsDefmt};
 ghost use Rattle.elf_section.specs.Listed.{Lists, Gets, ReadsSymbols, GivesOnly, RefusesOnly, is_listed, symbol_of, symbols_below};

@@ -1,6 +1,6 @@
 //! The symbol table.
 
-ghost use Rattle.std.specs.Prelude.{◌≡◌, ◌≤◌, ◌<◌, ◌+◌, ◌*◌, ◌^◌, ◌/◌, length, MatchBool, IfOk};
+ghost use Rattle.std.specs.Prelude.{◌≡◌, ◌<◌, ◌+◌, ◌*◌, ◌^◌, ◌/◌, length, MatchBool, IfOk};
 ghost use Rattle.std.specs.Option.{option_copied};
 ghost use Rattle.elf_section.specs.File.{header, IsSymbols, symbol, symbol_name, count};
 ghost use Rattle.elf_section.specs.Checks.{Passed, Goes, IsTable};

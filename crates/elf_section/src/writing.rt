@@ -1,6 +1,6 @@
 //! Writing the file.
 
-ghost use Rattle.std.specs.Prelude.{◌≡◌, ◌≤◌, ◌<◌, ◌+◌, ◌*◌, ◌^◌, [], ◌∷◌, ◌++◌, length, replicate, IfOk, OnOk};
+ghost use Rattle.std.specs.Prelude.{◌≡◌, ◌≤◌, ◌<◌, ◌+◌, ◌*◌, ◌^◌, ◌++◌, length, replicate, IfOk, OnOk};
 ghost use Rattle.elf_section.specs.Written.{half, word, symbol_bytes, section_bytes, header_bytes, symbol_table, string_table, section_names, headers_for, names, written, IsWritable, AreBraced, braced, KeepsMarkers};
 ghost use Rattle.elf_section.specs.Listed.{Lists};
 ghost use Rattle.elf_section.specs.Symbol.{plain_all};

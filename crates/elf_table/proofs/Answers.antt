@@ -1,8 +1,6 @@
 -- A file names one table, or has one refusal.
-use Rattle.std.proofs.Common.{◌≡◌, ℕ, List, Result, Ok, Err, refl, sym, ap, subst, ◌∙◌}
-use Rattle.std.specs.FinMap as map
+use Rattle.std.proofs.Common.{◌≡◌, ℕ, List, Result, Ok, Err, sym, ap, subst, ◌∙◌}
 use Rattle.defmt_intern.specs.Table.{Map}
-use Rattle.defmt_intern.specs.declared.table.Profile.{Profile}
 use Rattle.defmt_intern.specs.declared.table.Table.{Table}
 use Rattle.elf_section.specs.Checks.{Refused}
 use Rattle.elf_section.specs.Checks.{Refusal}

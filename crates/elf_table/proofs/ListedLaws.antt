@@ -9,10 +9,8 @@ use Rattle.std.specs.FinMap as map
 use Rattle.std.specs.FinMap.{len-entries, len-empty, get-entries, entries-insert, find}
 use Rattle.std.specs.FinMap.Entries.{put, by_order}
 use Rattle.std.specs.Cmp.{nat_cmp_total}
-use Rattle.serde_json.specs.Written.{compact_text}
 use Rattle.defmt_intern.specs.declared.entry.Entry.{Entry}
-use Rattle.defmt_intern.specs.declared.entry.Tag.TheVariants.{Timestamp}
-use Rattle.defmt_intern.specs.Name.{Names, written}
+use Rattle.defmt_intern.specs.Name.{Names}
 use Rattle.defmt_intern.specs.Table.{Map, IsLawful}
 use Rattle.defmt_intern.specs.declared.table.Profile.TheVariants as profiles
 use Rattle.defmt_intern.proofs.NameLaws.{one_name}

@@ -1,5 +1,5 @@
 -- The text of a symbol name: no byte of it is zero, and it isn't much longer than the entry's texts.
-use Rattle.std.proofs.Common.{◌≡◌, ◌≢◌, ◌≤◌, ◌<◌, ◌+◌, ◌*◌, ◌/◌, ◌%◌, ℕ, suc, cond, ltb, Bool, true, false, List, [], ◌∷◌, ◌++◌, length, refl, sym, ap, ◌∙◌, arith, codes, length-append}
+use Rattle.std.proofs.Common.{◌≡◌, ◌≢◌, ◌≤◌, ◌+◌, ◌*◌, ◌/◌, ◌%◌, ℕ, suc, cond, ltb, Bool, true, false, List, [], ◌∷◌, ◌++◌, length, refl, ap, arith, codes, length-append}
 use Rattle.std.specs.Char.{digit_char}
 use Rattle.std.specs.List.{All, AllByRecursion}
 use Rattle.std.proofs.lemmas.Bool.{ltb-true, ltb-false}

@@ -1,5 +1,5 @@
 -- The table that symbols name (defmt book, "Interning": a symbol of `.defmt` has the entry as its name and the index as its value).
-use Rattle.std.specs.Prelude.{◌≡◌, ◌≢◌, ◌≤◌, ◌<◌, ◌⊎◌, ℕ, List, length, Option, Some, None, slice_get, Result, Ok, Err, ⊤}
+use Rattle.std.specs.Prelude.{◌≡◌, ◌≢◌, ◌≤◌, ◌<◌, ◌⊎◌, ℕ, List, length, Some, slice_get, Result, Ok, Err, ⊤}
 use Rattle.std.specs.FinMap as map
 use Rattle.byte_images.specs.First.{Place, FirstToFail}
 use Rattle.defmt_intern.specs.declared.entry.Entry.{Entry}

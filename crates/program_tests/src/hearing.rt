@@ -102,8 +102,10 @@ impl Listener for Ear {
     }
 
     fn add_line(_alloc: Global, event: &Mark, out: &mut Bytes) -> Result<(), Memory> {
-        out.push(event.letter)?;
-        out.push(b'\n')
+        out.reserve(2)?;
+        out.push_reserved(event.letter);
+        out.push_reserved(b'\n');
+        Ok(())
     }
 
     fn is_fault(event: &Mark) -> bool {

@@ -9,15 +9,6 @@ use Rattle.ring_bench.specs.Frames.{frames}
 pub kept_first : (u : Up) → u.staged ≡ [] → UpKept u u
 kept_first u empty = record { split = refl; size = refl; tells = refl; staged = empty; later = omega arith }
 
-pub kept_more : (u v w : Up) → UpKept u v → UpKept v w → UpKept u w
-kept_more u v w h k = record {
-  split = k.split ∙ h.split;
-  size = k.size ∙ h.size;
-  tells = k.tells ∙ h.tells;
-  staged = k.staged;
-  later = omega arith;
-}
-
 pub no_frames : (frame : List ℕ) → frames 0 frame ≡ []
 unfolding frames
 no_frames frame = refl

@@ -1,5 +1,5 @@
 //! Rings whose ends one thread moves by steps, and rings between two threads.
-ghost use Rattle.std.specs.Prelude.{◌≡◌, [], IfOk};
+ghost use Rattle.std.specs.Prelude.{◌≡◌, []};
 ghost use Rattle.rtt_ring.specs.PlainView.{up_of};
 
 use crate::blocks::{put_found, put_read, put_unread};

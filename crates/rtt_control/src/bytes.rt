@@ -1,7 +1,7 @@
 //! Numbers and parts of an image.
 ghost use Rattle.std.specs.Prelude.{◌≡◌, ◌+◌, ◌*◌, ◌^◌, ◌<◌, ◌≤◌, length, All};
 ghost use Rattle.std.specs.List.{flat_map};
-ghost use Rattle.rtt_control.specs.Layout.{IsWords, descriptor_at, descriptor_bytes, id, starts_with_id, with_bytes, word_bytes};
+ghost use Rattle.rtt_control.specs.Layout.{IsWords, descriptor_at, descriptor_bytes, starts_with_id, with_bytes, word_bytes};
 
 use crate::block::Descriptor;
 use byte_images::word_at;

@@ -3,7 +3,8 @@ use Rattle.std.proofs.Common.{◌≡◌, ◌∙◌, ℕ, ◌+◌, ◌-◌, ◌�
 use Rattle.rtt_ring.specs.Views.{Up, UpKept}
 use Rattle.rtt_modes.specs.Fates.{Going}
 
-kept_on : (u v w : Up) → UpKept u v → UpKept v w → UpKept u w
+-- what one step keeps and the next keeps too
+pub kept_on : (u v w : Up) → UpKept u v → UpKept v w → UpKept u w
 kept_on u v w h k = record {
   split = k.split ∙ h.split;
   size = k.size ∙ h.size;

@@ -1,5 +1,5 @@
 -- What the two ends keep, over plain data.
-use Rattle.std.proofs.Common.{◌≡◌, ◌⊎◌, ℕ, ◌+◌, ◌-◌, ◌%◌, ◌^◌, ◌<◌, ◌≤◌, min, List, [], ◌∷◌, ◌++◌, length, length-take-le, length-drop, get_or-take, get_or-drop, ◌*◌, ◌/◌, div-add-mod', take, drop, length-append, append-nil, sym, refl, ap, ◌∙◌, subst, ⊎_elim, mod-lt, add_assoc, arith}
+use Rattle.std.proofs.Common.{◌≡◌, ℕ, ◌+◌, ◌-◌, ◌%◌, ◌<◌, ◌≤◌, min, List, [], ◌∷◌, ◌++◌, length, length-take-le, length-drop, get_or-take, get_or-drop, ◌*◌, ◌/◌, div-add-mod', take, drop, length-append, append-nil, sym, refl, ap, ◌∙◌, subst, arith}
 use Rattle.std.proofs.lemmas.List.{get_or_past}
 use Rattle.std.proofs.lemmas.Nat.{le_bytes_8}
 use Rattle.std.specs.Int.{from_le_bytes, to_le_bytes, w64}
@@ -12,7 +12,7 @@ use Rattle.rtt_ring.specs.declared.word.view.DownView.{DownView}
 use Rattle.rtt_ring.specs.declared.word.view.View.TheVariants.{Up, Down}
 use lib.ListN.{get_elem?}
 use mathlib.Core.Option.{some}
-use Rattle.rtt_ring.proofs.WordMoves.{front_at}
+use Rattle.rtt_ring.proofs.WordMoves.{front_at, lanes_long}
 use Rattle.rtt_ring.specs.WordRule.{StartsWith, IsWhole, Mixes, lanes, lane, upper_of, lower_of, up_looked, put_bytes, took_bytes, next_bytes}
 use Rattle.rtt_ring.specs.Account.{capped}
 use Rattle.rtt_ring.specs.WordKept.{IsUp, IsDown, IsNext, IsAhead, name_of}
@@ -143,10 +143,6 @@ module _ {S : Type 0} (z : TableId) (key : ℕ) (of of' : TableId) (m m' : Me S 
         in_order = omega arith;
         counted = capped_next count count' n (length bs) k.counted more ∙ ap capped (sym longer);
       }
-
-pub lanes_long : (w : ℕ) → length (lanes w) ≡ 8
-unfolding lanes
-lanes_long w = refl
 
 -- a word of which each byte is written
 pub whole : (old new l : ℕ) (bs : List ℕ) → l + length bs ≤ 8 → length bs ≡ 8 → lanes new ≡ bs → Mixes old new l bs

@@ -14,9 +14,10 @@ use Rattle.rtt_ring.specs.declared.word.view.View.TheVariants.{Spent, Up, Down, 
 use Rattle.rtt_ring.specs.WordRule.{StartsWith, Facts, Mixes, IsWhole, Knows, Stand, Kept, lanes, lane, new_up, new_down, fresh, upper_of, lower_of, up_part, down_part, both, up_looked, holds_word, put_bytes, published, down_looked, next_bytes, took_bytes, gave_back, loads_rd_off, loads_own, stores_bytes, stores_wr_off, loads_wr_off, loads_bytes, stores_rd_off, loads_rest}
 use Rattle.rtt_ring.proofs.WordResidues.{word_of, lane_of, straight}
 
-eight : (w : ℕ) → length (lanes w) ≡ 8
+-- a word has eight bytes
+pub lanes_long : (w : ℕ) → length (lanes w) ≡ 8
 unfolding lanes
-eight w = refl
+lanes_long w = refl
 
 module _ {A : Type 0} where
   pub there : (l : List A) (i : ℕ) (a : A) → get_elem? l i ≡ some a → i < length l
@@ -225,7 +226,7 @@ module _ (z : ℕ) (ws : List ℕ) (u : UpView) (d : DownView) (f : Facts z ws u
       let w : ℕ = slice_index ws (length d.got % z / 8 + 2) in
       let l : ℕ = length d.got % d.size % 8 in
       let l_is : l ≡ length d.got % z % 8 = ap (λ (x : ℕ). length d.got % x % 8) sized in
-      let long : length (take count (drop l (lanes w))) ≡ count = length-take-le count (drop l (lanes w)) (omega (arith, length-drop l (lanes w), eight w)) in (
+      let long : length (take count (drop l (lanes w))) ≡ count = length-take-le count (drop l (lanes w)) (omega (arith, length-drop l (lanes w), lanes_long w)) in (
         long,
         λ t h.
             let i : ℕ = length d.got + t in

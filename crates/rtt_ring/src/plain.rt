@@ -152,7 +152,7 @@ impl PlainRing {
 }
 
 impl UpEnd for PlainRing {
-    ghost use Rattle.std.specs.Prelude.{◌≡◌, ◌-◌, ◌+◌, ◌^◌, ◌≤◌, min, [], length};
+    ghost use Rattle.std.specs.Prelude.{◌≡◌, ◌-◌, ◌+◌, ◌≤◌, min, [], length};
     ghost use Rattle.rtt_ring.specs.Views.{Looked, put_up, published};
     ghost use Rattle.rtt_ring.specs.PlainView.{up_of, down_of};
 

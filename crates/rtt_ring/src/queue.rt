@@ -1,6 +1,6 @@
 //! The ring over a queue.
-ghost use Rattle.std.specs.Prelude.{◌≡◌, ◌+◌, ◌<◌, ◌≤◌, [], ◌∷◌, ◌++◌, length, slice_index, IfOk};
-ghost use Rattle.rtrb.specs.Ring.{known_items, sent, received, known_free};
+ghost use Rattle.std.specs.Prelude.{◌≡◌, ◌+◌, ◌<◌, ◌≤◌, [], ◌∷◌, ◌++◌, length, IfOk};
+ghost use Rattle.rtrb.specs.Ring.{known_items, sent, received};
 ghost use Rattle.rtt_ring.specs.QueueName.{name_of_producer, name_of_consumer};
 
 mod down;

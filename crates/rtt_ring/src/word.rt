@@ -1,7 +1,6 @@
 //! The ring over a table of words.
 ghost use Rattle.std.specs.Prelude.{◌≡◌, ◌+◌, ◌/◌, ◌%◌, ◌<◌, ◌≤◌, [], ◌++◌, length, IfOk, IfErr};
-ghost use Rattle.std.specs.Arc.{arc_value};
-ghost use Rattle.rtt_ring.specs.WordRule.{StartsWith, upper_of, lower_of, IsJoined, IsWhole, new_up, new_down};
+ghost use Rattle.rtt_ring.specs.WordRule.{StartsWith, upper_of, lower_of, IsJoined, new_up, new_down};
 
 mod down;
 mod lanes;

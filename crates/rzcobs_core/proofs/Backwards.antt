@@ -18,7 +18,7 @@ NoZero xs = All (λ b. b ≢ 0) xs
 
 -- facts on each element
 
-NoZero-cons : (x : ℕ) (xs : List ℕ) → x ≢ 0 → NoZero xs → NoZero (x ∷ xs)
+pub NoZero-cons : (x : ℕ) (xs : List ℕ) → x ≢ 0 → NoZero xs → NoZero (x ∷ xs)
 NoZero-cons x xs here more zero d within = here
 NoZero-cons x xs here more (suc k) d within = more k d (omega arith)
 
@@ -350,7 +350,7 @@ moved_down out old at n size is within moved = same_lists (take n out) (drop at 
 
 -- counting
 
-clear_bits-none : (code : ℕ) → clear_bits 0 code ≡ 0
+pub clear_bits-none : (code : ℕ) → clear_bits 0 code ≡ 0
 unfolding clear_bits
 clear_bits-none code = refl
 

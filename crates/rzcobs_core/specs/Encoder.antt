@@ -16,7 +16,7 @@ WritesTo encoder lent = encoder.out.ghost_name ≡ lent.ghost_name
 abbrev pub SameBuffer : Encoder → Encoder → Type 0
 SameBuffer old new = new.out.ghost_name ≡ old.out.ghost_name
 
--- the buffer, as an ended encoder gives it back
+-- the buffer, as whatever writes through a lent one gives it back at its end
 abbrev pub buffer_left : {A : Type 0} → MutBor (List ℕ) × A → List ℕ
 buffer_left exit = exit.0.now
 

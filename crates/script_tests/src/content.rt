@@ -3,8 +3,9 @@ use crate::rows::{Kind, each_line};
 use crate::texts::{inside_of, put_digits_or_nothing, put_settings};
 use defmt_intern::Tag;
 use defmt_lines::{
-    Cause, EntryLine, Form, Line, Settings, StatementLine, is_name, judge, next_line, read_line,
+    Cause, EntryLine, Form, Line, Settings, StatementLine, judge, next_line, read_line,
 };
+use defmt_shapes::is_name;
 use std::alloc::Global;
 use std::fmt::Write;
 use std::test::Fail;
@@ -149,11 +150,7 @@ pub fn put_verdict(alloc: Global, row: &str, out: &mut String) -> Result<(), Fai
 }
 
 pub fn put_name(row: &str, out: &mut String) -> Result<(), Fail> {
-    Ok(out.push_str(if is_name(row.as_bytes()) {
-        "true"
-    } else {
-        "false"
-    })?)
+    Ok(out.push_str(if is_name(row) { "true" } else { "false" })?)
 }
 
 #[test]

@@ -1,15 +1,14 @@
 // Lines and texts of scripts, and of tables by hand.
-ghost use Rattle.std.specs.Prelude.{◌≡◌, OnOk};
-ghost use Rattle.defmt_values.specs.Entries.{is_logged};
+ghost use Rattle.std.specs.Prelude.{OnOk};
 ghost use Rattle.defmt_values.specs.Fits.{IsLogged};
 
 use crate::rows::{Kind, each_block, each_line};
 use crate::shared::{script_of, table_of};
 use defmt_eager::{EagerFault, is_wide, line, text_of};
 use defmt_grammar::Text;
-use defmt_intern::{Table, Tag};
+use defmt_intern::Table;
 use defmt_script::Script;
-use defmt_values::{Args, Statement, Value, check, look_up};
+use defmt_values::{Args, Statement, Value, check, is_logged, look_up};
 use dl_io::Bytes;
 use std::alloc::Global;
 use std::fmt::Write;
@@ -72,15 +71,6 @@ const WIDE: &str = "\
 const WIDE_STAMP: &str = "\
 1 defmt_println bare
 2 defmt_timestamp {=[u8]:#0255b}";
-
-fn is_logged(tag: &Tag) -> bool
-    ensures { result ≡ is_logged tag.now }
-{
-    matches!(
-        tag,
-        Tag::Trace | Tag::Debug | Tag::Info | Tag::Warn | Tag::Error | Tag::Println
-    )
-}
 
 fn logged(table: &Table, index: u16) -> Result<(), &'static str>
     ensures { OnOk result (IsLogged table.now.entries index) }

@@ -1,5 +1,5 @@
 //! The eight bytes of a word.
-ghost use Rattle.std.specs.Prelude.{◌≡◌, ℕ, ◌+◌, ◌<◌, ◌≤◌, ◌++◌, length, take, drop};
+ghost use Rattle.std.specs.Prelude.{◌≡◌, ◌+◌, ◌≤◌, ◌++◌, length, take, drop};
 ghost use Rattle.rtt_ring.specs.WordRule.{Mixes, lanes};
 
 use dl_io::Bytes;

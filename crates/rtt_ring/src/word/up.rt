@@ -1,5 +1,5 @@
 //! The upper end of a word ring.
-ghost use Rattle.std.specs.Prelude.{◌≡◌, ◌+◌, ◌*◌, ◌%◌, ◌<◌, ◌≤◌, [], ◌++◌, length, take, Some};
+ghost use Rattle.std.specs.Prelude.{◌≡◌, ◌+◌, ◌*◌, ◌%◌, ◌<◌, ◌≤◌, [], length, take, Some};
 ghost use Rattle.std.specs.Arc.{arc_value};
 ghost use Rattle.rtt_ring.specs.WordRule.{upper_of, put_bytes};
 ghost use Rattle.rtt_ring.specs.WordKept.{IsUp};

@@ -1,4 +1,4 @@
-use Rattle.std.proofs.Common.{◌≡◌, List, ℕ, string_bytes, subst, sym}
+use Rattle.std.proofs.Common.{List, ℕ, string_bytes, subst, sym}
 use Rattle.std.proofs.lemmas.Str.{IsUtf8-string_bytes}
 use Rattle.serde_json.specs.View.{view}
 use Rattle.defmt_intern.specs.Name.{Names}

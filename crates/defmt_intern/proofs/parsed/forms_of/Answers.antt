@@ -1,4 +1,4 @@
-use Rattle.std.proofs.Common.{sym, ◌∙◌, ap, Some, List, arith, subst, ◌++◌, ◌∷◌, []}
+use Rattle.std.proofs.Common.{sym, ◌∙◌, ap, Some, List, arith}
 use Rattle.defmt_grammar.specs.declared.piece.Piece.{Piece}
 use Rattle.defmt_intern.specs.Body.{variants, forms_of}
 use Rattle.defmt_intern.proofs.BodyLaws.{behind_forms, goes_on, stops, ends, ends_none, shorter_behind}

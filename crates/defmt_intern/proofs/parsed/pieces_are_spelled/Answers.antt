@@ -1,4 +1,4 @@
-use Rattle.defmt_intern.proofs.BodyLaws.{pieces_found, pieces_again}
+use Rattle.defmt_intern.proofs.PieceLaws.{pieces_found, pieces_again}
 use Rattle.defmt_intern.proofs.parsed.pieces_are_spelled.Goals as goal
 
 pub returns-clause-found : goal.returns-clause-found

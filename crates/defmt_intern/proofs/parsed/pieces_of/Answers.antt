@@ -1,6 +1,6 @@
 use Rattle.std.proofs.Common.{sym}
 use Rattle.defmt_grammar.specs.declared.fault.Mode.TheVariants.{Lenient}
-use Rattle.defmt_intern.proofs.BodyLaws.{pieces_again, pieces_none}
+use Rattle.defmt_intern.proofs.PieceLaws.{pieces_again, pieces_none}
 use Rattle.defmt_intern.proofs.parsed.pieces_of.Goals as goal
 
 pub returns-in-Ok : goal.returns-in-Ok

@@ -1,7 +1,7 @@
 use Rattle.std.proofs.Common.{List, ℕ, Option, sym, subst, ◌∙◌, Bor}
 use Rattle.std.specs.Option.{option_copied}
 use Rattle.defmt_shapes.specs.declared.scan.Bracket.TheVariants.{Round}
-use Rattle.defmt_shapes.specs.Escapes.{parts_of}
+use Rattle.defmt_grammar.specs.Cut.{parts_of}
 use Rattle.defmt_shapes.specs.Scan.{IsEnclosed}
 use Rattle.defmt_shapes.proofs.ValueLaws.{ends_found, ends_not, no_item, item_none, item_open, item_value}
 use Rattle.defmt_shapes.proofs.spelling.first_item.Goals as goal

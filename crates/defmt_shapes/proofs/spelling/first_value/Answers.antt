@@ -3,7 +3,7 @@ use Rattle.std.specs.Option.{option_copied}
 use Rattle.defmt_shapes.specs.declared.head.Head.{Head}
 use Rattle.defmt_shapes.specs.declared.scan.Bracket.TheVariants.{Round, Square}
 use Rattle.defmt_shapes.specs.Shape as shapes
-use Rattle.defmt_shapes.specs.Escapes.{parts_of}
+use Rattle.defmt_grammar.specs.Cut.{parts_of}
 use Rattle.defmt_shapes.specs.Leads.{view_head, view_whole, IsLead}
 use Rattle.defmt_shapes.specs.Scan.{IsEnclosed}
 use Rattle.defmt_shapes.proofs.ValueLaws.{ends_found, ends_not, no_head, is_whole, whole_value, whole_open, call_value, call_none, call_open, sequence_value, sequence_none, sequence_open}

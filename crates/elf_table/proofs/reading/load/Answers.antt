@@ -1,4 +1,4 @@
-use Rattle.std.proofs.Common.{◌≡◌, ap, sym, subst, arith, List, length}
+use Rattle.std.proofs.Common.{subst, arith, List}
 use Rattle.elf_section.specs.Symbol.{plain_all}
 use Rattle.elf_section.specs.declared.symbols.Symbol.{Symbol}
 use Rattle.elf_table.specs.Names.{Makes}

@@ -1,7 +1,7 @@
-use Rattle.std.proofs.Common.{◌≡◌, ◌<◌, refl, sym, ap, ◌∙◌, arith, rules, length, subst, Some, option_map, ℕ}
-use Rattle.std.proofs.lemmas.Option.{slice_get_read, slice_get-map}
+use Rattle.std.proofs.Common.{◌≡◌, refl, ap, ◌∙◌, arith, length, subst, ℕ}
+use Rattle.std.proofs.lemmas.Option.{slice_get_read}
 use Rattle.elf_section.specs.Symbol.{plain, plain_all}
-use Rattle.elf_table.specs.Names.{At, Made, Makes, StepRefused, cause_number}
+use Rattle.elf_table.specs.Names.{At, Made, StepRefused, cause_number}
 use Rattle.elf_section.proofs.WritingLaws.{items}
 use Rattle.elf_table.proofs.TableLaws.{made_none, made_more, refuse_step, symbol_at}
 use Rattle.elf_table.proofs.reading.table_of.Goals as goal

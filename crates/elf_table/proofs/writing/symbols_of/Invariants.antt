@@ -1,4 +1,4 @@
-use Rattle.std.proofs.Common.{◌≡◌, ℕ, Bor, map as map_list}
+use Rattle.std.proofs.Common.{◌≡◌, map as map_list}
 use Rattle.std.specs.List.{All}
 use Rattle.elf_section.specs.Symbol.{plain_all}
 use Rattle.elf_table.specs.Listed.{symbol_of, IsNamed}

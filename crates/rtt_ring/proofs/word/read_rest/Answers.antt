@@ -6,7 +6,8 @@ use Rattle.rtt_ring.specs.declared.word.view.View.{View}
 use Rattle.rtt_ring.specs.declared.word.view.View.TheVariants.{Both}
 use Rattle.rtt_ring.specs.WordRule.{StartsWith, upper_of, lower_of, loads_rest, lanes}
 use Rattle.rtt_ring.proofs.WordMoves.{both_loads_rest, longer_fronts}
-use Rattle.rtt_ring.proofs.WordKeeps.{left_is, whole_front, next_is, rest_bytes, lanes_long}
+use Rattle.rtt_ring.proofs.WordKeeps.{left_is, whole_front, next_is, rest_bytes}
+use Rattle.rtt_ring.proofs.WordMoves.{lanes_long}
 use Rattle.rtt_ring.proofs.word.read_rest.Goals as goal
 
 pub load-requires : goal.load-requires

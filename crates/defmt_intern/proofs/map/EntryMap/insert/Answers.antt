@@ -1,6 +1,5 @@
-use Rattle.std.proofs.Common.{◌≡◌, ◌∙◌, sym, ℕ, ap}
+use Rattle.std.proofs.Common.{◌∙◌, sym}
 use Rattle.std.specs.FinMap as map
-use Rattle.defmt_intern.specs.Table.{InsertRefused}
 use Rattle.defmt_intern.proofs.TableLaws.{none_there, puts, may_insert}
 use Rattle.defmt_intern.proofs.map.EntryMap.insert.Goals as goal
 

@@ -1,6 +1,6 @@
-use Rattle.std.proofs.Common.{arith, subst}
+use Rattle.std.proofs.Common.{subst}
 use Rattle.defmt_intern.proofs.TableLaws.{next_none, next_some}
-use Rattle.defmt_intern.specs.Table.{Map, IsLawful}
+use Rattle.defmt_intern.specs.Table.{IsLawful}
 use Rattle.defmt_intern.proofs.map.EntryMap.next_index.Goals as goal
 
 pub returns-in-None : goal.returns-in-None

@@ -1,4 +1,4 @@
-use Rattle.std.proofs.Common.{◌≡◌, ◌∙◌, sym, ap, arith, subst, Some}
+use Rattle.std.proofs.Common.{◌≡◌, sym, arith, subst, Some}
 use Rattle.std.specs.FinMap as map
 use Rattle.defmt_intern.specs.Table.{Map, IsKept, map_of}
 use Rattle.defmt_intern.proofs.TableLaws.{is_short, kept_stamp, kept_other, put_is}

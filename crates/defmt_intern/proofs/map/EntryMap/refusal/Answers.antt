@@ -2,7 +2,7 @@ use Rattle.std.proofs.Common.{arith, ap, length}
 use Rattle.defmt_intern.proofs.TableLaws.{no_stamp, no_refusal}
 use Rattle.defmt_intern.proofs.map.EntryMap.refusal.Goals as goal
 use Rattle.defmt_intern.proofs.map.EntryMap.refusal.Goals.{else-is_stamp-via-then-is_stamp+else-is_some, else-is_stamp-via-else-is_stamp}
-use Rattle.defmt_intern.specs.Table.{Map, StampIs, IsSecond}
+use Rattle.defmt_intern.specs.Table.{Map, StampIs}
 use Rattle.std.proofs.Common.{subst, sym, ◌∙◌}
 
 pub returns : goal.returns

@@ -2,7 +2,8 @@ use Rattle.std.proofs.Common.{◌≡◌, ℕ, suc, List, [], ◌∷◌, ◌+◌,
 use Rattle.std.proofs.lemmas.List.{drop-set-lt}
 use Rattle.std.proofs.lemmas.Slice.{take-put_mid, drop-put_mid}
 use Rattle.rtt_ring.specs.WordRule.{lanes}
-use Rattle.rtt_ring.proofs.WordKeeps.{lanes_to, lanes_long}
+use Rattle.rtt_ring.proofs.WordKeeps.{lanes_to}
+use Rattle.rtt_ring.proofs.WordMoves.{lanes_long}
 use Rattle.rtt_ring.proofs.word.lanes.copy_lanes.Goals as goal
 
 -- one more item is copied
