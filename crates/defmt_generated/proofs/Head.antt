@@ -1,10 +1,11 @@
 -- The nine lines that set up a generated script, and the state behind them.
-use Rattle.std.proofs.Common.{◌≡◌, ◌+◌, ℕ, Bool, true, false, List, [], ◌∷◌, ◌++◌, Option, Some, None, Result, Ok, Err, refl, sym, ap, subst, ◌∙◌, inl, inr, lit≤}
+use Rattle.std.proofs.Common.{◌≡◌, ◌<◌, ◌+◌, ℕ, Bool, true, false, List, [], ◌∷◌, ◌++◌, Option, Some, None, Result, Ok, Err, refl, sym, ap, subst, ◌∙◌, inl, inr, lit≤, lit<, arith}
 use Rattle.std.specs.Prelude.{codes, if◌then◌else◌, is_some, nat_lt, not}
 use Rattle.std.specs.FinMap as map
 use Rattle.std.specs.Cmp.{nat_cmp_total}
 use Rattle.std.specs.Cmp.Lexicographic.{nat_list_cmp_total, slice_cmp}
 use Rattle.std.specs.Ordering.{nat_cmp}
+use Rattle.std.proofs.lemmas.Bool.Decides.{nat_tests}
 use Rattle.defmt_generated.proofs.Fields.{said}
 use Rattle.defmt_generated.proofs.Texts.{tested}
 use Rattle.defmt_generated.proofs.Words.{boot_pieces, boot_spells, fail_pieces, fail_spells, link_pieces, link_spells, temp_pieces, temp_spells, tick_pieces, tick_spells}
@@ -16,18 +17,20 @@ use Rattle.defmt_intern.specs.declared.entry.Entry.{Entry}
 use Rattle.defmt_intern.specs.declared.entry.Tag.{Tag}
 use Rattle.defmt_intern.specs.declared.entry.Tag.TheVariants as tags
 use Rattle.defmt_lines.specs.Form.{in_order}
+use Rattle.defmt_lines.proofs.SettingLaws.{set_found}
+use Rattle.defmt_lines.specs.Line.{Line, Says, entry, entry_of, field_and_rest, head, one_field, two_fields, worded}
 use Rattle.defmt_shapes.specs.Shape.{is_name}
-use Rattle.defmt_lines.specs.Line.{Line, entry, entry_of, field_and_rest, line_of, mode, one_field, reader, ring, stamp, two_fields, worded}
 use Rattle.defmt_lines.specs.Number.{has_leading_zero, is_digits, number_within, within}
-use Rattle.defmt_lines.specs.Settings.{with_mode, with_reader, with_ring, with_stamp}
+use Rattle.defmt_lines.specs.Settings.{with_mode, with_reader, with_ring, with_stamp, with_words}
 use Rattle.defmt_lines.specs.Verdict.{Judges}
 use Rattle.defmt_lines.specs.declared.cause.Cause.{Cause}
 use Rattle.defmt_lines.specs.declared.cause.Cause.TheVariants as causes
 use Rattle.defmt_lines.specs.declared.form.Form.{Form}
 use Rattle.defmt_lines.specs.declared.form.Form.TheVariants as forms
 use Rattle.defmt_lines.specs.declared.settings.RingMode.TheVariants.{Block}
-use Rattle.defmt_script.specs.Reads.{ReadsLines, Takes, TakesString, admits_string, takes_string, with_string}
-use Rattle.defmt_script.specs.Script.{Refusal, Script}
+use Rattle.defmt_script.proofs.Counts.{len-added, no_names}
+use Rattle.defmt_script.specs.Reads.{ReadsLines, Takes, TakesString, admits_string, sets, string_at, takes_string, with_string}
+use Rattle.defmt_script.specs.Script.{Refusal, Script, count_strings}
 use Rattle.defmt_script.specs.State.{State, entry_at, no_lines, no_statements, stamp_entry, strings_limit}
 use Rattle.defmt_spelling.specs.Names.{NameMap}
 
@@ -43,8 +46,6 @@ Taken = Result State Cause
 abbrev settled : Form → Option (ℕ × ℕ) → State
 settled form stamps = record {
   first = form;
-  strings = 0;
-  statements = 0;
   script = record {
     settings = record { ring = 1024; mode = Block; late = false; stamp = stamps };
     table = map.empty;
@@ -57,20 +58,20 @@ abbrev no_strings : State
 no_strings = settled forms.Entry (Some (1000, 250))
 
 abbrev one_string : State
-one_string = with_string no_strings (codes "boot") tags.Info (codes "boot {=u8}")
+one_string = string_at 1 no_strings (codes "boot") tags.Info (codes "boot {=u8}")
 
 abbrev two_strings : State
-two_strings = with_string one_string (codes "temp") tags.Debug (codes "temp {=i16} of {=[u8]:02x}")
+two_strings = string_at 2 one_string (codes "temp") tags.Debug (codes "temp {=i16} of {=[u8]:02x}")
 
 abbrev three_strings : State
-three_strings = with_string two_strings (codes "link") tags.Warn (codes "link {=bool} {=str:?}")
+three_strings = string_at 3 two_strings (codes "link") tags.Warn (codes "link {=bool} {=str:?}")
 
 abbrev four_strings : State
-four_strings = with_string three_strings (codes "fail") tags.Error (codes "fail {=u32:#010x}")
+four_strings = string_at 4 three_strings (codes "fail") tags.Error (codes "fail {=u32:#010x}")
 
 -- behind the nine lines
 abbrev pub ready : State
-ready = with_string four_strings (codes "tick") tags.Trace (codes "tick {=u64}")
+ready = string_at 5 four_strings (codes "tick") tags.Trace (codes "tick {=u64}")
 
 -- ---- names and entries
 
@@ -119,45 +120,84 @@ entry_there index o is = map.get-from_entries nat_cmp_total entries index ∙ is
 new_name : (es : Named) (name : List ℕ) → map.find (slice_cmp nat_cmp) name es ≡ None → map.get (map.from_entries {R = slice_cmp nat_cmp} es) name ≡ None
 new_name es name none = map.get-from_entries nat_list_cmp_total es name ∙ none
 
+-- ---- how many strings there are
+
+one_more : (names : NameMap) (name : List ℕ) (k n : ℕ) → map.get names name ≡ None → map.len names ≡ n → map.len (map.insert names name k) ≡ n + 1
+one_more names name k n new is = len-added names name k new ∙ ap (λ (m : ℕ). m + 1) is
+
+none_yet : count_strings no_strings.script ≡ 0
+none_yet = no_names
+
+one_yet : count_strings one_string.script ≡ 1
+one_yet = one_more no_strings.script.names (codes "boot") 1 0 (new_name [] (codes "boot") refl) none_yet
+
+two_yet : count_strings two_strings.script ≡ 2
+two_yet = one_more one_string.script.names (codes "temp") 2 1 (new_name one_name (codes "temp") refl) one_yet
+
+three_yet : count_strings three_strings.script ≡ 3
+three_yet = one_more two_strings.script.names (codes "link") 3 2 (new_name two_names (codes "link") refl) two_yet
+
+four_yet : count_strings four_strings.script ≡ 4
+four_yet = one_more three_strings.script.names (codes "fail") 4 3 (new_name three_names (codes "fail") refl) three_yet
+
+pub all_counted : count_strings ready.script ≡ 5
+all_counted = one_more four_strings.script.names (codes "tick") 5 4 (new_name four_names (codes "tick") refl) four_yet
+
 -- ---- a line
 
 line_taken : (before after : State) (number : ℕ) (bytes : List ℕ) (line : Line) (more : List (List ℕ)) (read : Answer)
-    → line_of bytes ≡ line → Takes before line (Ok after) → ReadsLines after (number + 1) more read → ReadsLines before number (bytes ∷ more) read
-line_taken before after number bytes line more read is takes rest = inl (after, subst (λ (l : Line). Takes before l (Ok after)) (sym is) takes, rest)
+    → Says bytes line → Takes before line (Ok after) → ReadsLines after (number + 1) more read → ReadsLines before number (bytes ∷ more) read
+line_taken before after number bytes line more read says takes rest = inl (line, after, says, takes, rest)
 
 -- ---- settings
 
-ring_taken : Takes no_lines (ring (codes "1024")) (Ok (settled forms.Mode None))
+abbrev ring_line : Line
+ring_line = head forms.Ring (codes "1024" ∷ [])
+
+abbrev mode_line : Line
+mode_line = head forms.Mode (codes "block" ∷ [])
+
+abbrev reader_line : Line
+reader_line = head forms.Reader (codes "live" ∷ [])
+
+abbrev stamp_line : Line
+stamp_line = head forms.Stamp (codes "1000" ∷ codes "250" ∷ [])
+
+-- what the words of a line set is taken where its form may come
+setting_taken : (before after : State) (form : Form) (words : List (List ℕ)) → sets before form (with_words form words before.script.settings) ≡ Ok after → Takes before (head form words) (Ok after)
+setting_taken before after form words is = (with_words form words before.script.settings, set_found form words before.script.settings, sym is)
+
+ring_taken : Takes no_lines ring_line (Ok (settled forms.Mode None))
 unfolding with_ring number_within is_digits has_leading_zero within
-ring_taken = refl
+ring_taken = setting_taken no_lines (settled forms.Mode None) forms.Ring (codes "1024" ∷ []) refl
 
-mode_taken : Takes (settled forms.Mode None) (mode (codes "block")) (Ok (settled forms.Reader None))
+mode_taken : Takes (settled forms.Mode None) mode_line (Ok (settled forms.Reader None))
 unfolding with_mode
-mode_taken = refl
+mode_taken = setting_taken (settled forms.Mode None) (settled forms.Reader None) forms.Mode (codes "block" ∷ []) refl
 
-reader_taken : Takes (settled forms.Reader None) (reader (codes "live")) (Ok (settled forms.Stamp None))
+reader_taken : Takes (settled forms.Reader None) reader_line (Ok (settled forms.Stamp None))
 unfolding with_reader
-reader_taken = refl
+reader_taken = setting_taken (settled forms.Reader None) (settled forms.Stamp None) forms.Reader (codes "live" ∷ []) refl
 
-stamp_taken : Takes (settled forms.Stamp None) (stamp (codes "1000") (codes "250")) (Ok no_strings)
+stamp_taken : Takes (settled forms.Stamp None) stamp_line (Ok no_strings)
 unfolding with_stamp number_within is_digits has_leading_zero within
-stamp_taken = refl
+stamp_taken = setting_taken (settled forms.Stamp None) no_strings forms.Stamp (codes "1000" ∷ codes "250" ∷ []) refl
 
-ring_said : line_of (codes "ring 1024") ≡ ring (codes "1024")
+ring_said : Says (codes "ring 1024") ring_line
 unfolding worded one_field cut
-ring_said = said (codes "ring 1024") (ring (codes "1024")) (tested (codes "ring 1024") refl) refl
+ring_said = said (codes "ring 1024") ring_line (tested (codes "ring 1024") refl) refl
 
-mode_said : line_of (codes "mode block") ≡ mode (codes "block")
+mode_said : Says (codes "mode block") mode_line
 unfolding worded one_field cut
-mode_said = said (codes "mode block") (mode (codes "block")) (tested (codes "mode block") refl) refl
+mode_said = said (codes "mode block") mode_line (tested (codes "mode block") refl) refl
 
-reader_said : line_of (codes "reader live") ≡ reader (codes "live")
+reader_said : Says (codes "reader live") reader_line
 unfolding worded one_field cut
-reader_said = said (codes "reader live") (reader (codes "live")) (tested (codes "reader live") refl) refl
+reader_said = said (codes "reader live") reader_line (tested (codes "reader live") refl) refl
 
-stamp_said : line_of (codes "stamp 1000 250") ≡ stamp (codes "1000") (codes "250")
+stamp_said : Says (codes "stamp 1000 250") stamp_line
 unfolding worded one_field two_fields cut
-stamp_said = said (codes "stamp 1000 250") (stamp (codes "1000") (codes "250")) (tested (codes "stamp 1000 250") refl) refl
+stamp_said = said (codes "stamp 1000 250") stamp_line (tested (codes "stamp 1000 250") refl) refl
 
 -- ---- strings
 
@@ -176,22 +216,29 @@ admitted true true true e f g = absurd (cc g)
 admitted true false c e f g = absurd (cc f)
 admitted false b c e f g = absurd (cc e)
 
-string_taken : (s : State) (name : List ℕ) (tag : Tag) (text : List ℕ) → in_order s.first forms.Entry ≡ true → is_name name ≡ true → map.get s.script.names name ≡ None
-    → nat_lt s.strings strings_limit ≡ true → Judges tag text None → Takes s (entry name tag text) (Ok (with_string s name tag text))
-string_taken s name tag text first spelled new few judged =
-    let taken : Taken = Ok (with_string s name tag text) in
+below : (m n : ℕ) → m < n → nat_lt m n ≡ true
+below m n lt = grind (arith, nat_tests)
+
+-- a new string behind so many
+string_taken : (n : ℕ) (s : State) (name : List ℕ) (tag : Tag) (text : List ℕ) → in_order s.first forms.Entry ≡ true → is_name name ≡ true → map.get s.script.names name ≡ None
+    → count_strings s.script ≡ n → n < 65534 → Judges tag text None → Takes s (entry name tag text) (Ok (string_at (n + 1) s name tag text))
+string_taken n s name tag text first spelled new is few judged =
+    let taken : Taken = Ok (string_at (n + 1) s name tag text) in
+    let next : Taken = Ok (with_string s name tag text) in
     let fits : admits_string s name ≡ admits = admitted (in_order s.first forms.Entry) (is_name name) (is_some (map.get s.script.names name)) first spelled (ap is_some new) in
-    let here : taken ≡ takes_string s name tag text None = rw few refl in
-    subst (λ (a : Admitted). TakesString s name tag text a taken) (sym fits) (None, judged, here)
+    let room : nat_lt (count_strings s.script) strings_limit ≡ true = below (count_strings s.script) strings_limit (omega (arith, is, few)) in
+    let open_yet : next ≡ takes_string s name tag text None = rw room refl in
+    let same : taken ≡ next = ap (λ (k : ℕ). let t : Taken = Ok (string_at (k + 1) s name tag text) in t) (sym is) in
+    subst (λ (a : Admitted). TakesString s name tag text a taken) (sym fits) (None, judged, same ∙ open_yet)
 
 boot_judged : Judges tags.Info (codes "boot {=u8}") None
 unfolding Judges
 boot_judged = inr (lit≤ tt, inl (boot_pieces, boot_spells Strict, refl))
 
 boot_taken : Takes no_strings (entry (codes "boot") tags.Info (codes "boot {=u8}")) (Ok one_string)
-boot_taken = string_taken no_strings (codes "boot") tags.Info (codes "boot {=u8}") refl refl (new_name [] (codes "boot") refl) refl boot_judged
+boot_taken = string_taken 0 no_strings (codes "boot") tags.Info (codes "boot {=u8}") refl refl (new_name [] (codes "boot") refl) none_yet (lit< tt) boot_judged
 
-boot_said : line_of (codes "s boot defmt_info boot {=u8}") ≡ entry (codes "boot") tags.Info (codes "boot {=u8}")
+boot_said : Says (codes "s boot defmt_info boot {=u8}") (entry (codes "boot") tags.Info (codes "boot {=u8}"))
 unfolding worded entry_of field_and_rest cut
 boot_said = said (codes "s boot defmt_info boot {=u8}") (entry (codes "boot") tags.Info (codes "boot {=u8}")) (tested (codes "s boot defmt_info boot {=u8}") refl) refl
 
@@ -200,9 +247,9 @@ unfolding Judges
 temp_judged = inr (lit≤ tt, inl (temp_pieces, temp_spells Strict, refl))
 
 temp_taken : Takes one_string (entry (codes "temp") tags.Debug (codes "temp {=i16} of {=[u8]:02x}")) (Ok two_strings)
-temp_taken = string_taken one_string (codes "temp") tags.Debug (codes "temp {=i16} of {=[u8]:02x}") refl refl (new_name one_name (codes "temp") refl) refl temp_judged
+temp_taken = string_taken 1 one_string (codes "temp") tags.Debug (codes "temp {=i16} of {=[u8]:02x}") refl refl (new_name one_name (codes "temp") refl) one_yet (lit< tt) temp_judged
 
-temp_said : line_of (codes "s temp defmt_debug temp {=i16} of {=[u8]:02x}") ≡ entry (codes "temp") tags.Debug (codes "temp {=i16} of {=[u8]:02x}")
+temp_said : Says (codes "s temp defmt_debug temp {=i16} of {=[u8]:02x}") (entry (codes "temp") tags.Debug (codes "temp {=i16} of {=[u8]:02x}"))
 unfolding worded entry_of field_and_rest cut
 temp_said = said (codes "s temp defmt_debug temp {=i16} of {=[u8]:02x}") (entry (codes "temp") tags.Debug (codes "temp {=i16} of {=[u8]:02x}")) (tested (codes "s temp defmt_debug temp {=i16} of {=[u8]:02x}") refl) refl
 
@@ -211,9 +258,9 @@ unfolding Judges
 link_judged = inr (lit≤ tt, inl (link_pieces, link_spells Strict, refl))
 
 link_taken : Takes two_strings (entry (codes "link") tags.Warn (codes "link {=bool} {=str:?}")) (Ok three_strings)
-link_taken = string_taken two_strings (codes "link") tags.Warn (codes "link {=bool} {=str:?}") refl refl (new_name two_names (codes "link") refl) refl link_judged
+link_taken = string_taken 2 two_strings (codes "link") tags.Warn (codes "link {=bool} {=str:?}") refl refl (new_name two_names (codes "link") refl) two_yet (lit< tt) link_judged
 
-link_said : line_of (codes "s link defmt_warn link {=bool} {=str:?}") ≡ entry (codes "link") tags.Warn (codes "link {=bool} {=str:?}")
+link_said : Says (codes "s link defmt_warn link {=bool} {=str:?}") (entry (codes "link") tags.Warn (codes "link {=bool} {=str:?}"))
 unfolding worded entry_of field_and_rest cut
 link_said = said (codes "s link defmt_warn link {=bool} {=str:?}") (entry (codes "link") tags.Warn (codes "link {=bool} {=str:?}")) (tested (codes "s link defmt_warn link {=bool} {=str:?}") refl) refl
 
@@ -222,9 +269,9 @@ unfolding Judges
 fail_judged = inr (lit≤ tt, inl (fail_pieces, fail_spells Strict, refl))
 
 fail_taken : Takes three_strings (entry (codes "fail") tags.Error (codes "fail {=u32:#010x}")) (Ok four_strings)
-fail_taken = string_taken three_strings (codes "fail") tags.Error (codes "fail {=u32:#010x}") refl refl (new_name three_names (codes "fail") refl) refl fail_judged
+fail_taken = string_taken 3 three_strings (codes "fail") tags.Error (codes "fail {=u32:#010x}") refl refl (new_name three_names (codes "fail") refl) three_yet (lit< tt) fail_judged
 
-fail_said : line_of (codes "s fail defmt_error fail {=u32:#010x}") ≡ entry (codes "fail") tags.Error (codes "fail {=u32:#010x}")
+fail_said : Says (codes "s fail defmt_error fail {=u32:#010x}") (entry (codes "fail") tags.Error (codes "fail {=u32:#010x}"))
 unfolding worded entry_of field_and_rest cut
 fail_said = said (codes "s fail defmt_error fail {=u32:#010x}") (entry (codes "fail") tags.Error (codes "fail {=u32:#010x}")) (tested (codes "s fail defmt_error fail {=u32:#010x}") refl) refl
 
@@ -233,9 +280,9 @@ unfolding Judges
 tick_judged = inr (lit≤ tt, inl (tick_pieces, tick_spells Strict, refl))
 
 tick_taken : Takes four_strings (entry (codes "tick") tags.Trace (codes "tick {=u64}")) (Ok ready)
-tick_taken = string_taken four_strings (codes "tick") tags.Trace (codes "tick {=u64}") refl refl (new_name four_names (codes "tick") refl) refl tick_judged
+tick_taken = string_taken 4 four_strings (codes "tick") tags.Trace (codes "tick {=u64}") refl refl (new_name four_names (codes "tick") refl) four_yet (lit< tt) tick_judged
 
-tick_said : line_of (codes "s tick defmt_trace tick {=u64}") ≡ entry (codes "tick") tags.Trace (codes "tick {=u64}")
+tick_said : Says (codes "s tick defmt_trace tick {=u64}") (entry (codes "tick") tags.Trace (codes "tick {=u64}"))
 unfolding worded entry_of field_and_rest cut
 tick_said = said (codes "s tick defmt_trace tick {=u64}") (entry (codes "tick") tags.Trace (codes "tick {=u64}")) (tested (codes "s tick defmt_trace tick {=u64}") refl) refl
 
@@ -254,9 +301,9 @@ head_read more read rest =
     let from_boot : List (List ℕ) = codes "s boot defmt_info boot {=u8}" ∷ from_temp in
     let boot_on : ReadsLines no_strings 5 from_boot read = line_taken no_strings one_string 5 (codes "s boot defmt_info boot {=u8}") (entry (codes "boot") tags.Info (codes "boot {=u8}")) from_temp read boot_said boot_taken temp_on in
     let from_stamp : List (List ℕ) = codes "stamp 1000 250" ∷ from_boot in
-    let stamp_on : ReadsLines (settled forms.Stamp None) 4 from_stamp read = line_taken (settled forms.Stamp None) no_strings 4 (codes "stamp 1000 250") (stamp (codes "1000") (codes "250")) from_boot read stamp_said stamp_taken boot_on in
+    let stamp_on : ReadsLines (settled forms.Stamp None) 4 from_stamp read = line_taken (settled forms.Stamp None) no_strings 4 (codes "stamp 1000 250") stamp_line from_boot read stamp_said stamp_taken boot_on in
     let from_reader : List (List ℕ) = codes "reader live" ∷ from_stamp in
-    let reader_on : ReadsLines (settled forms.Reader None) 3 from_reader read = line_taken (settled forms.Reader None) (settled forms.Stamp None) 3 (codes "reader live") (reader (codes "live")) from_stamp read reader_said reader_taken stamp_on in
+    let reader_on : ReadsLines (settled forms.Reader None) 3 from_reader read = line_taken (settled forms.Reader None) (settled forms.Stamp None) 3 (codes "reader live") reader_line from_stamp read reader_said reader_taken stamp_on in
     let from_mode : List (List ℕ) = codes "mode block" ∷ from_reader in
-    let mode_on : ReadsLines (settled forms.Mode None) 2 from_mode read = line_taken (settled forms.Mode None) (settled forms.Reader None) 2 (codes "mode block") (mode (codes "block")) from_reader read mode_said mode_taken reader_on in
-    line_taken no_lines (settled forms.Mode None) 1 (codes "ring 1024") (ring (codes "1024")) from_mode read ring_said ring_taken mode_on
+    let mode_on : ReadsLines (settled forms.Mode None) 2 from_mode read = line_taken (settled forms.Mode None) (settled forms.Reader None) 2 (codes "mode block") mode_line from_reader read mode_said mode_taken reader_on in
+    line_taken no_lines (settled forms.Mode None) 1 (codes "ring 1024") ring_line from_mode read ring_said ring_taken mode_on

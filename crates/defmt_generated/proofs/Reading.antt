@@ -8,20 +8,20 @@ use Rattle.defmt_eager.specs.Show.{eager_text}
 use Rattle.defmt_generate.specs.Generated.{drawn, generated}
 use Rattle.defmt_generated.proofs.Calls.{Call, called}
 use Rattle.defmt_generated.proofs.Fields.{statement_said}
-use Rattle.defmt_generated.proofs.Head.{all_names, full_table, head_read, ready}
+use Rattle.defmt_generated.proofs.Head.{all_counted, all_names, full_table, head_read, ready}
 use Rattle.defmt_generated.proofs.Lines.{generated_lines, statement_printable}
 use Rattle.defmt_generated.specs.Lines.{head_lines, statement_line, statement_lines}
 use Rattle.defmt_intern.specs.Table.{Map}
 use Rattle.defmt_lines.specs.Form.{in_order}
-use Rattle.defmt_lines.specs.Line.{Line, line_of, statement}
+use Rattle.defmt_lines.specs.Line.{Line, Says, act}
 use Rattle.defmt_lines.specs.declared.cause.Cause.{Cause}
 use Rattle.defmt_lines.specs.declared.cause.Cause.TheVariants as causes
 use Rattle.defmt_lines.specs.declared.form.Form.{Form}
 use Rattle.defmt_lines.specs.declared.form.Form.TheVariants as forms
 use Rattle.defmt_script.specs.Lawful.{first_message, message_limit, statements_limit}
 use Rattle.defmt_script.specs.Reads.{Reads, ReadsLines, Takes, TakesStatement, admits_index, admits_statement, is_message, takes_arguments, with_statement}
-use Rattle.defmt_script.specs.Script.{Refusal, Script, add_statement, count_all}
-use Rattle.defmt_script.specs.State.{State, closed, no_lines}
+use Rattle.defmt_script.specs.Script.{Refusal, Script, add_statement, count_all, count_statements}
+use Rattle.defmt_script.specs.State.{State, closed, no_lines, stamp_entry}
 use Rattle.defmt_spelling.specs.Names.{NameMap}
 use Rattle.defmt_spelling.specs.Spelling.{ReadsArguments}
 use Rattle.defmt_values.specs.declared.value.Statement.{Statement}
@@ -34,7 +34,6 @@ Place = Result (ℕ × ℕ) Cause
 
 -- so many statements are read
 record Follows (count : ℕ) (s : State) : Type 0 where
-  done : (closed s).statements ≡ count
   shut : (closed s).first ≡ forms.Statement
   table : (closed s).script.table ≡ full_table
   names : (closed s).script.names ≡ all_names
@@ -43,7 +42,14 @@ record Follows (count : ℕ) (s : State) : Type 0 where
   eight : length (closed s).script.writers ≡ 8
 
 follows_ready : Follows 0 ready
-follows_ready = record { done = refl; shut = refl; table = refl; names = refl; stamp = refl; all = refl; eight = refl }
+follows_ready = record {
+  shut = refl;
+  table = ap (λ (n : ℕ). let t : Map = map.insert ready.script.table (n + 1) (stamp_entry (n + 1)) in t) all_counted;
+  names = refl;
+  stamp = refl;
+  all = refl;
+  eight = refl;
+}
 
 -- ---- one statement
 
@@ -68,7 +74,6 @@ follows_next count w s stm lt f =
     let same : closed after ≡ after = stays_closed after f.shut in
     let more = added w stm (closed s).script.writers (omega (arith, lt, f.eight)) in
     record {
-      done = ap (λ (t : State). t.statements) same ∙ ap (λ (n : ℕ). n + 1) f.done;
       shut = ap (λ (t : State). t.first) same ∙ f.shut;
       table = ap (λ (t : State). t.script.table) same ∙ f.table;
       names = ap (λ (t : State). t.script.names) same ∙ f.names;
@@ -101,8 +106,8 @@ module _ (i x turn w : ℕ) (s : State) (f : Follows i s) (few : i < 4096) (c : 
   is_admitted =
       ap (λ (m : NameMap). admits_index (closed s) w (map.get m c.name)) f.names
       ∙ ap (admits_index (closed s) w) c.named
-      ∙ admitted (is_message (closed s).script.table c.index) (nat_lt (closed s).statements statements_limit) (w, c.index)
-      (ap (λ (t : Map). is_message t c.index) f.table ∙ c.logged) (below (closed s).statements statements_limit (omega (arith, f.done, few)))
+      ∙ admitted (is_message (closed s).script.table c.index) (nat_lt (count_statements (closed s).script) statements_limit) (w, c.index)
+      (ap (λ (t : Map). is_message t c.index) f.table ∙ c.logged) (below (count_statements (closed s).script) statements_limit (omega (arith, f.all, few)))
 
   arguments_read : ReadsArguments (closed s).script.names (closed s).script.table c.index c.args (Ok c.vs)
   arguments_read =
@@ -120,7 +125,7 @@ module _ (i x turn w : ℕ) (s : State) (f : Follows i s) (few : i < 4096) (c : 
   abbrev following : State
   following = with_statement (closed s) w made
 
-  is_taken : Takes s (statement (Some w) c.name c.args) (Ok following)
+  is_taken : Takes s (act forms.Statement (Some w) c.name c.args) (Ok following)
   is_taken =
       let taken : Taken = Ok following in
       let here : takes_arguments (closed s) (w, c.index) (Ok c.vs) ≡ taken =
@@ -141,9 +146,10 @@ read_statements (suc count) i s number f le =
     let stm : Statement = record { index = c.index; args = c.vs } in
     let after : State = with_statement (closed s) (i % 4) stm in
     let more = read_statements count (i + 1) after (number + 1) (follows_next i (i % 4) s stm (omega arith) f) (omega (arith, le)) in
-    let is : line_of (statement_line i) ≡ statement (Some (i % 4)) c.name c.args = statement_said i c.name c.args (statement_printable i) c.fields in
-    let takes : Takes s (line_of (statement_line i)) (Ok after) = subst (λ (l : Line). Takes s l (Ok after)) (sym is) (is_taken i (drawn i) (i % 5) (i % 4) s f few c) in
-    (more.0, inl (after, takes, more.1), omega (arith, more.2))
+    let line : Line = act forms.Statement (Some (i % 4)) c.name c.args in
+    let says : Says (statement_line i) line = statement_said i c.name c.args (statement_printable i) c.fields in
+    let takes : Takes s line (Ok after) = is_taken i (drawn i) (i % 5) (i % 4) s f few c in
+    (more.0, inl (line, after, says, takes, more.1), omega (arith, more.2))
 
 pub generated_reads : (count : ℕ) → count ≤ 4096 → (script : Script) × Reads (generated count) (Ok script) × (count_all script.writers ≡ count)
 generated_reads count most =

@@ -1,4 +1,8 @@
+pub mod FormLaws
 mod LineCuts
+pub mod LineLaws
+mod NumberLaws
 mod Numbers
+pub mod SettingLaws
 mod Verdicts
 mod Spaces

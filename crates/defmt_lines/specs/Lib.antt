@@ -1,5 +1,6 @@
 pub mod Cause
 pub mod Cut
+pub mod Fields
 pub mod Form
 pub mod Line
 pub mod LineView

@@ -1,14 +1,18 @@
 -- What the code's lines stand for.
-use Rattle.defmt_lines.specs.Line.{Line, blank, ring, mode, reader, stamp, entry, statement, other}
+use Rattle.std.specs.Prelude.{ℕ, List, [], ◌∷◌}
+use Rattle.defmt_lines.specs.Line.{Line, blank, head, entry, act, other}
 use Rattle.defmt_lines.specs.declared.content.Line.{Line as Kept}
 use Rattle.defmt_lines.specs.declared.content.Line.TheVariants as lines
+use Rattle.defmt_lines.specs.declared.content.Words.{Words}
+use Rattle.defmt_lines.specs.declared.content.Words.TheVariants as words
+
+abbrev pub words_view : Words → List (List ℕ)
+words_view (words.One word) = word.now ∷ []
+words_view (words.Two first second) = first.now ∷ second.now ∷ []
 
 abbrev pub line_view : Kept → Line
 line_view lines.Blank = blank
-line_view (lines.Ring word) = ring word.now
-line_view (lines.Mode word) = mode word.now
-line_view (lines.Reader word) = reader word.now
-line_view (lines.Stamp base step) = stamp base.now step.now
+line_view (lines.Head form given) = head form (words_view given)
 line_view (lines.Entry e) = entry e.name.now e.tag e.text.now
-line_view (lines.Statement s) = statement s.writer s.name.now s.args.now
+line_view (lines.Act form a) = act form a.writer a.field.now a.rest.now
 line_view lines.Other = other

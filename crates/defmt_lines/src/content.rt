@@ -3,6 +3,7 @@
 ghost use Rattle.std.specs.Prelude.{◌≡◌, ◌<◌, true, unwrap_or};
 ghost use Rattle.defmt_lines.specs.Line.{is_string_tag};
 
+use crate::form::Form;
 use defmt_intern::Tag;
 
 /// A string of the table: `s NAME TAG TEXT`.
@@ -17,16 +18,25 @@ pub struct EntryLine<'a> {
     ghost of_string: { is_string_tag tag ≡ true },
 }
 
-/// A statement of a writer: `w WRITER NAME ARGS`.
+/// What a writer does: the name and the arguments of its statement in `w WRITER NAME ARGS`.
 #[derive(Clone, Copy)]
-pub struct StatementLine<'a> {
+pub struct ActionLine<'a> {
     /// The writer from 0 to 7, `None` for a number above 7.
     pub writer: Option<u8>,
-    /// The name of a string.
-    pub name: &'a str,
-    /// The arguments as they are spelled.
-    pub args: &'a str,
+    /// The field behind the writer.
+    pub field: &'a str,
+    /// The rest of the line.
+    pub rest: &'a str,
     ghost of_eight: { unwrap_or writer 0 < 8 },
+}
+
+/// The words behind the first of a line that sets something.
+#[derive(Clone, Copy)]
+pub enum Words<'a> {
+    /// One word.
+    One(&'a str),
+    /// Two words.
+    Two(&'a str, &'a str),
 }
 
 /// What a line says.
@@ -34,18 +44,12 @@ pub struct StatementLine<'a> {
 pub enum Line<'a> {
     /// Nothing: it is empty or a comment.
     Blank,
-    /// `ring` and a word.
-    Ring(&'a str),
-    /// `mode` and a word.
-    Mode(&'a str),
-    /// `reader` and a word.
-    Reader(&'a str),
-    /// `stamp` and two words.
-    Stamp(&'a str, &'a str),
+    /// A form of settings, and as many words as it has.
+    Head(Form, Words<'a>),
     /// A string of the table.
     Entry(EntryLine<'a>),
-    /// A statement.
-    Statement(StatementLine<'a>),
+    /// A form of what a writer does, and that.
+    Act(Form, ActionLine<'a>),
     /// It has no form of a line.
     Other,
 }

@@ -12,9 +12,9 @@ mod settings;
 mod verdict;
 
 pub use cause::Cause;
-pub use content::{EntryLine, Line, StatementLine};
+pub use content::{ActionLine, EntryLine, Line, Words};
 pub use cut::next_line;
 pub use form::Form;
-pub use line::read_line;
-pub use settings::{RingMode, Settings};
+pub use line::{one_line, read_line};
+pub use settings::{RingMode, Settings, one_setting};
 pub use verdict::{judge, one_verdict};

@@ -1,18 +1,29 @@
 //! The reading of a line.
 
-ghost use Rattle.std.specs.Prelude.{◌≡◌, ◌<◌, true, IfSome, option_copied, option_map};
+ghost use Rattle.std.specs.Prelude.{◌≡◌, ◌<◌, ℕ, List, true, IfSome, option_copied, option_map};
 ghost use Rattle.defmt_grammar.specs.Cut.{cut, parts_of};
-ghost use Rattle.defmt_lines.specs.Line.{by_form, entry_of, field_and_rest, is_blank, is_string_tag, line_of, one_field, statement_of, tag_of, text_of, two_fields, worded};
+ghost use Rattle.defmt_lines.specs.Line.{Line as Said, Says, act_of, by_form, entry_of, field_and_rest, is_blank, is_string_tag, line_of, one_field, one_word, tag_of, text_of, two_fields, two_words, worded};
 ghost use Rattle.defmt_lines.specs.LineView.{line_view};
 
-use crate::content::{EntryLine, Line, StatementLine};
+use crate::content::{ActionLine, EntryLine, Line, Words};
 use crate::form::{Form, form_of};
 use crate::number::writer_of;
 use defmt_intern::Tag;
 
 /// What a line says.
-#[tactic(auto, unfolding(crate::specs::Line::line_of))]
 pub fn read_line(line: &[u8]) -> Line<'_>
+    ensures { Says line.now (line_view result) }
+{
+    line_of(line)
+}
+
+/// A line says one thing.
+pub fn one_line()
+    ensures { (bytes : List ℕ) (line other : Said) → Says bytes line → Says bytes other → line ≡ other }
+{}
+
+#[tactic(auto, unfolding(crate::specs::Line::line_of))]
+fn line_of(line: &[u8]) -> Line<'_>
     ensures { line_view result ≡ line_of line.now }
 {
     let Some(text) = text_of(line) else {
@@ -60,16 +71,26 @@ fn by_form(form: Form, rest: &str) -> Option<Line<'_>>
     ensures { option_map line_view result ≡ by_form form rest.now }
 {
     match form {
-        Form::Ring => Some(Line::Ring(one_field(rest)?)),
-        Form::Mode => Some(Line::Mode(one_field(rest)?)),
-        Form::Reader => Some(Line::Reader(one_field(rest)?)),
-        Form::Stamp => {
-            let (base, step) = two_fields(rest)?;
-            Some(Line::Stamp(base, step))
-        }
+        Form::Ring => one_word(Form::Ring, rest),
+        Form::Mode => one_word(Form::Mode, rest),
+        Form::Reader => one_word(Form::Reader, rest),
+        Form::Stamp => two_words(Form::Stamp, rest),
         Form::Entry => entry_of(rest),
-        Form::Statement => statement_of(rest),
+        Form::Statement => act_of(Form::Statement, rest),
     }
+}
+
+fn one_word(form: Form, rest: &str) -> Option<Line<'_>>
+    ensures { option_map line_view result ≡ one_word form rest.now }
+{
+    Some(Line::Head(form, Words::One(one_field(rest)?)))
+}
+
+fn two_words(form: Form, rest: &str) -> Option<Line<'_>>
+    ensures { option_map line_view result ≡ two_words form rest.now }
+{
+    let (first, second) = two_fields(rest)?;
+    Some(Line::Head(form, Words::Two(first, second)))
 }
 
 // What stands before and after the first space.
@@ -146,13 +167,20 @@ fn entry_of(text: &str) -> Option<Line<'_>>
     Some(Line::Entry(EntryLine { name, tag, text }))
 }
 
-// The statement of a line `w WRITER NAME ARGS`, behind its `w`.
-#[tactic(auto, unfolding(crate::specs::Line::statement_of))]
-fn statement_of(text: &str) -> Option<Line<'_>>
-    ensures { option_map line_view result ≡ statement_of text.now }
+// What a writer does, behind the first word of a line of this form.
+#[tactic(auto, unfolding(crate::specs::Line::act_of))]
+fn act_of(form: Form, text: &str) -> Option<Line<'_>>
+    ensures { option_map line_view result ≡ act_of form text.now }
 {
-    let (digits, rest) = cut(text)?;
+    let (digits, behind) = cut(text)?;
     let writer = writer_of(digits)?;
-    let (name, args) = field_and_rest(rest);
-    Some(Line::Statement(StatementLine { writer, name, args }))
+    let (field, rest) = field_and_rest(behind);
+    Some(Line::Act(
+        form,
+        ActionLine {
+            writer,
+            field,
+            rest,
+        },
+    ))
 }

@@ -1,9 +1,15 @@
 //! What the first lines of a script set.
 
-ghost use Rattle.std.specs.Prelude.{◌≡◌, false};
-ghost use Rattle.defmt_lines.specs.Settings.{is_block, late_of, mode_of, no_settings, with_mode, with_reader, with_ring, with_stamp};
+ghost use Rattle.std.specs.Prelude.{◌≡◌, ◌∷◌, [], ℕ, List, Result, IfOk, false};
+ghost use Rattle.defmt_lines.specs.LineView.{words_view};
+ghost use Rattle.defmt_lines.specs.Settings.{Sets, is_block, late_of, mode_of, no_settings, with_mode, with_reader, with_ring, with_stamp, with_words};
+ghost use Rattle.defmt_lines.specs.declared.cause.Cause.{Cause as AnyCause};
+ghost use Rattle.defmt_lines.specs.declared.form.Form.{Form as AnyForm};
+ghost use Rattle.defmt_lines.specs.declared.settings.Settings.{Settings as AnySettings};
 
 use crate::cause::Cause;
+use crate::content::Words;
+use crate::form::Form;
 use crate::number::number_within;
 
 // The greatest base and step of a stamp.
@@ -46,9 +52,50 @@ impl Settings {
         }
     }
 
-    /// With the ring's size that the word of a `ring` line says.
+    /// With what the words of a line of this form say: `ring` and a size, `mode` and a mode, `reader` and whether it is late,
+    /// which it can't be in blocking mode, or `stamp` and two numbers.
+    ///
+    /// # Errors
+    /// The cause why the words set nothing, `Cause::Line` for another form and another number of words.
+    pub fn with_words(self, form: Form, words: Words<'_>) -> Result<Settings, Cause>
+        ensures { Sets form (words_view words.entry) self result }
+    {
+        self.by_words(form, words)
+    }
+
+    fn by_words(self, form: Form, words: Words<'_>) -> Result<Settings, Cause>
+        ensures { result ≡ with_words form (words_view words.entry) self }
+    {
+        match words {
+            Words::One(word) => self.with_one(form, word),
+            Words::Two(first, second) => self.with_two(form, first, second),
+        }
+    }
+
+    fn with_one(self, form: Form, word: &str) -> Result<Settings, Cause>
+        ensures { result ≡ with_words form (word.now ∷ []) self }
+    {
+        match form {
+            Form::Ring => self.with_ring(word),
+            Form::Mode => self.with_mode(word),
+            Form::Reader => self.with_reader(word),
+            Form::Stamp | Form::Entry | Form::Statement => Err(Cause::Line),
+        }
+    }
+
+    fn with_two(self, form: Form, first: &str, second: &str) -> Result<Settings, Cause>
+        ensures { result ≡ with_words form (first.now ∷ second.now ∷ []) self }
+    {
+        match form {
+            Form::Stamp => self.with_stamp(first, second),
+            Form::Ring | Form::Mode | Form::Reader | Form::Entry | Form::Statement => {
+                Err(Cause::Line)
+            }
+        }
+    }
+
     #[tactic(auto, unfolding(crate::specs::Settings::with_ring))]
-    pub fn with_ring(self, word: &str) -> Result<Settings, Cause>
+    fn with_ring(self, word: &str) -> Result<Settings, Cause>
         ensures { result ≡ with_ring self word.now }
     {
         match number_within(16, 65_536, word) {
@@ -62,9 +109,8 @@ impl Settings {
         }
     }
 
-    /// With the mode that the word of a `mode` line says.
     #[tactic(auto, unfolding(crate::specs::Settings::with_mode))]
-    pub fn with_mode(self, word: &str) -> Result<Settings, Cause>
+    fn with_mode(self, word: &str) -> Result<Settings, Cause>
         ensures { result ≡ with_mode self word.now }
     {
         match mode_of(word) {
@@ -73,9 +119,8 @@ impl Settings {
         }
     }
 
-    /// With the reader that the word of a `reader` line says: a late one not in blocking mode.
     #[tactic(auto, unfolding(crate::specs::Settings::with_reader))]
-    pub fn with_reader(self, word: &str) -> Result<Settings, Cause>
+    fn with_reader(self, word: &str) -> Result<Settings, Cause>
         ensures { result ≡ with_reader self word.now }
     {
         let Some(late) = late_of(word) else {
@@ -87,9 +132,8 @@ impl Settings {
         Ok(Settings { late, ..self })
     }
 
-    /// With the stamps that the two words of a `stamp` line say.
     #[tactic(auto, unfolding(crate::specs::Settings::with_stamp))]
-    pub fn with_stamp(self, base: &str, step: &str) -> Result<Settings, Cause>
+    fn with_stamp(self, base: &str, step: &str) -> Result<Settings, Cause>
         ensures { result ≡ with_stamp self base.now step.now }
     {
         match (
@@ -104,6 +148,12 @@ impl Settings {
         }
     }
 }
+
+/// The words of a line set one thing, or nothing for one cause.
+pub fn one_setting()
+    ensures { (form : AnyForm) (words : List (List ℕ)) (s : AnySettings) (set other : Result AnySettings AnyCause)
+        → Sets form words s set → Sets form words s other → set ≡ other }
+{}
 
 impl RingMode {
     fn is_block(self) -> bool

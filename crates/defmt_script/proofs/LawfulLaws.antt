@@ -1,5 +1,5 @@
 -- The script that a text reads as is lawful.
-use Rattle.std.proofs.Common.{◌≡◌, ◌≤◌, ◌+◌, ℕ, Bool, true, false, cond, List, Option, Some, None, Ok, refl, sym, ◌∙◌, ap, subst, arith, length, lit≤}
+use Rattle.std.proofs.Common.{◌≡◌, ◌≤◌, ℕ, Bool, true, false, cond, List, Option, Some, None, Ok, refl, sym, ◌∙◌, ap, subst, arith, length, lit≤}
 use Rattle.std.specs.Prelude.{IsSome, is_some}
 use Rattle.std.specs.FinMap as map
 use Rattle.std.specs.FinMap.{get-empty}
@@ -8,35 +8,29 @@ use Rattle.defmt_intern.proofs.TableLaws.{kept_other, kept_stamp, no_refusal}
 use Rattle.defmt_intern.specs.Table.{EntryRefused, IsKept, IsLawful as IsLawfulTable}
 use Rattle.defmt_intern.specs.declared.entry.Entry.{Entry}
 use Rattle.defmt_intern.specs.declared.entry.Tag.{Tag}
-use Rattle.defmt_lines.specs.Form.{in_order, next, rank}
+use Rattle.defmt_lines.specs.Form.{StringsMayCome, in_order, next}
+use Rattle.defmt_lines.specs.Settings.{Sets}
 use Rattle.defmt_lines.specs.declared.form.Form.{Form}
 use Rattle.defmt_lines.specs.declared.form.Form.TheVariants as forms
 use Rattle.defmt_lines.specs.declared.settings.Settings.{Settings}
-use Rattle.defmt_script.proofs.Settled.{ring_stays, mode_stays, reader_stays, stamp_stays}
-use Rattle.defmt_script.proofs.Steadiness.{kept_steady, lawful_closed, low_when, no_stamp_there, not_stamp, sets_steady, sound_of, stamped_steady, statement_steady, steady_at_first, string_steady, unstamped_steady}
-use Rattle.defmt_script.proofs.Steps.{IsString, IsTaken, Keeps, Sets, reads_kept, set_to}
+use Rattle.defmt_script.proofs.Settled.{stays}
+use Rattle.defmt_script.proofs.Steadiness.{lawful_closed, no_stamp_there, not_stamp, sets_steady, sound_of, stamped_steady, statement_steady, steady_at_first, string_steady, unstamped_steady}
+use Rattle.defmt_script.proofs.Steps.{IsAdded, IsTaken, Keeps, reads_kept, set_to}
 use Rattle.defmt_script.specs.Lawful.{IsLawful}
 use Rattle.defmt_script.specs.Reads.{Reads, with_statement, with_string}
-use Rattle.defmt_script.specs.Script.{Script, add_statement}
+use Rattle.defmt_script.specs.Script.{Script, add_statement, next_index}
 use Rattle.defmt_script.specs.State.{State, entry_at, no_lines, stamp_entry, with_stamp_entry}
-use Rattle.defmt_script.specs.Steady.{IsOpen, IsSteady, StaysLawful}
+use Rattle.defmt_script.specs.Steady.{IsOpen, IsSteady}
 use Rattle.defmt_values.specs.declared.value.Statement.{Statement}
 
 record IsLaid (s : State) : Type 0 where
   steady : IsSteady s
   table : IsLawfulTable s.script.table
 
-stays : (s : State) (form : Form) (t : Settings) → IsSteady s → in_order s.first form ≡ true → Sets form s.script.settings t → StaysLawful form t
-stays s forms.Ring t h order given = ring_stays s.first s.script.settings t given.0 h.settings h.not_late given.1 order
-stays s forms.Mode t h order given = mode_stays s.first s.script.settings t given.0 h.settings h.not_late given.1 order
-stays s forms.Reader t h order given = reader_stays s.script.settings t given.0 h.settings given.1
-stays s forms.Stamp t h order given = stamp_stays s.script.settings t given.0 given.1 h.settings given.2
-stays s forms.Entry t h order given = absurd given
-stays s forms.Statement t h order given = absurd given
-
-set_laid : (s : State) (form : Form) (t : Settings) → rank form ≤ 3 → in_order s.first form ≡ true → Sets form s.script.settings t → IsLaid s → IsLaid (set_to s form t)
-set_laid s form t head order given h = record {
-  steady = sets_steady s.first (next form) form s.strings s.statements s.script.settings t s.script.table s.script.names s.script.writers h.steady head order (stays s form t h.steady order given) refl;
+set_laid : (s : State) (form : Form) (words : List (List ℕ)) (t : Settings) → in_order s.first form ≡ true → Sets form words s.script.settings (Ok t) → IsLaid s → IsLaid (set_to s form t)
+set_laid s form words t order given h = record {
+  steady = sets_steady s.first (next form) form s.script.settings t s.script.table s.script.names s.script.writers h.steady order
+      (stays s.first form words s.script.settings t h.steady.settings h.steady.not_late given order) refl;
   table = h.table;
 }
 
@@ -48,42 +42,41 @@ kept_open s o table = record { lawful = table; stamp_is = o.no_stamp }
 is_sound : (s : State) (entry : Entry) → IsOpen s → length entry.text ≤ 4096 → (cause : ℕ) → EntryRefused s.script.table entry cause → ⊥
 is_sound s entry o short = no_refusal s.script.table entry short (λ second. o.no_stamp second.1.0 second.1.1)
 
-string_laid : (s : State) (name : List ℕ) (tag : Tag) (text : List ℕ) (n : ℕ) → IsString s tag text n → IsLaid s → IsLaid (with_string s name tag text)
+string_laid : (s : State) (name : List ℕ) (tag : Tag) (text : List ℕ) (n : ℕ) → IsAdded s name tag text n → IsLaid s → IsLaid (with_string s name tag text)
 string_laid s name tag text n i h =
-    let k : ℕ = s.strings + 1 in
+    let k : ℕ = next_index s.script in
     let entry : Entry = entry_at k tag text in
-    let o : IsOpen s = h.steady.opened i.low in
+    let o : IsOpen s = h.steady.opened i.may in
     let free : IsSome (map.get s.script.table k) → ⊥ = λ some. absurd (omega (arith, o.within k some)) in
     record {
-      steady = string_steady s.first s.strings s.statements k s.script.settings s.script.table (map.insert s.script.table k entry) (map.insert s.script.names name k) s.script.writers entry
-          (kept_steady s.first s.strings s.statements s.script.settings s.script.table s.script.table s.script.names (map.insert s.script.names name k) s.script.writers h.steady refl)
-          i.low refl (omega (arith, i.room)) i.string refl;
+      steady = string_steady s.first k s.script.settings s.script.table (map.insert s.script.table k entry) s.script.names s.script.writers name entry
+          h.steady i.may i.new refl (omega (arith, i.room)) i.string refl;
       table = (kept_other s.script.table None k entry (kept_open s o h.table) (omega (arith, i.room)) free (is_sound s entry o i.short) (not_stamp tag i.string)).lawful;
     }
 
-stamped_laid : (stamp : Option (ℕ × ℕ)) (s : State) → s.script.settings.stamp ≡ stamp → rank s.first ≤ 4 → IsLaid s
-    → IsLaid (record s { first = forms.Statement; script = record s.script { table = with_stamp_entry stamp (s.strings + 1) s.script.table } })
-stamped_laid None s is low h = record {
-  steady = unstamped_steady s.first s.strings s.statements s.script.settings s.script.table s.script.names s.script.writers h.steady low (ap is_some is);
+stamped_laid : (stamp : Option (ℕ × ℕ)) (s : State) → s.script.settings.stamp ≡ stamp → StringsMayCome s.first → IsLaid s
+    → IsLaid (record s { first = forms.Statement; script = record s.script { table = with_stamp_entry stamp (next_index s.script) s.script.table } })
+stamped_laid None s is may h = record {
+  steady = unstamped_steady s.first s.script.settings s.script.table s.script.names s.script.writers h.steady may (ap is_some is);
   table = h.table;
 }
-stamped_laid (Some p) s is low h =
-    let k : ℕ = s.strings + 1 in
-    let o : IsOpen s = h.steady.opened low in
+stamped_laid (Some p) s is may h =
+    let k : ℕ = next_index s.script in
+    let o : IsOpen s = h.steady.opened may in
     record {
-      steady = stamped_steady s.first s.strings s.statements k s.script.settings s.script.table (map.insert s.script.table k (stamp_entry k)) s.script.names s.script.writers h.steady low (ap is_some is) refl;
+      steady = stamped_steady s.first k s.script.settings s.script.table (map.insert s.script.table k (stamp_entry k)) s.script.names s.script.writers h.steady may (ap is_some is) refl;
       table = (kept_stamp s.script.table None k (stamp_entry k) (kept_open s o h.table) (omega (arith, h.steady.strings_fit)) (is_sound s (stamp_entry k) o (lit≤ tt)) refl).lawful;
     }
 
 closed_by : (b : Bool) (s : State) → in_order s.first forms.Entry ≡ b → IsLaid s
-    → IsLaid (cond b (record s { first = forms.Statement; script = record s.script { table = with_stamp_entry s.script.settings.stamp (s.strings + 1) s.script.table } }) s)
-closed_by true s is h = stamped_laid s.script.settings.stamp s refl (low_when s.first is) h
+    → IsLaid (cond b (record s { first = forms.Statement; script = record s.script { table = with_stamp_entry s.script.settings.stamp (next_index s.script) s.script.table } }) s)
+closed_by true s is h = stamped_laid s.script.settings.stamp s refl is h
 closed_by false s is h = h
 
 statement_laid : (s : State) (writer : ℕ) (stm : Statement) → IsTaken s writer stm → IsLaid s → IsLaid (with_statement s writer stm)
 statement_laid s writer stm taken h = record {
-  steady = statement_steady s.first s.strings s.statements (s.statements + 1) s.script.settings s.script.table s.script.names s.script.writers (add_statement writer stm s.script.writers) writer stm
-      h.steady taken.past taken.eight refl (omega (arith, taken.room)) (sound_of s.script.table s.script.settings.stamp stm taken.fits taken.message taken.short taken.narrow) refl;
+  steady = statement_steady s.first s.script.settings s.script.table s.script.names s.script.writers (add_statement writer stm s.script.writers) writer stm
+      h.steady taken.over taken.eight taken.room (sound_of s.script.table s.script.settings.stamp stm taken.fits taken.message taken.short taken.narrow) refl;
   table = h.table;
 }
 
@@ -93,7 +86,7 @@ Laid s bytes = IsLaid s
 keeps_laid : Keeps Laid
 keeps_laid = record {
   more = λ s b n h. h;
-  settings = λ s form t b head order given h. set_laid s form t head order given h;
+  settings = λ s form words t b order given h. set_laid s form words t order given h;
   string = λ s name tag text b n i h. string_laid s name tag text n i h;
   closes = λ s b h. closed_by (in_order s.first forms.Entry) s refl h;
   statement = λ s writer stm b taken h. statement_laid s writer stm taken h;
@@ -115,4 +108,4 @@ begins_laid = record {
 pub scripts_are_lawful : (text : List ℕ) (script : Script) → Reads text (Ok script) → IsLawful script
 scripts_are_lawful text script reads =
     let ends = reads_kept Laid keeps_laid text script reads begins_laid in
-    subst IsLawful (sym ends.script_is) (lawful_closed ends.last ends.holds.steady ends.past ends.holds.table)
+    subst IsLawful (sym ends.script_is) (lawful_closed ends.last ends.holds.steady ends.over ends.holds.table)

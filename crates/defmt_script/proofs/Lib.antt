@@ -1,3 +1,4 @@
+pub mod Counts
 mod LawfulLaws
 mod ReadingLaws
 mod Settled

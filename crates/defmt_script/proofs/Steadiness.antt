@@ -1,11 +1,11 @@
 -- What holds of a script of which some lines are read.
-use Rattle.std.proofs.Common.{◌≡◌, ◌≢◌, ◌≤◌, ◌<◌, ◌+◌, ◌++◌, ◌⊎◌, inl, inr, ℕ, zero, suc, Bool, true, false, cond, List, [], ◌∷◌, Option, Some, None, refl, sym, ◌∙◌, ap, subst, arith, length, length-append, lit≤, lit<}
+use Rattle.std.proofs.Common.{◌≡◌, ◌≢◌, ◌≤◌, ◌<◌, ◌+◌, ◌++◌, ◌⊎◌, inl, inr, ℕ, zero, suc, Bool, true, false, cond, List, [], ◌∷◌, Option, Some, None, refl, sym, ◌∙◌, ap, subst, arith, length, length-append, lit≤}
 use Rattle.std.specs.Prelude.{IsSome, Ok, is_some, nat_lt, slice_index_or, slice_set}
 use Rattle.std.specs.FinMap as map
 use Rattle.std.specs.FinMap.{get-empty}
 use Rattle.std.specs.List.{AllByRecursion}
 use Rattle.std.specs.Ordering.{nat_cmp}
-use Rattle.std.proofs.lemmas.Bool.{cases_eq}
+use Rattle.std.proofs.lemmas.Bool.{cases_eq, cond-true}
 use Rattle.std.proofs.lemmas.Bool.Decides.{nat_tests}
 use Rattle.std.proofs.lemmas.Option.{same_Some}
 use Rattle.defmt_eager.specs.Line.{text_limit}
@@ -15,32 +15,36 @@ use Rattle.defmt_intern.specs.declared.entry.Entry.{Entry}
 use Rattle.defmt_intern.specs.declared.entry.Tag.{Tag}
 use Rattle.defmt_intern.specs.declared.entry.Tag.TheVariants as tags
 use Rattle.defmt_intern.proofs.TableLaws.{apart, here, nowhere}
-use Rattle.defmt_lines.specs.Form.{next, rank, in_order}
+use Rattle.defmt_lines.proofs.FormLaws.{strings_before, strings_behind}
+use Rattle.defmt_lines.specs.Form.{StringsAreOver, StringsMayCome, in_order, next}
 use Rattle.defmt_lines.specs.Line.{is_string_tag}
 use Rattle.defmt_lines.specs.Settings.{AreLawful, no_settings}
 use Rattle.defmt_lines.specs.declared.form.Form.{Form}
 use Rattle.defmt_lines.specs.declared.form.Form.TheVariants as forms
 use Rattle.defmt_lines.specs.declared.settings.Settings.{Settings}
 use Rattle.defmt_lines.specs.Verdict.{Judges, JudgesBody}
+use Rattle.defmt_script.proofs.Counts.{len-added, no_names, none_named}
 use Rattle.defmt_script.proofs.Stamps.{short_with}
 use Rattle.defmt_script.specs.Lawful.{HasStamp, IsLawful, IsSound, first_message, message_limit}
-use Rattle.defmt_script.specs.Reads.{is_message, is_message_of, takes_statement, with_statement}
-use Rattle.defmt_script.specs.Script.{add_statement, count_all}
-use Rattle.defmt_script.specs.State.{State, closed, no_lines, no_statements, stamp_entry}
-use Rattle.defmt_script.specs.Steady.{IsOpen, IsSteady, StaysLawful}
+use Rattle.defmt_script.specs.Reads.{is_message, is_message_of, string_at, takes_statement, with_statement, with_string}
+use Rattle.defmt_script.specs.Script.{add_statement, count_all, next_index}
+use Rattle.defmt_script.specs.State.{State, closed, entry_at, no_lines, no_statements, stamp_entry, with_stamp_entry}
+use Rattle.defmt_script.specs.Steady.{IsCounted, IsOpen, IsSteady, StaysLawful}
 use Rattle.defmt_spelling.specs.Names.{NameMap}
 use Rattle.defmt_values.specs.Entries.{look}
 use Rattle.defmt_values.specs.Fits.{Fits, IsLogged}
 use Rattle.defmt_values.specs.declared.value.Statement.{Statement}
 
 -- a state by its parts
-abbrev pub state : Form → ℕ → ℕ → Settings → Map → NameMap → List (List Statement) → State
-state first strings statements settings table names writers = record {
+abbrev pub state : Form → Settings → Map → NameMap → List (List Statement) → State
+state first settings table names writers = record {
   first = first;
-  strings = strings;
-  statements = statements;
   script = record { settings = settings; table = table; names = names; writers = writers };
 }
+
+-- strings and statements that may come make a contradiction
+pub over_or_not : (first : Form) → StringsMayCome first → StringsAreOver first → ⊥
+over_or_not first may over = let clash : true ≡ false = sym may ∙ over in cc clash
 
 -- ---- at the start
 
@@ -60,44 +64,30 @@ open_at_first = record {
   within = λ index some. absurd (nowhere index some);
   no_stamp = no_stamp_there;
   no_writers = refl;
-  none = refl;
 }
 
 pub steady_at_first : IsSteady no_lines
 steady_at_first = record {
   settings = settings_at_first;
   not_late = λ _. refl;
-  strings_fit = lit≤ tt;
+  strings_fit = omega (arith, no_names);
   opened = λ _. open_at_first;
-  whole = λ past. absurd (omega (arith, past));
+  whole = λ over. absurd (over_or_not forms.Ring refl over);
   eight = refl;
   few = lit≤ tt;
-  count = refl;
   sound = (tt, (tt, (tt, (tt, (tt, (tt, (tt, (tt, tt))))))));
 }
 
 pub begins_steady : (settings : Settings) (table : Map) (names : NameMap) (writers : List (List Statement)) → settings ≡ no_settings → table ≡ map.empty → names ≡ map.empty → writers ≡ no_statements
-    → IsSteady (state forms.Ring 0 0 settings table names writers)
+    → IsCounted 0 0 (state forms.Ring settings table names writers)
 begins_steady settings table names writers a b c d =
-    let same : state forms.Ring 0 0 settings table names writers ≡ no_lines = λ i. state forms.Ring 0 0 (a i) (b i) (c i) (d i) in
-    subst IsSteady (sym same) steady_at_first
+    let same : state forms.Ring settings table names writers ≡ no_lines = λ i. state forms.Ring (a i) (b i) (c i) (d i) in record {
+      steady = subst IsSteady (sym same) steady_at_first;
+      strings_are = sym (none_named names c);
+      statements_are = sym (ap count_all d);
+    }
 
 -- ---- settings
-
-next_within : (form : Form) → rank form ≤ 3 → rank (next form) ≤ 4
-next_within forms.Ring h = lit≤ tt
-next_within forms.Mode h = lit≤ tt
-next_within forms.Reader h = lit≤ tt
-next_within forms.Stamp h = lit≤ tt
-next_within forms.Entry h = absurd (omega (arith, h))
-next_within forms.Statement h = absurd (omega (arith, h))
-
-pub in_order_le : (first form : Form) → in_order first form ≡ true → rank first ≤ rank form
-in_order_le first form is = grind (arith, nat_tests)
-
--- where strings are in order
-pub low_when : (first : Form) → in_order first forms.Entry ≡ true → rank first ≤ 4
-low_when first is = in_order_le first forms.Entry is
 
 none_sound : (writers : List (List Statement)) (table : Map) (stamp : Option (ℕ × ℕ)) → writers ≡ no_statements
     → AllByRecursion (λ list. AllByRecursion (IsSound table stamp) list) writers
@@ -105,47 +95,47 @@ none_sound writers table stamp is =
     subst (λ (ws : List (List Statement)). AllByRecursion (λ list. AllByRecursion (IsSound table stamp) list) ws) (sym is)
     (tt, (tt, (tt, (tt, (tt, (tt, (tt, (tt, tt))))))))
 
-pub sets_steady : (first after form : Form) (n m : ℕ) (s t : Settings) (table : Map) (names : NameMap) (writers : List (List Statement))
-    → IsSteady (state first n m s table names writers) → rank form ≤ 3 → in_order first form ≡ true → StaysLawful form t → after ≡ next form
-    → IsSteady (state after n m t table names writers)
-sets_steady first after form n m s t table names writers h head order stays is =
-    let le : rank first ≤ rank form = in_order_le first form order in
-    let o : IsOpen (state first n m s table names writers) = h.opened (omega (arith, le, head)) in
-    let low : rank after ≤ 4 = subst (λ (f : Form). rank f ≤ 4) (sym is) (next_within form head) in
-    record {
-      settings = stays.0;
-      not_late = λ le. stays.1 (subst (λ (f : Form). rank f ≤ 2) is le);
+pub sets_steady : (first after form : Form) (s t : Settings) (table : Map) (names : NameMap) (writers : List (List Statement))
+    → IsSteady (state first s table names writers) → in_order first form ≡ true → StaysLawful form t → after ≡ next form
+    → IsSteady (state after t table names writers)
+sets_steady first after form s t table names writers h order stays is =
+    let o : IsOpen (state first s table names writers) = h.opened (strings_before first form order stays.setting) in
+    subst (λ (f : Form). IsSteady (state f t table names writers)) (sym is) (record {
+      settings = stays.lawful;
+      not_late = stays.not_late;
       strings_fit = h.strings_fit;
-      opened = λ _. record { within = o.within; no_stamp = o.no_stamp; no_writers = o.no_writers; none = o.none };
-      whole = λ past. absurd (omega (arith, past, low));
+      opened = λ _. record { within = o.within; no_stamp = o.no_stamp; no_writers = o.no_writers };
+      whole = λ over. absurd (over_or_not (next form) (strings_behind form stays.setting) over);
       eight = h.eight;
       few = h.few;
-      count = h.count;
       sound = none_sound writers table t.stamp o.no_writers;
-    }
+    })
 
 -- ---- strings
 
--- other names, and a table that is the same
-pub kept_steady : (first : Form) (n m : ℕ) (s : Settings) (table same : Map) (names more : NameMap) (writers : List (List Statement))
-    → IsSteady (state first n m s table names writers) → same ≡ table → IsSteady (state first n m s same more writers)
-kept_steady first n m s table same names more writers h is = subst (λ (t : Map). IsSteady (state first n m s t more writers)) (sym is) (record {
+-- as many names or more, and a table that is the same
+pub kept_steady : (first : Form) (s : Settings) (table same : Map) (names more : NameMap) (writers : List (List Statement))
+    → IsSteady (state first s table names writers) → same ≡ table → map.len names ≤ map.len more → map.len more ≤ 65534 → IsSteady (state first s same more writers)
+kept_steady first s table same names more writers h is most fits = subst (λ (t : Map). IsSteady (state first s t more writers)) (sym is) (record {
   settings = h.settings;
   not_late = h.not_late;
-  strings_fit = h.strings_fit;
-  opened = λ le. let o = h.opened le in record { within = o.within; no_stamp = o.no_stamp; no_writers = o.no_writers; none = o.none };
+  strings_fit = fits;
+  opened = λ may. let o = h.opened may in record {
+    within = λ index some. omega (arith, o.within index some, most);
+    no_stamp = o.no_stamp;
+    no_writers = o.no_writers;
+  };
   whole = h.whole;
   eight = h.eight;
   few = h.few;
-  count = h.count;
   sound = h.sound;
 })
 
 -- an entry with a short text may be put behind the strings
-pub is_free : (s : State) (entry : Entry) → IsOpen s → length entry.text ≤ 4096 → (cause : ℕ) → InsertRefused s.script.table (s.strings + 1) entry cause → ⊥
-is_free s entry o short cause (inl h) = absurd (omega (arith, o.within (s.strings + 1) h.1))
-is_free s entry o short cause (inr (h, inl k)) = absurd (omega (arith, k.1, short))
-is_free s entry o short cause (inr (h, inr k)) = o.no_stamp k.2.1.0 k.2.1.1
+pub is_free : (s : State) (k : ℕ) (entry : Entry) → IsOpen s → k ≡ next_index s.script → length entry.text ≤ 4096 → (cause : ℕ) → InsertRefused s.script.table k entry cause → ⊥
+is_free s k entry o is short cause (inl h) = absurd (omega (arith, o.within k h.1, is))
+is_free s k entry o is short cause (inr (h, inl q)) = absurd (omega (arith, q.1, short))
+is_free s k entry o is short cause (inr (h, inr q)) = o.no_stamp q.2.1.0 q.2.1.1
 
 found_or_before : (table : Map) (k : ℕ) (entry other : Entry) (index : ℕ) → map.get (map.insert table k entry) index ≡ Some other → ((index ≡ k) × (entry ≡ other)) ⊎ (map.get table index ≡ Some other)
 found_or_before table k entry other index is = elim (cases_eq index k) [
@@ -162,33 +152,44 @@ some_or_before table k entry index some = elim (cases_eq index k) [
 pub not_stamp : (tag : Tag) → is_string_tag tag ≡ true → tag ≢ tags.Timestamp
 not_stamp tag is e = let clash : true ≡ false = sym is ∙ ap is_string_tag e in absurd (cc clash)
 
-pub string_steady : (first : Form) (n m k : ℕ) (s : Settings) (table more : Map) (names : NameMap) (writers : List (List Statement)) (entry : Entry)
-    → IsSteady (state first n m s table names writers) → rank first ≤ 4 → k ≡ n + 1 → k ≤ 65534 → is_string_tag entry.tag ≡ true → more ≡ map.insert table k entry
-    → IsSteady (state forms.Entry k m s more names writers)
-string_steady first n m k s table more names writers entry h low next_is fits tag more_is =
-    let o : IsOpen (state first n m s table names writers) = h.opened low in
-    subst (λ (t : Map). IsSteady (state forms.Entry k m s t names writers)) (sym more_is) (record {
+pub string_steady : (first : Form) (k : ℕ) (s : Settings) (table more : Map) (names : NameMap) (writers : List (List Statement)) (name : List ℕ) (entry : Entry)
+    → IsSteady (state first s table names writers) → StringsMayCome first → map.get names name ≡ None → k ≡ map.len names + 1 → k ≤ 65534 → is_string_tag entry.tag ≡ true
+    → more ≡ map.insert table k entry → IsSteady (state forms.Entry s more (map.insert names name k) writers)
+string_steady first k s table more names writers name entry h may new next_is fits tag more_is =
+    let o : IsOpen (state first s table names writers) = h.opened may in
+    let names_more : NameMap = map.insert names name k in
+    let len : map.len names_more ≡ k = len-added names name k new ∙ sym next_is in
+    subst (λ (t : Map). IsSteady (state forms.Entry s t names_more writers)) (sym more_is) (record {
       settings = h.settings;
-      not_late = λ le. absurd (omega (arith, le));
-      strings_fit = fits;
+      not_late = λ reader. absurd (let clash : false ≡ true = reader in cc clash);
+      strings_fit = omega (arith, len, fits);
       opened = λ _. record {
         within = λ index some. elim (some_or_before table k entry index some) [
-          | inl same ↦ omega (arith, same)
-          | inr before ↦ omega (arith, o.within index before)
+          | inl same ↦ omega (arith, same, len)
+          | inr before ↦ omega (arith, o.within index before, len, next_is)
         ];
         no_stamp = λ index stamp. elim (found_or_before table k entry stamp.entry index stamp.there) [
           | inl new ↦ not_stamp entry.tag tag (ap (λ (e : Entry). e.tag) new.1 ∙ stamp.is_stamp)
           | inr before ↦ o.no_stamp index (record { entry = stamp.entry; there = before; is_stamp = stamp.is_stamp })
         ];
         no_writers = o.no_writers;
-        none = o.none;
       };
-      whole = λ past. absurd (omega (arith, past));
+      whole = λ over. absurd (over_or_not forms.Entry refl over);
       eight = h.eight;
       few = h.few;
-      count = h.count;
       sound = none_sound writers (map.insert table k entry) s.stamp o.no_writers;
     })
+
+-- what the reading has behind a string that it puts at the next index
+pub string_added : (old inside : State) (k : ℕ) (name : List ℕ) (tag : Tag) (text : List ℕ) (entry : Entry) (table : Map) (names : NameMap)
+    → inside ≡ old → k ≡ next_index inside.script → entry ≡ entry_at k tag text → table ≡ map.insert inside.script.table k entry → names ≡ map.insert inside.script.names name k
+    → state forms.Entry inside.script.settings table names inside.script.writers ≡ with_string old name tag text
+string_added old inside k name tag text entry table names inside_is next_is entry_is table_is names_are =
+    let more : table ≡ map.insert inside.script.table k (entry_at k tag text) = table_is ∙ ap (map.insert inside.script.table k) entry_is in
+    ap (λ (t : Map). state forms.Entry inside.script.settings t names inside.script.writers) more
+    ∙ ap (λ (m : NameMap). state forms.Entry inside.script.settings (map.insert inside.script.table k (entry_at k tag text)) m inside.script.writers) names_are
+    ∙ ap (λ (n : ℕ). string_at n inside name tag text) next_is
+    ∙ ap (λ (s : State). with_string s name tag text) inside_is
 
 -- ---- the table made whole
 
@@ -200,56 +201,75 @@ has_its_stamp : (stamp : Option (ℕ × ℕ)) (table : Map) (k : ℕ) → is_som
 has_its_stamp None table k some = absurd (cc some)
 has_its_stamp (Some p) table k some = (k, stamp_entry k, here table k (stamp_entry k), refl, refl)
 
-pub unstamped_steady : (first : Form) (n m : ℕ) (s : Settings) (table : Map) (names : NameMap) (writers : List (List Statement))
-    → IsSteady (state first n m s table names writers) → rank first ≤ 4 → is_some s.stamp ≡ false → IsSteady (state forms.Statement n m s table names writers)
-unstamped_steady first n m s table names writers h low none =
-    let o : IsOpen (state first n m s table names writers) = h.opened low in record {
+stamped_table : (stamp : Option (ℕ × ℕ)) (k : ℕ) (table : Map) → is_some stamp ≡ true → map.insert table k (stamp_entry k) ≡ with_stamp_entry stamp k table
+stamped_table None k table some = absurd (cc some)
+stamped_table (Some p) k table some = refl
+
+-- what the reading has behind the timestamp's entry that it puts at the next index
+pub stamp_added : (old inside : State) (k : ℕ) (entry : Entry) (table : Map) → inside ≡ old → k ≡ next_index inside.script → StringsMayCome inside.first
+    → is_some inside.script.settings.stamp ≡ true → entry ≡ stamp_entry k → table ≡ map.insert inside.script.table k entry
+    → state forms.Statement inside.script.settings table inside.script.names inside.script.writers ≡ closed old
+stamp_added old inside k entry table inside_is next_is may some entry_is table_is =
+    let put : table ≡ map.insert inside.script.table k (stamp_entry k) = table_is ∙ ap (map.insert inside.script.table k) entry_is in
+    let next : map.insert inside.script.table k (stamp_entry k) ≡ map.insert inside.script.table (next_index inside.script) (stamp_entry (next_index inside.script)) =
+    ap (λ (n : ℕ). map.insert inside.script.table n (stamp_entry n)) next_is in
+    let whole : table ≡ with_stamp_entry inside.script.settings.stamp (next_index inside.script) inside.script.table =
+    put ∙ next ∙ stamped_table inside.script.settings.stamp (next_index inside.script) inside.script.table some in
+    ap (λ (t : Map). state forms.Statement inside.script.settings t inside.script.names inside.script.writers) whole
+    ∙ sym (cond-true (in_order inside.first forms.Entry) _ inside may) ∙ ap closed inside_is
+
+-- behind the strings no reader may come, and no string
+no_reader : {P : Type 0} → in_order forms.Statement forms.Reader ≡ true → P
+no_reader may = absurd (let clash : false ≡ true = may in cc clash)
+
+no_string : {P : Type 0} → StringsMayCome forms.Statement → P
+no_string may = absurd (over_or_not forms.Statement may refl)
+
+pub unstamped_steady : (first : Form) (s : Settings) (table : Map) (names : NameMap) (writers : List (List Statement))
+    → IsSteady (state first s table names writers) → StringsMayCome first → is_some s.stamp ≡ false → IsSteady (state forms.Statement s table names writers)
+unstamped_steady first s table names writers h may none =
+    let o : IsOpen (state first s table names writers) = h.opened may in record {
       settings = h.settings;
-      not_late = λ le. absurd (omega (arith, le));
+      not_late = λ reader. no_reader reader;
       strings_fit = h.strings_fit;
-      opened = λ le. absurd (omega (arith, le));
+      opened = λ string. no_string string;
       whole = λ _. has_no_stamp s.stamp table none o.no_stamp;
       eight = h.eight;
       few = h.few;
-      count = h.count;
       sound = h.sound;
     }
 
-pub stamped_steady : (first : Form) (n m k : ℕ) (s : Settings) (table more : Map) (names : NameMap) (writers : List (List Statement))
-    → IsSteady (state first n m s table names writers) → rank first ≤ 4 → is_some s.stamp ≡ true → more ≡ map.insert table k (stamp_entry k)
-    → IsSteady (state forms.Statement n m s more names writers)
-stamped_steady first n m k s table more names writers h low some more_is =
-    let o : IsOpen (state first n m s table names writers) = h.opened low in
-    subst (λ (t : Map). IsSteady (state forms.Statement n m s t names writers)) (sym more_is) (record {
+pub stamped_steady : (first : Form) (k : ℕ) (s : Settings) (table more : Map) (names : NameMap) (writers : List (List Statement))
+    → IsSteady (state first s table names writers) → StringsMayCome first → is_some s.stamp ≡ true → more ≡ map.insert table k (stamp_entry k)
+    → IsSteady (state forms.Statement s more names writers)
+stamped_steady first k s table more names writers h may some more_is =
+    let o : IsOpen (state first s table names writers) = h.opened may in
+    subst (λ (t : Map). IsSteady (state forms.Statement s t names writers)) (sym more_is) (record {
       settings = h.settings;
-      not_late = λ le. absurd (omega (arith, le));
+      not_late = λ reader. no_reader reader;
       strings_fit = h.strings_fit;
-      opened = λ le. absurd (omega (arith, le));
+      opened = λ string. no_string string;
       whole = λ _. has_its_stamp s.stamp table k some;
       eight = h.eight;
       few = h.few;
-      count = h.count;
       sound = none_sound writers (map.insert table k (stamp_entry k)) s.stamp o.no_writers;
     })
 
-is_past : (first form : Form) → in_order first form ≡ false → rank form < rank first
-is_past first form is = grind (arith, nat_tests)
-
-past_if : (b : Bool) (s t : State) → 4 < rank t.first → (b ≡ false → 4 < rank s.first) → 4 < rank (cond b t s).first
-past_if true s t new old = new
-past_if false s t new old = old refl
+over_if : (b : Bool) (s t : State) → StringsAreOver t.first → (b ≡ false → StringsAreOver s.first) → StringsAreOver (cond b t s).first
+over_if true s t new old = new
+over_if false s t new old = old refl
 
 -- what is closed has no more strings
-pub past_closed : (s : State) → 4 < rank (closed s).first
-past_closed s = past_if (in_order s.first forms.Entry) s _ (lit< tt) (λ is. is_past s.first forms.Entry is)
+pub over_closed : (s : State) → StringsAreOver (closed s).first
+over_closed s = over_if (in_order s.first forms.Entry) s _ refl (λ is. is)
 
-pub lawful_closed : (s : State) → IsSteady s → 4 < rank s.first → IsLawfulTable s.script.table → IsLawful s.script
-lawful_closed s h past table = record {
+pub lawful_closed : (s : State) → IsSteady s → StringsAreOver s.first → IsLawfulTable s.script.table → IsLawful s.script
+lawful_closed s h over table = record {
   settings = h.settings;
   table = table;
-  stamp = h.whole past;
+  stamp = h.whole over;
   eight = h.eight;
-  few = subst (λ (n : ℕ). n ≤ 4096) (sym h.count) h.few;
+  few = h.few;
   sound = h.sound;
 }
 
@@ -273,7 +293,7 @@ length-added writer stm [] = refl
 length-added zero stm (list ∷ more) = refl
 length-added (suc writer) stm (list ∷ more) = ap suc (length-added writer stm more)
 
-count-added : (writer : ℕ) (stm : Statement) (writers : List (List Statement)) → writer < length writers → count_all (add_statement writer stm writers) ≡ count_all writers + 1
+pub count-added : (writer : ℕ) (stm : Statement) (writers : List (List Statement)) → writer < length writers → count_all (add_statement writer stm writers) ≡ count_all writers + 1
 count-added writer stm [] lt = absurd (omega (arith, lt))
 count-added zero stm (list ∷ more) lt = omega (arith, length-append list (stm ∷ []))
 count-added (suc writer) stm (list ∷ more) lt = omega (arith, count-added writer stm more (omega (arith, lt)))
@@ -290,21 +310,27 @@ sound_added table stamp writer stm [] h new = tt
 sound_added table stamp zero stm (list ∷ more) h new = (sound_behind table stamp list stm h.0 new, h.1)
 sound_added table stamp (suc writer) stm (list ∷ more) h new = (h.0, sound_added table stamp writer stm more h.1 new)
 
-pub statement_steady : (first : Form) (n m k : ℕ) (s : Settings) (table : Map) (names : NameMap) (writers more : List (List Statement)) (writer : ℕ) (stm : Statement)
-    → IsSteady (state first n m s table names writers) → 4 < rank first → writer < 8 → k ≡ m + 1 → k ≤ 4096 → IsSound table s.stamp stm → more ≡ add_statement writer stm writers
-    → IsSteady (state first n k s table names more)
-statement_steady first n m k s table names writers more writer stm h past lt next_is fits new more_is =
-    subst (λ (ws : List (List Statement)). IsSteady (state first n k s table names ws)) (sym more_is) (record {
+pub statement_steady : (first : Form) (s : Settings) (table : Map) (names : NameMap) (writers more : List (List Statement)) (writer : ℕ) (stm : Statement)
+    → IsSteady (state first s table names writers) → StringsAreOver first → writer < 8 → count_all writers < 4096 → IsSound table s.stamp stm → more ≡ add_statement writer stm writers
+    → IsSteady (state first s table names more)
+statement_steady first s table names writers more writer stm h over lt room new more_is =
+    let added : count_all (add_statement writer stm writers) ≡ count_all writers + 1 = count-added writer stm writers (omega (arith, lt, h.eight)) in
+    subst (λ (ws : List (List Statement)). IsSteady (state first s table names ws)) (sym more_is) (record {
       settings = h.settings;
       not_late = h.not_late;
       strings_fit = h.strings_fit;
-      opened = λ le. absurd (omega (arith, le, past));
+      opened = λ may. absurd (over_or_not first may over);
       whole = h.whole;
       eight = length-added writer stm writers ∙ h.eight;
-      few = fits;
-      count = omega (arith, count-added writer stm writers (omega (arith, lt, h.eight)), h.count, next_is);
+      few = omega (arith, added, room);
       sound = sound_added table s.stamp writer stm writers h.sound new;
     })
+
+-- one statement more, as it is counted
+pub statement_counted : (writers more : List (List Statement)) (writer m : ℕ) (stm : Statement) → m ≡ count_all writers → length writers ≡ 8 → writer < 8 → more ≡ add_statement writer stm writers
+    → m + 1 ≡ count_all more
+statement_counted writers more writer m stm is eight lt more_is =
+    ap (λ (n : ℕ). n + 1) is ∙ sym (count-added writer stm writers (omega (arith, lt, eight))) ∙ sym (ap count_all more_is)
 
 -- ---- counts
 

@@ -1,5 +1,5 @@
 -- The texts of a script's table have not many more bytes than the script.
-use Rattle.std.proofs.Common.{◌≡◌, ◌≤◌, ◌+◌, ◌*◌, ◌-◌, ◌^◌, inl, inr, ℕ, suc, Bool, true, false, cond, List, [], ◌∷◌, Option, Some, None, Ok, refl, sym, ◌∙◌, ap, arith, length, lit≤, take}
+use Rattle.std.proofs.Common.{◌≡◌, ◌≤◌, ◌+◌, ◌*◌, ◌-◌, ◌^◌, inl, inr, ℕ, suc, Bool, true, false, cond, List, [], ◌∷◌, Option, Some, None, Ok, refl, sym, ◌∙◌, ap, arith, length, take}
 use Rattle.std.specs.Prelude.{◌==◌, IsSome, codes, slice_index}
 use Rattle.std.specs.FinMap as map
 use Rattle.std.specs.Fmt.{decimal}
@@ -12,15 +12,19 @@ use Rattle.defmt_intern.specs.Table.{Map}
 use Rattle.defmt_intern.specs.declared.entry.Entry.{Entry}
 use Rattle.defmt_intern.specs.declared.entry.Tag.{Tag}
 use Rattle.defmt_intern.specs.declared.entry.Tag.TheVariants as tags
-use Rattle.defmt_lines.specs.Form.{in_order, rank}
+use Rattle.defmt_lines.proofs.FormLaws.{strings_before}
+use Rattle.defmt_lines.specs.Form.{StringsMayCome, in_order}
 use Rattle.defmt_lines.specs.Line.{is_string_tag}
+use Rattle.defmt_lines.specs.Settings.{Sets}
 use Rattle.defmt_lines.specs.declared.form.Form.{Form}
 use Rattle.defmt_lines.specs.declared.form.Form.TheVariants as forms
 use Rattle.defmt_lines.specs.declared.settings.Settings.{Settings}
-use Rattle.defmt_script.proofs.Steadiness.{in_order_le, low_when, some_or_before}
-use Rattle.defmt_script.proofs.Steps.{Ends, IsString, Keeps, reads_kept, set_to, total}
+use Rattle.defmt_script.proofs.Counts.{len-added, no_names}
+use Rattle.defmt_script.proofs.Settled.{is_setting}
+use Rattle.defmt_script.proofs.Steadiness.{over_or_not, some_or_before}
+use Rattle.defmt_script.proofs.Steps.{Ends, IsAdded, Keeps, reads_kept, set_to, total}
 use Rattle.defmt_script.specs.Reads.{Reads, with_string}
-use Rattle.defmt_script.specs.Script.{Script}
+use Rattle.defmt_script.specs.Script.{Script, count_strings, next_index}
 use Rattle.defmt_script.specs.State.{State, closed, entry_at, no_lines, stamp_entry, with_stamp_entry}
 use Rattle.defmt_script.specs.Texts.{CountsTexts, IsKnown}
 
@@ -59,10 +63,10 @@ none_of (Some e) h = absurd (h refl)
 
 -- Each string has at most 11 bytes beside its text, and the timestamp's entry at most 20.
 record IsWithin (count : Map → ℕ) (s : State) (bytes : ℕ) : Type 0 where
-  few : s.strings ≤ 65534
-  free : rank s.first ≤ 4 → (index : ℕ) → IsSome (map.get s.script.table index) → index ≤ s.strings
-  opened : rank s.first ≤ 4 → count s.script.table ≤ bytes + 11 * s.strings
-  whole : count s.script.table ≤ bytes + 11 * s.strings + 20
+  few : count_strings s.script ≤ 65534
+  free : StringsMayCome s.first → (index : ℕ) → IsSome (map.get s.script.table index) → index ≤ count_strings s.script
+  opened : StringsMayCome s.first → count s.script.table ≤ bytes + 11 * count_strings s.script
+  whole : count s.script.table ≤ bytes + 11 * count_strings s.script + 20
 
 known : (tag : Tag) → is_string_tag tag ≡ true → IsKnown tag
 known tag string = λ name is. let clash : true ≡ false = sym string ∙ ap is_string_tag is in absurd (cc clash)
@@ -71,10 +75,11 @@ module _ (count : Map → ℕ) (counts : CountsTexts count) where
   more_within : (s : State) (b n : ℕ) → IsWithin count s b → IsWithin count s (b + n)
   more_within s b n h = record { few = h.few; free = h.free; opened = λ low. omega (arith, h.opened low); whole = omega (arith, h.whole) }
 
-  set_within : (s : State) (form : Form) (t : Settings) (b : ℕ) → rank form ≤ 3 → in_order s.first form ≡ true → IsWithin count s b → IsWithin count (set_to s form t) b
-  set_within s form t b head order h =
-      let low : rank s.first ≤ 4 = omega (arith, head, in_order_le s.first form order) in
-      record { few = h.few; free = λ _. h.free low; opened = λ _. h.opened low; whole = h.whole }
+  set_within : (s : State) (form : Form) (words : List (List ℕ)) (t : Settings) (b : ℕ) → in_order s.first form ≡ true → Sets form words s.script.settings (Ok t) → IsWithin count s b
+      → IsWithin count (set_to s form t) b
+  set_within s form words t b order given h =
+      let may : StringsMayCome s.first = strings_before s.first form order (is_setting form words s.script.settings t given) in
+      record { few = h.few; free = λ _. h.free may; opened = λ _. h.opened may; whole = h.whole }
 
   -- an entry of a script at a new index
   one_more : (table : Map) (k : ℕ) (tag : Tag) (text : List ℕ) → (IsSome (map.get table k) → ⊥) → IsKnown tag → k ≤ 65535
@@ -84,20 +89,21 @@ module _ (count : Map → ℕ) (counts : CountsTexts count) where
       counts.more table k (entry_at k tag text) (none_of (map.get table k) new) is_known in
       omega (arith, more, length-decimal-le 5 k (omega arith) (omega arith) (omega arith))
 
-  string_within : (before : State) (name : List ℕ) (tag : Tag) (text : List ℕ) (b n : ℕ) → IsString before tag text n → IsWithin count before b → IsWithin count (with_string before name tag text) (b + n)
+  string_within : (before : State) (name : List ℕ) (tag : Tag) (text : List ℕ) (b n : ℕ) → IsAdded before name tag text n → IsWithin count before b → IsWithin count (with_string before name tag text) (b + n)
   string_within before name tag text b n i h =
-      let k : ℕ = before.strings + 1 in
-      let new : IsSome (map.get before.script.table k) → ⊥ = λ some. absurd (omega (arith, h.free i.low k some)) in
+      let k : ℕ = next_index before.script in
+      let new : IsSome (map.get before.script.table k) → ⊥ = λ some. absurd (omega (arith, h.free i.may k some)) in
       let added : count (map.insert before.script.table k (entry_at k tag text)) ≤ count before.script.table + length text + 11 =
       one_more before.script.table k tag text new (known tag i.string) (omega (arith, i.room)) in
+      let len : map.len (map.insert before.script.names name k) ≡ count_strings before.script + 1 = len-added before.script.names name k i.new in
       record {
-        few = omega (arith, i.room);
+        few = omega (arith, i.room, len);
         free = λ _ index some. elim (some_or_before before.script.table k (entry_at k tag text) index some) [
-          | inl same ↦ omega (arith, same)
-          | inr old ↦ omega (arith, h.free i.low index old)
+          | inl same ↦ omega (arith, same, len)
+          | inr old ↦ omega (arith, h.free i.may index old, len)
         ];
-        opened = λ _. omega (arith, added, i.within, h.opened i.low);
-        whole = omega (arith, added, i.within, h.opened i.low);
+        opened = λ _. omega (arith, added, i.within, h.opened i.may, len);
+        whole = omega (arith, added, i.within, h.opened i.may, len);
       }
 
   -- the timestamp's entry
@@ -111,15 +117,13 @@ module _ (count : Map → ℕ) (counts : CountsTexts count) where
       omega (arith, added, le)
 
   closed_by : (q : Bool) (s : State) (b : ℕ) → in_order s.first forms.Entry ≡ q → IsWithin count s b
-      → IsWithin count (cond q (record s { first = forms.Statement; script = record s.script { table = with_stamp_entry s.script.settings.stamp (s.strings + 1) s.script.table } }) s) b
-  closed_by true s b is h =
-      let low : rank s.first ≤ 4 = low_when s.first is in
-      record {
-        few = h.few;
-        free = λ le. absurd (omega (arith, le));
-        opened = λ le. absurd (omega (arith, le));
-        whole = stamped s.script.settings.stamp s.script.table s.strings b h.few (h.free low) (h.opened low);
-      }
+      → IsWithin count (cond q (record s { first = forms.Statement; script = record s.script { table = with_stamp_entry s.script.settings.stamp (next_index s.script) s.script.table } }) s) b
+  closed_by true s b may h = record {
+    few = h.few;
+    free = λ string. absurd (over_or_not forms.Statement string refl);
+    opened = λ string. absurd (over_or_not forms.Statement string refl);
+    whole = stamped s.script.settings.stamp s.script.table (count_strings s.script) b h.few (h.free may) (h.opened may);
+  }
   closed_by false s b is h = h
 
   closed_within : (s : State) (b : ℕ) → IsWithin count s b → IsWithin count (closed s) b
@@ -128,7 +132,7 @@ module _ (count : Map → ℕ) (counts : CountsTexts count) where
   keeps_within : Keeps (IsWithin count)
   keeps_within = record {
     more = more_within;
-    settings = λ s form t b head order given h. set_within s form t b head order h;
+    settings = λ s form words t b order given h. set_within s form words t b order given h;
     string = string_within;
     closes = closed_within;
     statement = λ s writer stm b taken h. record { few = h.few; free = h.free; opened = h.opened; whole = h.whole };
@@ -136,7 +140,7 @@ module _ (count : Map → ℕ) (counts : CountsTexts count) where
 
   begins_within : IsWithin count no_lines 0
   begins_within = record {
-    few = lit≤ tt;
+    few = omega (arith, no_names);
     free = λ _ index some. absurd (nowhere index some);
     opened = λ _. omega (arith, counts.empty);
     whole = omega (arith, counts.empty);

@@ -1,5 +1,5 @@
 -- How the logic stores scripts: as the tuple of their parts.
-use Rattle.std.specs.Prelude.{ℕ, List, refl}
+use Rattle.std.specs.Prelude.{List, refl}
 use Rattle.std.specs.Coded.{Coded, code_by, coded×, coded_list, coded_ℕ}
 use Rattle.std.specs.FinMap as map
 use Rattle.defmt_intern.specs.Table.{Map}
@@ -31,8 +31,8 @@ coded_script = code_by (Settings × (Map × (NameMap × List (List Statement))))
     (λ _. refl)
 
 abbrev pub coded_state : Coded State
-coded_state = code_by (Form × (ℕ × (ℕ × Script)))
-    (coded× form_row.coded (coded× coded_ℕ (coded× coded_ℕ coded_script)))
-    (λ s. (s.first, (s.strings, (s.statements, s.script))))
-    (λ p. record { first = p.0; strings = p.1.0; statements = p.1.1.0; script = p.1.1.1 })
+coded_state = code_by (Form × Script)
+    (coded× form_row.coded coded_script)
+    (λ s. (s.first, s.script))
+    (λ p. record { first = p.0; script = p.1 })
     (λ _. refl)

@@ -9,8 +9,8 @@ use Rattle.defmt_intern.specs.declared.entry.Entry.{Entry}
 use Rattle.defmt_intern.specs.declared.entry.Tag.{Tag}
 use Rattle.defmt_lines.specs.Cause.{cause_number, inner_number}
 use Rattle.defmt_lines.specs.Form.{in_order, next}
-use Rattle.defmt_lines.specs.Line.{Line, blank, ring, mode, reader, stamp, entry, statement, other, line_of}
-use Rattle.defmt_lines.specs.Settings.{with_ring, with_mode, with_reader, with_stamp}
+use Rattle.defmt_lines.specs.Line.{Line, blank, head, entry, act, other, Says}
+use Rattle.defmt_lines.specs.Settings.{Sets}
 use Rattle.defmt_lines.specs.Verdict.{Judges}
 use Rattle.defmt_lines.specs.declared.cause.Cause.{Cause}
 use Rattle.defmt_lines.specs.declared.cause.Cause.TheVariants as causes
@@ -18,7 +18,7 @@ use Rattle.defmt_lines.specs.declared.form.Form.{Form}
 use Rattle.defmt_lines.specs.declared.form.Form.TheVariants as forms
 use Rattle.defmt_lines.specs.declared.settings.Settings.{Settings}
 use Rattle.defmt_script.specs.Lawful.{first_message, message_limit, statements_limit}
-use Rattle.defmt_script.specs.Script.{Script, Refusal, add_statement}
+use Rattle.defmt_script.specs.Script.{Script, Refusal, add_statement, count_statements, count_strings, next_index}
 use Rattle.defmt_script.specs.State.{State, closed, entry_at, no_lines, strings_limit}
 use Rattle.defmt_shapes.specs.Shape.{is_name}
 use Rattle.defmt_spelling.specs.Spelling.{ReadsArguments}
@@ -28,7 +28,7 @@ use Rattle.defmt_values.specs.declared.value.Statement.{Statement}
 
 -- Each line gives the script with that line, or the first cause why it is refused.
 
--- ---- settings: `ring N`, `mode WORD`, `reader WORD`, `stamp BASE STEP`, each at most once, in this order, in front of the strings
+-- ---- settings, each form at most once, in their order, in front of the strings
 
 abbrev pub with_settings : State → Form → Result Settings Cause → Result State Cause
 with_settings before form (Ok s) = Ok (record before { first = next form; script = record before.script { settings = s } })
@@ -36,6 +36,9 @@ with_settings before form (Err cause) = Err cause
 
 abbrev pub sets : State → Form → Result Settings Cause → Result State Cause
 sets before form settings = if in_order before.first form then with_settings before form settings else Err causes.Line
+
+abbrev pub TakesSetting : State → Form → List (List ℕ) → Result State Cause → Type 0
+TakesSetting before form words taken = (set : Result Settings Cause) × Sets form words before.script.settings set × (taken ≡ sets before form set)
 
 -- ---- strings: `s NAME TAG TEXT`
 
@@ -47,19 +50,22 @@ admits_string before name =
     else if is_some (map.get before.script.names name) then Err causes.Double
     else Ok tt
 
-abbrev pub with_string : State → List ℕ → Tag → List ℕ → State
-with_string before name tag text = record before {
+-- with a string at this index
+abbrev pub string_at : ℕ → State → List ℕ → Tag → List ℕ → State
+string_at index before name tag text = record before {
   first = forms.Entry;
-  strings = before.strings + 1;
   script = record before.script {
-    table = map.insert before.script.table (before.strings + 1) (entry_at (before.strings + 1) tag text);
-    names = map.insert before.script.names name (before.strings + 1);
+    table = map.insert before.script.table index (entry_at index tag text);
+    names = map.insert before.script.names name index;
   };
 }
 
+abbrev pub with_string : State → List ℕ → Tag → List ℕ → State
+with_string before name tag text = string_at (next_index before.script) before name tag text
+
 abbrev pub takes_string : State → List ℕ → Tag → List ℕ → Option ℕ → Result State Cause
 takes_string before name tag text (Some inner) = Err (causes.Text inner)
-takes_string before name tag text None = if nat_lt before.strings strings_limit then Ok (with_string before name tag text) else Err causes.Many
+takes_string before name tag text None = if nat_lt (count_strings before.script) strings_limit then Ok (with_string before name tag text) else Err causes.Many
 
 -- the text is looked at where its name is admitted
 abbrev pub TakesString : State → List ℕ → Tag → List ℕ → Result (Unit {0}) Cause → Result State Cause → Type 0
@@ -80,7 +86,7 @@ abbrev pub admits_index : State → ℕ → Option ℕ → Result (ℕ × ℕ) C
 admits_index before writer None = Err causes.Name
 admits_index before writer (Some index) =
     if not (is_message before.script.table index) then Err causes.Name
-    else if nat_lt before.statements statements_limit then Ok (writer, index)
+    else if nat_lt (count_statements before.script) statements_limit then Ok (writer, index)
     else Err causes.Many
 
 -- the writer and the index of the name
@@ -89,10 +95,7 @@ admits_statement before None name = Err causes.Writer
 admits_statement before (Some writer) name = admits_index before writer (map.get before.script.names name)
 
 abbrev pub with_statement : State → ℕ → Statement → State
-with_statement before writer stm = record before {
-  statements = before.statements + 1;
-  script = record before.script { writers = add_statement writer stm before.script.writers };
-}
+with_statement before writer stm = record before { script = record before.script { writers = add_statement writer stm before.script.writers } }
 
 -- the message, and then the text, may be too long
 abbrev pub takes_statement : State → ℕ → Statement → Result State Cause
@@ -113,14 +116,16 @@ TakesStatement before text (Ok p) taken =
 
 -- ---- lines
 
+-- what a writer does, by the form of its line
+abbrev pub TakesAction : State → Form → Option ℕ → List ℕ → List ℕ → Result State Cause → Type 0
+TakesAction before forms.Statement writer name args taken = TakesStatement (closed before) args (admits_statement (closed before) writer name) taken
+TakesAction before form writer field more taken = taken ≡ Err causes.Line
+
 abbrev pub Takes : State → Line → Result State Cause → Type 0
 Takes before blank taken = taken ≡ Ok before
-Takes before (ring word) taken = taken ≡ sets before forms.Ring (with_ring before.script.settings word)
-Takes before (mode word) taken = taken ≡ sets before forms.Mode (with_mode before.script.settings word)
-Takes before (reader word) taken = taken ≡ sets before forms.Reader (with_reader before.script.settings word)
-Takes before (stamp base step) taken = taken ≡ sets before forms.Stamp (with_stamp before.script.settings base step)
+Takes before (head form words) taken = TakesSetting before form words taken
 Takes before (entry name tag text) taken = TakesString before name tag text (admits_string before name) taken
-Takes before (statement writer name args) taken = TakesStatement (closed before) args (admits_statement (closed before) writer name) taken
+Takes before (act form writer field more) taken = TakesAction before form writer field more taken
 Takes before other taken = taken ≡ Err causes.Line
 
 abbrev pub refusal_at : ℕ → Cause → Refusal
@@ -130,8 +135,8 @@ refusal_at number cause = record { line = number; cause = cause_number cause; in
 abbrev pub ReadsLines : State → ℕ → List (List ℕ) → Result Script Refusal → Type 0
 ReadsLines before number [] read = read ≡ Ok (closed before).script
 ReadsLines before number (bytes ∷ more) read =
-    ((after : State) × Takes before (line_of bytes) (Ok after) × ReadsLines after (number + 1) more read)
-    ⊎ ((cause : Cause) × Takes before (line_of bytes) (Err cause) × (read ≡ Err (refusal_at number cause)))
+    ((line : Line) × (after : State) × Says bytes line × Takes before line (Ok after) × ReadsLines after (number + 1) more read)
+    ⊎ ((line : Line) × (cause : Cause) × Says bytes line × Takes before line (Err cause) × (read ≡ Err (refusal_at number cause)))
 
 -- What a text is read as. Its lines end with a newline; one carriage return before it is passed over, and the last line may lack its
 -- newline. The first line has the number 1.

@@ -1,5 +1,6 @@
 -- A script as plain data.
 use Rattle.std.specs.Prelude.{◌+◌, ℕ, zero, suc, List, [], ◌∷◌, ◌++◌, length, Option, option_map}
+use Rattle.std.specs.FinMap as map
 use Rattle.defmt_intern.specs.Table.{Map}
 use Rattle.defmt_lines.specs.declared.settings.Settings.{Settings}
 use Rattle.defmt_spelling.specs.Names.{NameMap}
@@ -13,6 +14,14 @@ pub record Script : Type 0 where
   pub names : NameMap
   pub writers : List (List Statement)
 
+-- how many strings it has: each has a name of its own
+abbrev pub count_strings : Script → ℕ
+count_strings s = map.len s.names
+
+-- the index of the next string
+abbrev pub next_index : Script → ℕ
+next_index s = count_strings s + 1
+
 -- one statement more of a writer
 abbrev pub add_statement : ℕ → Statement → List (List Statement) → List (List Statement)
 add_statement writer stm [] = []
@@ -23,6 +32,9 @@ add_statement (suc writer) stm (list ∷ more) = list ∷ add_statement writer s
 abbrev pub count_all : List (List Statement) → ℕ
 count_all [] = 0
 count_all (list ∷ more) = length list + count_all more
+
+abbrev pub count_statements : Script → ℕ
+count_statements s = count_all s.writers
 
 -- the first stamp, where there are stamps
 abbrev pub base_of : Option (ℕ × ℕ) → Option ℕ

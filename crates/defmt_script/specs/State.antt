@@ -1,5 +1,5 @@
 -- A script of which some lines are read.
-use Rattle.std.specs.Prelude.{◌+◌, ℕ, List, [], ◌∷◌, codes, Option, Some, None, if◌then◌else◌}
+use Rattle.std.specs.Prelude.{ℕ, List, [], ◌∷◌, codes, Option, Some, None, if◌then◌else◌}
 use Rattle.std.specs.FinMap as map
 use Rattle.std.specs.Fmt.{decimal}
 use Rattle.defmt_intern.specs.Table.{Map}
@@ -10,14 +10,12 @@ use Rattle.defmt_lines.specs.Form.{in_order}
 use Rattle.defmt_lines.specs.Settings.{no_settings}
 use Rattle.defmt_lines.specs.declared.form.Form.{Form}
 use Rattle.defmt_lines.specs.declared.form.Form.TheVariants as forms
-use Rattle.defmt_script.specs.Script.{Script}
+use Rattle.defmt_script.specs.Script.{Script, next_index}
 use Rattle.defmt_values.specs.declared.value.Statement.{Statement}
 
--- The first form of line that may come, how many strings and statements there are, and the script so far.
+-- The first form of line that may come, and the script so far.
 pub record State : Type 0 where
   pub first : Form
-  pub strings : ℕ
-  pub statements : ℕ
   pub script : Script
 
 -- the most strings: an index is left for the timestamp
@@ -31,7 +29,7 @@ abbrev pub empty_script : Script
 empty_script = record { settings = no_settings; table = map.empty; names = map.empty; writers = no_statements }
 
 abbrev pub no_lines : State
-no_lines = record { first = forms.Ring; strings = 0; statements = 0; script = empty_script }
+no_lines = record { first = forms.Ring; script = empty_script }
 
 -- an entry of a script, which has its index for its disambiguator
 abbrev pub entry_at : ℕ → Tag → List ℕ → Entry
@@ -49,5 +47,5 @@ with_stamp_entry (Some p) index table = map.insert table index (stamp_entry inde
 abbrev pub closed : State → State
 closed s = if in_order s.first forms.Entry then record s {
   first = forms.Statement;
-  script = record s.script { table = with_stamp_entry s.script.settings.stamp (s.strings + 1) s.script.table };
+  script = record s.script { table = with_stamp_entry s.script.settings.stamp (next_index s.script) s.script.table };
 } else s

@@ -1,19 +1,20 @@
 //! A script of which some lines are read.
 
-ghost use Rattle.std.specs.Prelude.{◌≡◌, ◌≤◌, ◌<◌, ℕ, length, nat_lt, Ok, OnOk, OnErr, IfOk, true};
+ghost use Rattle.std.specs.Prelude.{◌≡◌, ◌≤◌, ◌<◌, ℕ, length, nat_lt, None, Ok, OnOk, OnErr, IfOk, true};
 ghost use Rattle.std.specs.FinMap as map;
 ghost use Rattle.std.specs.Fmt.{decimal};
 ghost use Rattle.defmt_eager.specs.Line.{text_limit};
 ghost use Rattle.defmt_eager.specs.Show.{eager_text};
 ghost use Rattle.defmt_intern.specs.Table.{InsertRefused};
-ghost use Rattle.defmt_lines.specs.Form.{in_order, rank};
-ghost use Rattle.defmt_lines.specs.Line.{entry, statement, is_string_tag};
+ghost use Rattle.defmt_lines.specs.Form.{StringsAreOver, StringsMayCome, in_order};
+ghost use Rattle.defmt_lines.specs.Line.{act, entry, is_string_tag};
 ghost use Rattle.defmt_lines.specs.LineView.{line_view};
+ghost use Rattle.defmt_lines.specs.declared.form.Form.TheVariants.{Statement as StatementForm};
 ghost use Rattle.defmt_lines.specs.declared.settings.Settings.{Settings as AnySettings};
 ghost use Rattle.defmt_script.specs.Answers.{Becomes, TakesLine};
 ghost use Rattle.defmt_script.specs.Lawful.{first_message, message_limit, statements_limit};
 ghost use Rattle.defmt_script.specs.Reads.{admits_statement, admits_string, is_message, sets, takes_statement, with_string};
-ghost use Rattle.defmt_script.specs.Script.{base_of};
+ghost use Rattle.defmt_script.specs.Script.{base_of, count_statements, count_strings, next_index};
 ghost use Rattle.defmt_script.specs.State.{closed, entry_at, no_lines, no_statements, strings_limit};
 ghost use Rattle.defmt_script.specs.Steady.{StaysLawful};
 ghost use Rattle.defmt_spelling.specs.Spelling.{ReadsArguments};
@@ -23,7 +24,7 @@ use crate::fault::LineFault;
 use crate::script::{Script, Statements};
 use defmt_grammar::Text;
 use defmt_intern::{Entry, Table, TableFault, Tag};
-use defmt_lines::{Cause, EntryLine, Form, Line, Settings, StatementLine, judge};
+use defmt_lines::{ActionLine, Cause, EntryLine, Form, Line, Settings, judge};
 use defmt_shapes::is_name;
 use defmt_spelling::{ArgFault, Names, read_args};
 use defmt_values::{Args, Statement, is_logged};
@@ -36,7 +37,7 @@ const STRINGS_LIMIT: u16 = 65_534;
 
 const STATEMENTS_LIMIT: u16 = 4096;
 
-/// A script of which some lines are read.
+/// A script of which some lines are read, and how many strings and statements it has by now.
 #[derive(Drop)]
 pub struct Reading {
     alloc: Global,
@@ -51,7 +52,7 @@ pub struct Reading {
 
 impl Model for Reading {
     ghost use Rattle.defmt_script.specs.State.{State};
-    ghost use Rattle.defmt_script.specs.Steady.{IsSteady};
+    ghost use Rattle.defmt_script.specs.Steady.{IsCounted};
     ghost use Rattle.defmt_script.specs.Codes.{coded_state};
 
     ghost Value = { State };
@@ -60,15 +61,11 @@ impl Model for Reading {
 
     ghost view = { λ r. record {
       first = r.first;
-      strings = r.strings;
-      statements = r.statements;
       script = record { settings = r.settings; table = r.table.entries; names = r.names; writers = r.writers.items };
     } };
 
-    ghost invariant = { λ r. IsSteady (record {
+    ghost invariant = { λ r. IsCounted r.strings r.statements (record {
       first = r.first;
-      strings = r.strings;
-      statements = r.statements;
       script = record { settings = r.settings; table = r.table.entries; names = r.names; writers = r.writers.items };
     }) };
 }
@@ -203,26 +200,43 @@ impl Reading {
         })
     }
 
+    // The index of the next string.
+    fn next_index(&self) -> u16
+        ensures { result ≡ next_index self.now.script }
+    {
+        self.strings + 1
+    }
+
+    // Whether another string may come.
+    fn has_room_for_string(&self) -> bool
+        ensures { result ≡ nat_lt (count_strings self.now.script) strings_limit }
+    {
+        self.strings < STRINGS_LIMIT
+    }
+
+    // Whether another statement may come.
+    fn has_room_for_statement(&self) -> bool
+        ensures { result ≡ nat_lt (count_statements self.now.script) statements_limit }
+    {
+        self.statements < STATEMENTS_LIMIT
+    }
+
     /// Takes one line more.
     pub fn take_line(&mut self, line: Line<'_>) -> Result<(), LineFault>
         ensures { TakesLine self.old (line_view line.entry) result self.new }
     {
         match line {
             Line::Blank => Ok(()),
-            Line::Ring(word) => self.set(Form::Ring, self.settings.with_ring(word)),
-            Line::Mode(word) => self.set(Form::Mode, self.settings.with_mode(word)),
-            Line::Reader(word) => self.set(Form::Reader, self.settings.with_reader(word)),
-            Line::Stamp(base, step) => self.set(Form::Stamp, self.settings.with_stamp(base, step)),
+            Line::Head(form, words) => self.set(form, self.settings.with_words(form, words)),
             Line::Entry(line) => self.take_string(line),
-            Line::Statement(line) => self.take_statement(line),
+            Line::Act(form, line) => self.take_action(form, line),
             Line::Other => Err(LineFault::Refused(Cause::Line)),
         }
     }
 
     // Takes the settings of a line of this form.
     fn set(&mut self, form: Form, settings: Result<Settings, Cause>) -> Result<(), LineFault>
-        requires setting { rank form ≤ 3 }
-        requires lawful { (s : AnySettings) → settings ≡ Ok s → in_order self.old.first form ≡ true → StaysLawful form s }
+        requires { (s : AnySettings) → settings ≡ Ok s → in_order self.old.first form ≡ true → StaysLawful form s }
         ensures { Becomes (sets self.old form settings) result self.new }
     {
         if !form.is_in_order(self.first) {
@@ -262,7 +276,7 @@ impl Reading {
         if let Some(inner) = judge(self.alloc, &line.tag, line.text)? {
             return Err(LineFault::Refused(Cause::Text(inner)));
         }
-        if self.strings >= STRINGS_LIMIT {
+        if !self.has_room_for_string() {
             return Err(LineFault::Refused(Cause::Many));
         }
         self.add_string(line.name, line.tag, line.text)?;
@@ -271,17 +285,18 @@ impl Reading {
 
     // Puts the string at the next index. On want of memory the table is as before.
     fn add_string(&mut self, name: &str, tag: Tag, text: &str) -> Result<(), Memory>
-        requires open { rank self.old.first ≤ 4 }
-        requires room { self.old.strings < strings_limit }
+        requires open { StringsMayCome self.old.first }
+        requires room { count_strings self.old.script < strings_limit }
+        requires new { map.get self.old.script.names name.now ≡ None }
         requires string_tag { is_string_tag tag ≡ true }
         requires short { length text.now ≤ 4096 }
         ensures { OnOk result (self.new ≡ with_string self.old name.now tag text.now) }
     {
-        let index = self.strings + 1;
+        let index = self.next_index();
         let entry = entry_of(self.alloc, index, tag, text)?;
         self.names.put(name, index)?;
-        put_entry(&mut self.table, index, entry)?;
         self.strings = index;
+        put_entry(&mut self.table, index, entry)?;
         self.first = Form::Entry;
         Ok(())
     }
@@ -297,7 +312,7 @@ impl Reading {
             self.first = Form::Statement;
             return Ok(());
         }
-        let index = self.strings + 1;
+        let index = self.next_index();
         let entry = entry_of(self.alloc, index, Tag::Timestamp, "{=u64:us}")?;
         put_entry(&mut self.table, index, entry)?;
         self.first = Form::Statement;
@@ -305,33 +320,45 @@ impl Reading {
     }
 
     // The writer of a statement, and the index of its name.
-    fn admit_statement(&self, line: &StatementLine<'_>) -> Result<(u8, u16), Cause>
-        ensures { result ≡ admits_statement self.now line.now.writer line.now.name.now }
+    fn admit_statement(&self, line: &ActionLine<'_>) -> Result<(u8, u16), Cause>
+        ensures { result ≡ admits_statement self.now line.now.writer line.now.field.now }
     {
         let Some(writer) = line.writer else {
             return Err(Cause::Writer);
         };
-        let Some(index) = self.names.get(line.name) else {
+        let Some(index) = self.names.get(line.field) else {
             return Err(Cause::Name);
         };
         if !is_message(&self.table, index) {
             return Err(Cause::Name);
         }
-        if self.statements >= STATEMENTS_LIMIT {
+        if !self.has_room_for_statement() {
             return Err(Cause::Many);
         }
         Ok((writer, index))
     }
 
-    fn take_statement(&mut self, line: StatementLine<'_>) -> Result<(), LineFault>
-        ensures { TakesLine self.old (statement line.entry.writer line.entry.name.now line.entry.args.now) result self.new }
+    fn take_action(&mut self, form: Form, line: ActionLine<'_>) -> Result<(), LineFault>
+        ensures { TakesLine self.old (act form line.entry.writer line.entry.field.now line.entry.rest.now) result self.new }
+    {
+        match form {
+            Form::Statement => self.take_statement(line),
+            Form::Ring | Form::Mode | Form::Reader | Form::Stamp | Form::Entry => {
+                Err(LineFault::Refused(Cause::Line))
+            }
+        }
+    }
+
+    // Takes a statement: the field is the name of its string, and the rest are its arguments.
+    fn take_statement(&mut self, line: ActionLine<'_>) -> Result<(), LineFault>
+        ensures { TakesLine self.old (act StatementForm line.entry.writer line.entry.field.now line.entry.rest.now) result self.new }
     {
         self.close()?;
         let (writer, index) = match self.admit_statement(&line) {
             Ok(admitted) => admitted,
             Err(cause) => return Err(LineFault::Refused(cause)),
         };
-        match arguments_of(self.alloc, &self.names, &self.table, index, line.args)? {
+        match arguments_of(self.alloc, &self.names, &self.table, index, line.rest)? {
             Ok(args) => self.put_statement(writer, Statement { index, args }),
             Err(inner) => Err(LineFault::Refused(Cause::Args(inner))),
         }
@@ -339,8 +366,8 @@ impl Reading {
 
     // Puts a statement behind those of its writer, unless it is too long.
     fn put_statement(&mut self, writer: u8, stm: Statement) -> Result<(), LineFault>
-        requires closed { 4 < rank self.old.first }
-        requires room { self.old.statements < statements_limit }
+        requires closed { StringsAreOver self.old.first }
+        requires room { count_statements self.old.script < statements_limit }
         requires writer { writer < 8 }
         requires message { is_message self.old.script.table stm.index ≡ true }
         requires fits { Fits self.old.script.table stm.index stm.args }

@@ -3,7 +3,7 @@ use crate::rows::{Kind, each_line};
 use crate::texts::{inside_of, put_digits_or_nothing, put_settings};
 use defmt_intern::Tag;
 use defmt_lines::{
-    Cause, EntryLine, Form, Line, Settings, StatementLine, judge, next_line, read_line,
+    ActionLine, Cause, EntryLine, Form, Line, Settings, Words, judge, next_line, read_line,
 };
 use defmt_shapes::is_name;
 use std::alloc::Global;
@@ -86,23 +86,39 @@ fn put_entry(line: &EntryLine<'_>, out: &mut String) -> Result<(), Fail> {
     Ok(write!(out, "entry <{name}> {tag} <{text}>")?)
 }
 
-fn put_statement(line: &StatementLine<'_>, out: &mut String) -> Result<(), Fail> {
-    let (name, args) = (line.name, line.args);
+fn name_of(form: Form) -> &'static str {
+    match form {
+        Form::Ring => "ring",
+        Form::Mode => "mode",
+        Form::Reader => "reader",
+        Form::Stamp => "stamp",
+        Form::Entry => "entry",
+        Form::Statement => "statement",
+    }
+}
+
+fn put_words(form: Form, words: &Words<'_>, out: &mut String) -> Result<(), Fail> {
+    let name = name_of(form);
+    match words {
+        Words::One(word) => Ok(write!(out, "{name} <{word}>")?),
+        Words::Two(first, second) => Ok(write!(out, "{name} <{first}> <{second}>")?),
+    }
+}
+
+fn put_action(form: Form, line: &ActionLine<'_>, out: &mut String) -> Result<(), Fail> {
+    let (name, field, rest) = (name_of(form), line.field, line.rest);
     match line.writer {
-        Some(writer) => Ok(write!(out, "statement {writer} <{name}> <{args}>")?),
-        None => Ok(write!(out, "statement above <{name}> <{args}>")?),
+        Some(writer) => Ok(write!(out, "{name} {writer} <{field}> <{rest}>")?),
+        None => Ok(write!(out, "{name} above <{field}> <{rest}>")?),
     }
 }
 
 fn put_said(line: &Line<'_>, out: &mut String) -> Result<(), Fail> {
     match line {
         Line::Blank => Ok(out.push_str("blank")?),
-        Line::Ring(word) => Ok(write!(out, "ring <{word}>")?),
-        Line::Mode(word) => Ok(write!(out, "mode <{word}>")?),
-        Line::Reader(word) => Ok(write!(out, "reader <{word}>")?),
-        Line::Stamp(base, step) => Ok(write!(out, "stamp <{base}> <{step}>")?),
+        Line::Head(form, words) => put_words(*form, words, out),
         Line::Entry(entry) => put_entry(entry, out),
-        Line::Statement(statement) => put_statement(statement, out),
+        Line::Act(form, line) => put_action(*form, line, out),
         Line::Other => Ok(out.push_str("other")?),
     }
 }
@@ -117,19 +133,15 @@ pub fn put_said_by_bytes(alloc: Global, digits: &str, out: &mut String) -> Resul
 }
 
 // What a line sets that stands alone.
-fn set_by(line: &Line<'_>) -> Option<Result<Settings, Cause>> {
-    let settings = Settings::new();
+fn set_by(line: Line<'_>) -> Option<Result<Settings, Cause>> {
     match line {
-        Line::Ring(word) => Some(settings.with_ring(word)),
-        Line::Mode(word) => Some(settings.with_mode(word)),
-        Line::Reader(word) => Some(settings.with_reader(word)),
-        Line::Stamp(base, step) => Some(settings.with_stamp(base, step)),
+        Line::Head(form, words) => Some(Settings::new().with_words(form, words)),
         _ => None,
     }
 }
 
 pub fn put_setting(row: &str, out: &mut String) -> Result<(), Fail> {
-    match set_by(&read_line(inside_of(row)?.as_bytes())) {
+    match set_by(read_line(inside_of(row)?.as_bytes())) {
         Some(Ok(set)) => put_settings(set.ring, set.mode, set.late, set.stamp, out),
         Some(Err(cause)) => Ok(write!(out, "cause {}", cause.number())?),
         None => Ok(out.push_str("no setting")?),

@@ -1,5 +1,4 @@
-use Rattle.std.proofs.Common.{Err, Ok, arith, subst}
-use Rattle.defmt_lines.specs.Line.{Line}
+use Rattle.std.proofs.Common.{Err, arith}
 use Rattle.defmt_lines.specs.LineView.{line_view}
 use Rattle.defmt_script.proofs.ReadingLaws.{goes_on, refuses}
 use Rattle.defmt_script.specs.Reads.{Takes}
@@ -7,8 +6,7 @@ use Rattle.defmt_script.proofs.top.read_lines.Goals as goal
 
 pub loop-rest-preserved : goal.loop-rest-preserved
 loop-rest-preserved c = record {
-  reading = goes_on _ _ _ _ _ c.next_line.result.1.now c.loop-rest.invariant.reading c.next_line.ensures.lines c.take_line.new.self
-      (subst (λ (l : Line). Takes c.loop-rest.reading l (Ok c.take_line.new.self)) c.read_line.ensures c.in-Ok.ensures);
+  reading = goes_on _ _ _ _ _ c.next_line.result.1.now c.loop-rest.invariant.reading c.next_line.ensures.lines (line_view c.read_line.result) c.take_line.new.self c.read_line.ensures c.in-Ok.ensures;
   number = omega (arith, c.next_line.ensures.shorter);
 }
 
@@ -16,5 +14,4 @@ pub returns-in-Err-Refused : goal.returns-in-Err-Refused
 returns-in-Err-Refused c =
     let wrong : Takes c.loop-rest.reading (line_view c.read_line.result) (Err c.in-Err-Refused.cause) = rw c.in-Err-Refused.field-0-is at c.in-Err-Refused.ensures in
     rw (c.number.ensures, c.inner.ensures, c.in-Err-Refused.cause-is)
-    (refuses _ _ _ _ c.next_line.result.0.now c.next_line.result.1.now c.loop-rest.invariant.reading c.next_line.ensures.lines c.in-Err-Refused.cause
-    (subst (λ (l : Line). Takes c.loop-rest.reading l (Err c.in-Err-Refused.cause)) c.read_line.ensures wrong))
+    (refuses _ _ _ _ c.next_line.result.0.now c.next_line.result.1.now c.loop-rest.invariant.reading c.next_line.ensures.lines (line_view c.read_line.result) c.in-Err-Refused.cause c.read_line.ensures wrong)

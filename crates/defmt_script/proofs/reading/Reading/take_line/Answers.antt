@@ -1,20 +1,23 @@
-use Rattle.std.proofs.Common.{ap, sym, ◌∙◌}
+use Rattle.std.proofs.Common.{Result, ap, subst, sym, ◌∙◌}
 use Rattle.defmt_lines.specs.Form.{in_order}
-use Rattle.defmt_lines.specs.declared.form.Form.TheVariants as forms
-use Rattle.defmt_script.proofs.Settled.{ring_stays, mode_stays, reader_stays, stamp_stays}
+use Rattle.defmt_lines.specs.LineView.{line_view, words_view}
+use Rattle.defmt_lines.specs.Settings.{Sets}
+use Rattle.defmt_lines.specs.declared.cause.Cause.{Cause}
+use Rattle.defmt_lines.specs.declared.content.Line.{Line}
+use Rattle.defmt_lines.specs.declared.settings.Settings.{Settings}
+use Rattle.defmt_script.proofs.ReadingLaws.{set_becomes}
+use Rattle.defmt_script.proofs.Settled.{stays}
+use Rattle.defmt_script.specs.Answers.{TakesLine}
 use Rattle.defmt_script.specs.State.{State}
 use Rattle.defmt_script.proofs.reading.Reading.take_line.Goals as goal
 
-pub set-requires-clause-lawful : goal.set-requires-clause-lawful
-set-requires-clause-lawful c = λ s is order. ring_stays c.set.inside.first c.set.inside.settings s c.in-Ring.word.now c.set.invariant.settings c.set.invariant.not_late (sym c.with_ring.ensures ∙ is)
-    (ap (λ (v : State). in_order v.first forms.Ring) c.set.view_is ∙ order)
+pub set-requires : goal.set-requires
+set-requires c = λ s is order. stays c.set.inside.first c.in-Head.form (words_view c.in-Head.words) c.set.inside.settings s c.set.invariant.steady.settings c.set.invariant.steady.not_late
+    (subst (λ (r : Result Settings Cause). Sets c.in-Head.form (words_view c.in-Head.words) c.set.inside.settings r) is c.with_words.ensures)
+    (ap (λ (v : State). in_order v.first c.in-Head.form) c.set.view_is ∙ order)
 
-pub set-requires-in-Mode-clause-lawful : goal.set-requires-in-Mode-clause-lawful
-set-requires-in-Mode-clause-lawful c = λ s is order. mode_stays c.set-in-Mode.inside.first c.set-in-Mode.inside.settings s c.in-Mode.word.now c.set-in-Mode.invariant.settings c.set-in-Mode.invariant.not_late
-    (sym c.with_mode.ensures ∙ is) (ap (λ (v : State). in_order v.first forms.Mode) c.set-in-Mode.view_is ∙ order)
-
-pub set-requires-in-Reader-clause-lawful : goal.set-requires-in-Reader-clause-lawful
-set-requires-in-Reader-clause-lawful c = λ s is order. reader_stays c.set-in-Reader.inside.settings s c.in-Reader.word.now c.set-in-Reader.invariant.settings (sym c.with_reader.ensures ∙ is)
-
-pub set-requires-in-Stamp-clause-lawful : goal.set-requires-in-Stamp-clause-lawful
-set-requires-in-Stamp-clause-lawful c = λ s is order. stamp_stays c.set-in-Stamp.inside.settings s c.in-Stamp.base.now c.in-Stamp.step.now c.set-in-Stamp.invariant.settings (sym c.with_stamp.ensures ∙ is)
+pub returns-in-Head : goal.returns-in-Head
+returns-in-Head c =
+    let given = subst (λ (v : State). Sets c.in-Head.form (words_view c.in-Head.words) v.script.settings c.with_words.result) c.set.view_is c.with_words.ensures in
+    subst (λ (l : Line). TakesLine c.args.self.now (line_view l) c.set-in-Head.result c.set-in-Head.new.self) (sym c.in-Head.is)
+    (set_becomes c.args.self.now c.in-Head.form (words_view c.in-Head.words) c.with_words.result given c.set-in-Head.result c.set-in-Head.new.self c.set-in-Head.ensures)
