@@ -7,7 +7,7 @@
 # Each row is one function with all that it calls: what its calls cost together, divided by their number, over the script of `gen 4096`.
 # The compiler puts a function that is called in one place into its caller, and then it has no count of its own. So the two sums are taken of
 # the first of these that are there:
-#   from a statement to its frame     `write_frame` of the logger; or `message` and `frame`
+#   from a statement to its frame     `write_frame` of defmt_frames; or `message` and `frame`
 #   from a piece to its statement     `decode_piece` and `hear`; or `tell_piece`, which prints the line too, less `line`
 
 . "$(dirname "$0")/common.sh"
@@ -62,7 +62,7 @@ profile "$work/decoded" decode --table "$work/table.elf" < "$work/stream"
 printf '%-44s %10s %10s\n' function calls "a call"
 row "$work/recorded" defmt_encode::writing::message; message=$cost
 row "$work/recorded" defmt_encode::framing::frame; frame=$cost
-row "$work/recorded" defmt_logger::framing::write_frame; encoding=$cost
+row "$work/recorded" defmt_frames::framing::write_frame; encoding=$cost
 row "$work/decoded" defmt_framing::decoded::decode_piece; decode=$cost
 row "$work/decoded" defmt_encode::heard::Heard::hear; hear=$cost
 row "$work/decoded" defmt_framing::framer::tell_piece; piece=$cost

@@ -4,6 +4,7 @@ use Rattle.std.specs.Prelude.{if◌then◌else◌, slice_index_or, slice_set, �
 use Rattle.std.proofs.lemmas.Bool.{eqb-true}
 use Rattle.std.proofs.lemmas.Bool.Decides.{eqb_tells}
 use Rattle.std.proofs.lemmas.List.{length-set, get_or-set_same, get_or-set_other}
+use Rattle.defmt_frames.specs.Frames.{count, stamp_number}
 use Rattle.rtt_ring.specs.Views.{Up, UpKept}
 use Rattle.rtt_modes.specs.Fates.{SkippedBy, TrimmedBy, part_of}
 use Rattle.rtt_modes.specs.declared.fate.Fate.{Fate}
@@ -12,14 +13,27 @@ use Rattle.defmt_lines.specs.declared.settings.RingMode.{RingMode}
 use Rattle.defmt_lines.specs.declared.settings.RingMode.TheVariants.{Block, Skip, Trim}
 use Rattle.defmt_script.specs.Script.{Script}
 use Rattle.defmt_logger.specs.declared.mark.Mark.{Mark}
-use Rattle.defmt_logger.specs.Tape.{FateLaw, IsLawful, Leaves, Lost, Released, Runs, count, mark_frame, mark_part, marks_of, places, stamp_number, stream_of}
+use Rattle.defmt_logger.specs.Tape.{FateLaw, IsLawful, Leaves, Lost, Released, Runs, mark_frame, mark_part, marks_of, places, stream_from, stream_of}
 use Rattle.defmt_logger.specs.Kept.{Behind, Counts, IsKept, LooksIn, Reel, SendsIn, Sheet, TellsIn}
 
 -- ---- what a mark more makes of a tape
 
-pub stream-snoc : (s : Script) (xs : List Mark) (m : Mark) → stream_of s (xs ++ m ∷ []) ≡ stream_of s xs ++ mark_part s m
-stream-snoc s [] m = append-nil (mark_part s m)
-stream-snoc s (x ∷ xs) m = ap (λ l. mark_part s x ++ l) (stream-snoc s xs m) ∙ sym (append_assoc (mark_part s x) (stream_of s xs) (mark_part s m))
+pub stream_from-append : (s : Script) (n : ℕ) (xs ys : List Mark) → stream_from s n (xs ++ ys) ≡ stream_from s n xs ++ stream_from s (n + length xs) ys
+stream_from-append s n [] ys =
+    let z : n ≡ n + 0 = omega arith in
+    ap (λ (k : ℕ). stream_from s k ys) z
+stream_from-append s n (x ∷ xs) ys =
+    let z : (n + 1) + length xs ≡ n + length (x ∷ xs) = omega arith in
+    ap (λ l. mark_part s n x ++ l) (stream_from-append s (n + 1) xs ys)
+    ∙ sym (append_assoc (mark_part s n x) (stream_from s (n + 1) xs) (stream_from s ((n + 1) + length xs) ys))
+    ∙ ap (λ (k : ℕ). (mark_part s n x ++ stream_from s (n + 1) xs) ++ stream_from s k ys) z
+
+pub stream-snoc : (s : Script) (xs : List Mark) (m : Mark) → stream_of s (xs ++ m ∷ []) ≡ stream_of s xs ++ mark_part s (length xs) m
+stream-snoc s xs m =
+    let z : 0 + length xs ≡ length xs = omega arith in
+    stream_from-append s 0 xs (m ∷ [])
+    ∙ ap (λ (k : ℕ). stream_of s xs ++ (mark_part s k m ++ [])) z
+    ∙ ap (λ l. stream_of s xs ++ l) (append-nil (mark_part s (length xs) m))
 
 pub places-snoc : (w : ℕ) (xs : List Mark) (m : Mark) → places w (xs ++ m ∷ []) ≡ places w xs ++ (if m.writer == w then m.place ∷ [] else [])
 places-snoc w [] m = refl
@@ -112,7 +126,7 @@ leaves_more s before frame (Dropped need room) f g h l = omega (arith, h, l)
 leaves_more s before frame (Cut need room) f g h l = omega (arith, h, l)
 
 pub released_more : (s : Script) (tape : List Mark) (f g : ℕ) → f ≤ g → Released s tape f → Released s tape g
-released_more s tape f g h r = λ before after m e. leaves_more s before (mark_frame s m) m.fate f g h (r before after m e)
+released_more s tape f g h r = λ before after m e. leaves_more s before (mark_frame s (length before) m) m.fate f g h (r before after m e)
 
 seen_by : (s : Script) (tape : List Mark) (u v : Up) (left : ℕ) → u.sent ≡ stream_of s tape → u.size ≡ s.settings.ring → Released s tape u.freed → u.freed ≤ v.freed
     → left + length u.sent + 1 ≡ v.freed + u.size → v.freed ≤ length u.sent → Seen s tape v.freed left
@@ -154,15 +168,15 @@ leaves_trimmed s tape frame left found Whole seen b = omega (arith, seen.sum, b)
 leaves_trimmed s tape frame left found (Dropped need room) seen b = absurd b
 leaves_trimmed s tape frame left found (Cut need room) seen b = omega (arith, seen.sum, b.1)
 
-released_snoc : (s : Script) (tape : List Mark) (m : Mark) (f : ℕ) → Released s tape f → Leaves s tape (mark_frame s m) m.fate f → Released s (tape ++ m ∷ []) f
-released_snoc s tape m f each here = each_snoc (λ before x. Leaves s before (mark_frame s x) x.fate f) tape m each here
+released_snoc : (s : Script) (tape : List Mark) (m : Mark) (f : ℕ) → Released s tape f → Leaves s tape (mark_frame s (length tape) m) m.fate f → Released s (tape ++ m ∷ []) f
+released_snoc s tape m f each here = each_snoc (λ before x. Leaves s before (mark_frame s (length before) x) x.fate f) tape m each here
 
 -- ---- one mark more, in each mode
 
 record Step (mode : RingMode) (s : Script) (tape : List Mark) (m : Mark) (u v : Up) : Type 0 where
-  fate : FateLaw mode s tape (mark_frame s m) m.fate
+  fate : FateLaw mode s tape (mark_frame s (length tape) m) m.fate
   behind : Behind mode s (tape ++ m ∷ []) v
-  sent : v.sent ≡ u.sent ++ mark_part s m
+  sent : v.sent ≡ u.sent ++ mark_part s (length tape) m
   kept : UpKept u v
   looks : (n : ℕ) → LooksIn mode n u.looks → LooksIn mode (n + 1) v.looks
 
@@ -170,19 +184,19 @@ whole_law : (s : Script) (tape : List Mark) (frame : List ℕ) (fate : Fate) →
 whole_law s tape frame fate e = subst (λ (f : Fate). FateLaw Block s tape frame f) (sym e) tt
 
 step : (s : Script) (tape : List Mark) (m : Mark) (u v : Up) → u.sent ≡ stream_of s tape → u.size ≡ s.settings.ring
-    → (mode : RingMode) → Behind mode s tape u → SendsIn mode u v (mark_frame s m) m.fate → Step mode s tape m u v
+    → (mode : RingMode) → Behind mode s tape u → SendsIn mode u v (mark_frame s (length tape) m) m.fate → Step mode s tape m u v
 step s tape m u v sent size Block b f = record {
-  fate = whole_law s tape (mark_frame s m) m.fate f.whole;
+  fate = whole_law s tape (mark_frame s (length tape) m) m.fate f.whole;
   behind = tt;
-  sent = f.sent ∙ ap (λ (x : Fate). u.sent ++ part_of (mark_frame s m) x) (sym f.whole);
+  sent = f.sent ∙ ap (λ (x : Fate). u.sent ++ part_of (mark_frame s (length tape) m) x) (sym f.whole);
   kept = f.kept;
   looks = λ n h. omega (arith, h, f.looks);
 }
 step s tape m u v sent size Skip b f =
     let seen : Seen s tape v.freed f.left = seen_by s tape u v f.left sent size b.1 f.kept.later (f.told b.0) f.within in
     record {
-      fate = skipped s tape (mark_frame s m) f.left v.freed m.fate seen f.fate_is;
-      behind = (f.kept.tells ∙ b.0, released_snoc s tape m v.freed seen.released (leaves_skipped s tape (mark_frame s m) f.left v.freed m.fate seen f.fate_is));
+      fate = skipped s tape (mark_frame s (length tape) m) f.left v.freed m.fate seen f.fate_is;
+      behind = (f.kept.tells ∙ b.0, released_snoc s tape m v.freed seen.released (leaves_skipped s tape (mark_frame s (length tape) m) f.left v.freed m.fate seen f.fate_is));
       sent = f.sent;
       kept = f.kept;
       looks = λ n h. f.looks ∙ ap (λ (k : ℕ). k + 1) h;
@@ -190,8 +204,8 @@ step s tape m u v sent size Skip b f =
 step s tape m u v sent size Trim b f =
     let seen : Seen s tape v.freed f.left = seen_by s tape u v f.left sent size b.1 f.kept.later (f.told b.0) f.within in
     record {
-      fate = trimmed s tape (mark_frame s m) f.left v.freed m.fate seen f.fate_is;
-      behind = (f.kept.tells ∙ b.0, released_snoc s tape m v.freed seen.released (leaves_trimmed s tape (mark_frame s m) f.left v.freed m.fate seen f.fate_is));
+      fate = trimmed s tape (mark_frame s (length tape) m) f.left v.freed m.fate seen f.fate_is;
+      behind = (f.kept.tells ∙ b.0, released_snoc s tape m v.freed seen.released (leaves_trimmed s tape (mark_frame s (length tape) m) f.left v.freed m.fate seen f.fate_is));
       sent = f.sent;
       kept = f.kept;
       looks = λ n h. f.looks ∙ ap (λ (k : ℕ). k + 1) h;
@@ -207,7 +221,7 @@ pub kept_append : (d : Sheet) (now : Reel) (m : Mark) (v : Up)
     → m.place ≡ marks_of m.writer d.tape.marks
     → marks_of m.writer d.tape.marks < count d.script m.writer
     → m.stamp ≡ stamp_number d.script (length d.tape.marks)
-    → SendsIn d.script.settings.mode d.up v (mark_frame d.script m) m.fate
+    → SendsIn d.script.settings.mode d.up v (mark_frame d.script (length d.tape.marks) m) m.fate
     → IsKept (record { script = d.script; tape = now; up = v })
 kept_append d now m v k is room place more stamp sends =
     let s = d.script in
@@ -219,9 +233,9 @@ kept_append d now m v k is room place more stamp sends =
         order = λ w. subst (Runs 0) (sym (places-snoc w tape m)) (order_case w tape m (k.lawful.order w) place (m.writer == w) refl);
         within = within_snoc s tape m k.lawful.within more;
         stamps = each_snoc (λ before x. x.stamp ≡ stamp_number s (length before)) tape m k.lawful.stamps stamp;
-        fates = each_snoc (λ before x. FateLaw s.settings.mode s before (mark_frame s x) x.fate) tape m k.lawful.fates one.fate;
+        fates = each_snoc (λ before x. FateLaw s.settings.mode s before (mark_frame s (length before) x) x.fate) tape m k.lawful.fates one.fate;
       });
-      sent = one.sent ∙ ap (λ l. l ++ mark_part s m) k.sent ∙ sym (stream-snoc s tape m) ∙ ap (stream_of s) (sym is);
+      sent = one.sent ∙ ap (λ l. l ++ mark_part s (length tape) m) k.sent ∙ sym (stream-snoc s tape m) ∙ ap (stream_of s) (sym is);
       staged = one.kept.staged;
       size = one.kept.size ∙ k.size;
       behind = subst (λ (l : List Mark). Behind s.settings.mode s l v) (sym is) one.behind;

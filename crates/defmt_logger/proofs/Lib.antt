@@ -1,7 +1,4 @@
 pub mod Append
-mod Counted
-pub mod Frames
+mod Counts
 mod Next
 pub mod Room
-mod SiteLaws
-mod Stamps

@@ -1,13 +1,15 @@
 -- A desk on which one statement more is logged.
 use Rattle.std.proofs.Common.{◌≡◌, ℕ, zero, suc, ◌+◌, ◌*◌, ◌<◌, ◌≤◌, List, [], ◌∷◌, ◌++◌, length, length-append, refl, sym, ap, ◌∙◌, subst, arith}
 use Rattle.std.specs.Prelude.{replicate, slice_index_or, slice_set}
+use Rattle.defmt_frames.proofs.Frames.{writer_below}
+use Rattle.defmt_frames.specs.Frames.{count, frame_at, pace_of, stamp_number}
+use Rattle.defmt_frames.specs.declared.sites.Sites.{Sites}
 use Rattle.defmt_hooks.specs.Even.{Pace}
 use Rattle.defmt_logger.proofs.Append.{counts_append, kept_append, within_snoc}
-use Rattle.defmt_logger.proofs.Room.{tape_fits, writer_below}
-use Rattle.defmt_logger.specs.Kept.{Counts, IsKept, IsWorking, Reel, SendsIn, Sheet, next_mark, pace_of}
-use Rattle.defmt_logger.specs.Tape.{count, frame_at, marks_of, stamp_number}
+use Rattle.defmt_logger.proofs.Room.{tape_fits}
+use Rattle.defmt_logger.specs.Kept.{Counts, IsKept, IsWorking, Reel, SendsIn, Sheet, next_mark}
+use Rattle.defmt_logger.specs.Tape.{marks_of}
 use Rattle.defmt_logger.specs.declared.mark.Mark.{Mark}
-use Rattle.defmt_logger.specs.declared.sites.Sites.{Sites}
 use Rattle.defmt_script.specs.Lawful.{IsLawful as HoldsOfScripts}
 use Rattle.defmt_script.specs.Script.{Script, count_all}
 use Rattle.rtt_modes.specs.declared.fate.Fate.{Fate}
@@ -35,29 +37,30 @@ stamp_is s pace t stamp e given = given ∙ ap (λ (p : Pace). p.base + p.step *
 
 pub record Next (d : Sheet) (places : List ℕ) (w : ℕ) (fate : Fate) (now : Reel) (v : Up) : Type 0 where
   pub marks : now.marks ≡ d.tape.marks ++ next_mark d.script d.tape.marks w fate ∷ []
-  pub sends : SendsIn d.script.settings.mode d.up v (frame_at d.script w (marks_of w d.tape.marks) (stamp_number d.script (length d.tape.marks))) fate
+  pub sends : SendsIn d.script.settings.mode d.up v (frame_at d.script (length d.tape.marks) w (marks_of w d.tape.marks) (stamp_number d.script (length d.tape.marks))) fate
   pub kept : IsKept (record { script = d.script; tape = now; up = v })
   pub counts : Counts (slice_set places w (slice_index_or places w 0 + 1)) now.marks
 
-next_by : (d : Sheet) (places : List ℕ) (w place stamp : ℕ) (fate : Fate) (now : Reel) (v : Up)
+next_by : (d : Sheet) (places : List ℕ) (w t place stamp : ℕ) (fate : Fate) (now : Reel) (v : Up)
     → IsKept d → Counts places d.tape.marks
     → marks_of w d.tape.marks < count d.script w
     → slice_index_or places w 0 ≡ marks_of w d.tape.marks
+    → t ≡ length d.tape.marks
     → place ≡ marks_of w d.tape.marks
     → stamp ≡ stamp_number d.script (length d.tape.marks)
     → now.marks ≡ d.tape.marks ++ (record { writer = w; place = place; stamp = stamp; fate = fate }) ∷ []
     → now.room + 1 ≡ d.tape.room
-    → SendsIn d.script.settings.mode d.up v (frame_at d.script w place stamp) fate
+    → SendsIn d.script.settings.mode d.up v (frame_at d.script t w place stamp) fate
     → Next d places w fate now v
-next_by d places w place stamp fate now v k counts more here place_is stamp_is marks room sends =
+next_by d places w t place stamp fate now v k counts more here t_is place_is stamp_is marks room sends =
     let tape : List Mark = d.tape.marks in
     let mark : ℕ → ℕ → Mark = λ p n. record { writer = w; place = p; stamp = n; fate = fate } in
     let m : Mark = next_mark d.script tape w fate in
     let same : mark place stamp ≡ m = ap (λ (p : ℕ). mark p stamp) place_is ∙ ap (λ (n : ℕ). mark (marks_of w tape) n) stamp_is in
     let is : now.marks ≡ tape ++ m ∷ [] = marks ∙ ap (λ (x : Mark). tape ++ x ∷ []) same in
-    let frame : frame_at d.script w place stamp ≡ frame_at d.script w (marks_of w tape) (stamp_number d.script (length tape)) =
-    ap (λ (p : ℕ). frame_at d.script w p stamp) place_is ∙ ap (λ (n : ℕ). frame_at d.script w (marks_of w tape) n) stamp_is in
-    let sent : SendsIn d.script.settings.mode d.up v (frame_at d.script w (marks_of w tape) (stamp_number d.script (length tape))) fate =
+    let frame : frame_at d.script t w place stamp ≡ frame_at d.script (length tape) w (marks_of w tape) (stamp_number d.script (length tape)) =
+    ap (λ (x : ℕ). frame_at d.script x w place stamp) t_is ∙ ap (λ (p : ℕ). frame_at d.script (length tape) w p stamp) place_is ∙ ap (λ (n : ℕ). frame_at d.script (length tape) w (marks_of w tape) n) stamp_is in
+    let sent : SendsIn d.script.settings.mode d.up v (frame_at d.script (length tape) w (marks_of w tape) (stamp_number d.script (length tape))) fate =
     subst (λ (l : List ℕ). SendsIn d.script.settings.mode d.up v l fate) frame sends in
     record {
       marks = is;
@@ -74,12 +77,12 @@ pub next_is : (d : Sheet) (sites : Sites) (places : List ℕ) (pace : Pace) (mes
     → stamp ≡ pace.base + pace.step * t
     → now.marks ≡ d.tape.marks ++ (record { writer = w; place = slice_index_or places w 0; stamp = stamp; fate = fate }) ∷ []
     → now.room + 1 ≡ d.tape.room
-    → SendsIn d.script.settings.mode d.up v (frame_at d.script w (slice_index_or places w 0) stamp) fate
+    → SendsIn d.script.settings.mode d.up v (frame_at d.script t w (slice_index_or places w 0) stamp) fate
     → Next d places w fate now v
 next_is d sites places pace message frame w t stamp fate now v k h more t_is given marks room sends =
     let here : slice_index_or places w 0 ≡ marks_of w d.tape.marks = k.counts.1 w (writer_is d.script d.tape.marks w h more) in
     let now_is : stamp ≡ stamp_number d.script (length d.tape.marks) = stamp_is d.script pace t stamp k.pace_is given ∙ ap (stamp_number d.script) t_is in
-    next_by d places w (slice_index_or places w 0) stamp fate now v k.kept k.counts more here here now_is marks room sends
+    next_by d places w t (slice_index_or places w 0) stamp fate now v k.kept k.counts more here t_is here now_is marks room sends
 
 -- ---- a desk on which nothing was logged
 

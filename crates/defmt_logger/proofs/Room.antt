@@ -1,9 +1,10 @@
 -- A tape has no more marks than its script has statements.
-use Rattle.std.proofs.Common.{◌≡◌, ℕ, zero, suc, ◌+◌, ◌-◌, ◌<◌, ◌≤◌, List, [], ◌∷◌, Bool, true, false, ◌==◌, length, refl, sym, subst, arith, zero-add}
+use Rattle.std.proofs.Common.{◌≡◌, ℕ, suc, ◌+◌, ◌-◌, ◌<◌, ◌≤◌, List, [], ◌∷◌, Bool, true, false, ◌==◌, length, refl, sym, subst, arith, zero-add}
 use Rattle.std.specs.Prelude.{if◌then◌else◌, slice_index_or, nat_le}
 use Rattle.std.proofs.lemmas.Bool.Decides.{nat_tests}
+use Rattle.defmt_frames.specs.Frames.{count}
 use Rattle.defmt_logger.specs.declared.mark.Mark.{Mark}
-use Rattle.defmt_logger.specs.Tape.{count, marks_of}
+use Rattle.defmt_logger.specs.Tape.{marks_of}
 use Rattle.defmt_script.specs.Script.{Script, count_all}
 use Rattle.defmt_values.specs.declared.value.Statement.{Statement}
 
@@ -57,12 +58,6 @@ tape_fits s tape within =
     let P : ℕ → Type 0 = λ k. marks_of k tape ≤ length (slice_index_or s.writers i []) in
     subst P (sym (zero-add i)) (within i)) in
     omega (arith, all, all_from tape)
-
--- a writer that has a statement is one of the script's
-pub writer_below : (ws : List (List Statement)) (w n : ℕ) → n < length (slice_index_or ws w []) → w < length ws
-writer_below [] w n h = absurd (omega (arith, h))
-writer_below (l ∷ ws) zero n h = omega arith
-writer_below (l ∷ ws) (suc w) n h = omega (arith, writer_below ws w n h)
 
 at_most : (w x b n : ℕ) → b ≤ n → (if x == w then b + 1 else b) ≤ n + 1
 at_most w x b n le = elim (x == w) as (λ (c : Bool). (if c then b + 1 else b) ≤ n + 1) [ true ↦ omega (arith, le) | false ↦ omega (arith, le) ]

@@ -1,12 +1,14 @@
 -- What contracts see of a tape and of a desk, and what a desk keeps.
-use Rattle.std.specs.Prelude.{◌≡◌, ℕ, ◌+◌, ◌<◌, ◌≤◌, true, List, [], ◌++◌, length, Option, slice_index_or}
+use Rattle.std.specs.Prelude.{◌≡◌, ℕ, ◌+◌, ◌<◌, ◌≤◌, true, List, [], ◌++◌, length, map, slice_index_or}
+use Rattle.std.specs.List.{range_with_len}
+use Rattle.defmt_frames.specs.Frames.{pace_of, stamp_number}
+use Rattle.defmt_frames.specs.Sites.{HasSites}
+use Rattle.defmt_frames.specs.declared.sites.Sites.{Sites}
 use Rattle.defmt_hooks.specs.Even.{Pace}
 use Rattle.defmt_lines.specs.declared.settings.RingMode.{RingMode}
 use Rattle.defmt_lines.specs.declared.settings.RingMode.TheVariants.{Block, Skip, Trim}
-use Rattle.defmt_logger.specs.Sites.{HasSites}
-use Rattle.defmt_logger.specs.Tape.{IsLawful, Released, first_stamp, marks_of, stamp_number, stamp_step, stream_of}
+use Rattle.defmt_logger.specs.Tape.{IsLawful, Released, marks_of, stream_of}
 use Rattle.defmt_logger.specs.declared.mark.Mark.{Mark}
-use Rattle.defmt_logger.specs.declared.sites.Sites.{Sites}
 use Rattle.defmt_script.specs.Lawful.{statements_limit}
 use Rattle.defmt_script.specs.Script.{Script}
 use Rattle.rtt_modes.specs.Fates.{ByLook, SkippedBy, TrimmedBy}
@@ -24,12 +26,6 @@ pub record Sheet : Type 0 where
   pub script : Script
   pub tape : Reel
   pub up : Up
-
--- ---- the stamps
-
--- the numbers by which a script's stamps count
-abbrev pub pace_of : Option (ℕ × ℕ) → Pace
-pace_of stamp = record { base = first_stamp stamp; step = stamp_step stamp }
 
 -- ---- the modes
 
@@ -80,6 +76,10 @@ pub record IsKept (d : Sheet) : Type 0 where
 -- eight numbers, how many marks each writer has
 abbrev pub Counts : List ℕ → List Mark → Type 0
 Counts xs tape = (length xs ≡ 8) × ((w : ℕ) → w < 8 → slice_index_or xs w 0 ≡ marks_of w tape)
+
+-- how many marks each of the writers 0 to 7 has
+unfoldable pub counts_of : List Mark → List ℕ
+counts_of tape = map (λ w. marks_of w tape) (range_with_len 0 8)
 
 -- the next mark of a writer
 abbrev pub next_mark : Script → List Mark → ℕ → Fate → Mark

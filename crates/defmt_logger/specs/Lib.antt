@@ -1,4 +1,3 @@
 pub mod Tape
-pub mod Sites
 pub mod Kept
 pub mod Codes

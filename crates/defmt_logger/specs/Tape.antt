@@ -1,67 +1,36 @@
 -- Tapes: a mark for each statement that was logged, in the order in which the writers acquired the logger.
-use Rattle.std.specs.Prelude.{◌≡◌, ℕ, ◌+◌, ◌*◌, ◌<◌, ◌≤◌, ◌==◌, List, [], ◌∷◌, ◌++◌, length, Option, Some, None, if◌then◌else◌, slice_get, slice_index_or}
+use Rattle.std.specs.Prelude.{◌≡◌, ℕ, ◌+◌, ◌<◌, ◌≤◌, ◌==◌, List, [], ◌∷◌, ◌++◌, length, Option, Some, None, if◌then◌else◌, slice_get}
 use Rattle.defmt_eager.specs.Line.{eager_line}
-use Rattle.defmt_encode.specs.Carry.{frame_of, message_of, stamp_args}
+use Rattle.defmt_encode.specs.Carry.{stamp_args}
+use Rattle.defmt_frames.specs.Frames.{count, frame_at, stamp_in, stamp_number, statements_of}
 use Rattle.defmt_intern.specs.Table.{Map}
 use Rattle.defmt_lines.specs.declared.settings.RingMode.{RingMode}
 use Rattle.defmt_lines.specs.declared.settings.RingMode.TheVariants.{Skip, Trim}
 use Rattle.defmt_logger.specs.declared.mark.Mark.{Mark}
-use Rattle.defmt_script.specs.Lawful.{stamp_in as carried}
 use Rattle.defmt_script.specs.Script.{Script}
 use Rattle.defmt_values.specs.declared.value.Statement.{Statement}
 use Rattle.rtt_modes.specs.Fates.{part_of}
 use Rattle.rtt_modes.specs.declared.fate.Fate.{Fate}
 use Rattle.rtt_modes.specs.declared.fate.Fate.TheVariants.{Whole, Dropped, Cut}
 
--- the statements of a writer, none where there is no such writer
-abbrev pub statements_of : Script → ℕ → List Statement
-statements_of s w = slice_index_or s.writers w []
+-- ---- what was sent
 
--- how many statements a writer has
-abbrev pub count : Script → ℕ → ℕ
-count s w = length (statements_of s w)
-
--- ---- stamps (defmt book, "Timestamps")
-
--- the first stamp, and the step to the next; both are 0 without stamps
-abbrev pub first_stamp : Option (ℕ × ℕ) → ℕ
-first_stamp None = 0
-first_stamp (Some p) = p.0
-
-abbrev pub stamp_step : Option (ℕ × ℕ) → ℕ
-stamp_step None = 0
-stamp_step (Some p) = p.1
-
--- the stamp of a tape's mark number t, from 0
-abbrev pub stamp_number : Script → ℕ → ℕ
-stamp_number s t = first_stamp s.settings.stamp + stamp_step s.settings.stamp * t
-
--- the stamp that a message carries: none where there are no stamps
-abbrev pub stamp_in : Option (ℕ × ℕ) → ℕ → Option ℕ
-stamp_in stamp n = carried stamp n
-
--- ---- frames (defmt book, "Encoding")
-
-abbrev pub frame_with : Map → Option ℕ → Option Statement → List ℕ
-frame_with table stamp None = []
-frame_with table stamp (Some stm) = frame_of (message_of table (stamp_args stamp) stm.index stm.args)
-
--- the frame of the message of a writer's statement, with this stamp
-unfoldable pub frame_at : Script → ℕ → ℕ → ℕ → List ℕ
-frame_at s writer place stamp = frame_with s.table (stamp_in s.settings.stamp stamp) (slice_get (statements_of s writer) place)
-
--- the frame of a mark
-abbrev pub mark_frame : Script → Mark → List ℕ
-mark_frame s m = frame_at s m.writer m.place m.stamp
+-- the frame of the mark with this number
+abbrev pub mark_frame : Script → ℕ → Mark → List ℕ
+mark_frame s number m = frame_at s number m.writer m.place m.stamp
 
 -- the bytes of a frame that were sent: all, none, or the first, as the mark's fate says
-abbrev pub mark_part : Script → Mark → List ℕ
-mark_part s m = part_of (mark_frame s m) m.fate
+abbrev pub mark_part : Script → ℕ → Mark → List ℕ
+mark_part s number m = part_of (mark_frame s number m) m.fate
 
--- what was sent for the marks of a tape, joined
+-- what was sent for marks of which the first has this number, joined
+abbrev pub stream_from : Script → ℕ → List Mark → List ℕ
+stream_from s number [] = []
+stream_from s number (m ∷ ms) = mark_part s number m ++ stream_from s (number + 1) ms
+
+-- what was sent for the marks of a tape, which are numbered from 0
 abbrev pub stream_of : Script → List Mark → List ℕ
-stream_of s [] = []
-stream_of s (m ∷ ms) = mark_part s m ++ stream_of s ms
+stream_of s tape = stream_from s 0 tape
 
 -- ---- lines (defmt book, the display of log frames)
 
@@ -111,7 +80,7 @@ Leaves s before frame (Cut need room) f = room + length (stream_of s before) + 1
 
 -- the same of each mark of a tape
 abbrev pub Released : Script → List Mark → ℕ → Type 0
-Released s tape f = (before after : List Mark) (m : Mark) → tape ≡ before ++ m ∷ after → Leaves s before (mark_frame s m) m.fate f
+Released s tape f = (before after : List Mark) (m : Mark) → tape ≡ before ++ m ∷ after → Leaves s before (mark_frame s (length before) m) m.fate f
 
 -- A frame that didn't fit behind these marks: its need is its length, the room was less, and the look that told the
 -- room found so many bytes released: none that wasn't sent, and no fewer than the marks before need.
@@ -135,4 +104,4 @@ pub record IsLawful (s : Script) (tape : List Mark) : Type 0 where
   pub order : (w : ℕ) → Runs 0 (places w tape)
   pub within : (w : ℕ) → marks_of w tape ≤ count s w
   pub stamps : (before after : List Mark) (m : Mark) → tape ≡ before ++ m ∷ after → m.stamp ≡ stamp_number s (length before)
-  pub fates : (before after : List Mark) (m : Mark) → tape ≡ before ++ m ∷ after → FateLaw s.settings.mode s before (mark_frame s m) m.fate
+  pub fates : (before after : List Mark) (m : Mark) → tape ≡ before ++ m ∷ after → FateLaw s.settings.mode s before (mark_frame s (length before) m) m.fate

@@ -1,14 +1,14 @@
 // The desk.
 ghost use Rattle.std.specs.Prelude.{◌≡◌, ◌^◌, ◌<◌, [], ◌∷◌, ◌++◌, IfOk, length};
-ghost use Rattle.defmt_logger.specs.Kept.{IsKept, SendsIn, TellsIn, next_mark, pace_of};
-ghost use Rattle.defmt_logger.specs.Sites.{HasSites};
-ghost use Rattle.defmt_logger.specs.Tape.{count, frame_at, marks_of, stamp_number};
+ghost use Rattle.defmt_frames.specs.Frames.{count, frame_at, pace_of, stamp_number};
+ghost use Rattle.defmt_frames.specs.Sites.{HasSites};
+ghost use Rattle.defmt_logger.specs.Kept.{IsKept, SendsIn, TellsIn, next_mark};
+ghost use Rattle.defmt_logger.specs.Tape.{marks_of};
 ghost use Rattle.rtt_ring.specs.Views.{new_up};
 
-use crate::framing::write_frame;
 use crate::mark::Mark;
-use crate::sites::Sites;
 use crate::tape::Tape;
+use defmt_frames::{Sites, write_frame};
 use defmt_hooks::{Clock, Stamp};
 use defmt_script::{RingMode, Script};
 use dl_io::Memory;
@@ -79,12 +79,14 @@ fn send<U: UpEnd, R: Relief, W: Wait>(
     }
 }
 
-// Sends the frame of a writer's statement in the script's mode. The buffers are for its message and its frame.
+// Sends the frame of a writer's statement in the script's mode, for the mark with this number. The buffers are for its
+// message and its frame.
 fn send_statement<U: UpEnd, R: Relief, W: Wait>(
     rt: &W,
     up: &mut U,
     script: &Script,
     sites: &Sites,
+    number: u32,
     writer: u8,
     place: u32,
     stamp: u64,
@@ -97,10 +99,10 @@ fn send_statement<U: UpEnd, R: Relief, W: Wait>(
     requires place { place < count script.now writer }
     requires buffers { (length message.old ≡ 2000) × (length frame.old ≡ 2288) }
     requires relief { R.kept relief.old }
-    ensures sent { SendsIn script.now.settings.mode (U.view up.old) (U.view up.new) (frame_at script.now writer place stamp) result }
+    ensures sent { SendsIn script.now.settings.mode (U.view up.old) (U.view up.new) (frame_at script.now number writer place stamp) result }
     ensures relief { R.kept relief.new }
 {
-    let size = write_frame(script, sites, writer, place, stamp, message, frame);
+    let size = write_frame(script, sites, number, writer, place, stamp, message, frame);
     send(rt, up, script.mode(), &frame[..size], relief)
 }
 
@@ -159,7 +161,7 @@ impl<U: UpEnd, C: Clock> Desk<U, C> {
         requires place { marks_of writer self.old.tape.marks < count self.old.script writer }
         requires relief { R.kept relief.old }
         ensures mark { self.new.tape.marks ≡ self.old.tape.marks ++ next_mark self.old.script self.old.tape.marks writer result ∷ [] }
-        ensures sent { SendsIn self.old.script.settings.mode self.old.up self.new.up (frame_at self.old.script writer (marks_of writer self.old.tape.marks) (stamp_number self.old.script (length self.old.tape.marks))) result }
+        ensures sent { SendsIn self.old.script.settings.mode self.old.up self.new.up (frame_at self.old.script (length self.old.tape.marks) writer (marks_of writer self.old.tape.marks) (stamp_number self.old.script (length self.old.tape.marks))) result }
         ensures script { self.new.script ≡ self.old.script }
         ensures split { self.new.up.split ≡ self.old.up.split }
         ensures kept { IsKept self.new }
@@ -168,12 +170,15 @@ impl<U: UpEnd, C: Clock> Desk<U, C> {
         // So a writer that has a statement left is one of eight.
         self.script.lawful();
         let place = self.places[writer as usize];
-        let stamp = self.stamp.at(self.tape.len() as u32);
+        let marks = self.tape.len();
+        let number = marks as u32;
+        let stamp = self.stamp.at(number);
         let fate = send_statement(
             rt,
             &mut self.up,
             &self.script,
             &self.sites,
+            number,
             writer,
             place,
             stamp,

@@ -4,24 +4,19 @@
 //! A [`Desk`] takes the next statement of one of eight writers, writes its frame to the ring in the script's mode, and
 //! puts a [`Mark`] on its [`Tape`]: which statement it was, its stamp, and whether its frame was sent whole, dropped or cut.
 //!
-//! A [`Logger`] has a desk behind a lock. It gives a [`Pen`] to each writer, and only a pen can log. When all [`Pens`] are
-//! back, `close` gives the tape, and each writer has as many marks on it as its pen tells.
+//! A [`Logger`] has a desk behind a lock, as the work that eight writers share. It gives a [`Pen`] to each writer, and only a
+//! pen can log. When all [`Pens`] are back, `close` gives the tape, and each writer has as many marks on it as its pen tells.
 #![tactic(auto)]
 
-mod books;
 mod desk;
-mod framing;
-mod locked;
 mod logger;
+mod logging;
 mod mark;
-mod pen;
-mod sites;
 mod tape;
 
-pub use books::{Books, Eight, Seat, W0, W1, W2, W3, W4, W5, W6, W7, Writer};
 pub use desk::{Desk, FRAME_SIZE};
-pub use locked::Naming;
 pub use logger::Logger;
+pub use logging::{EachStatement, Logging, Naming};
 pub use mark::Mark;
-pub use pen::{Pen, Pens};
+pub use shared_work::{Pen, Pens};
 pub use tape::Tape;

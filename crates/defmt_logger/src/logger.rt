@@ -1,37 +1,37 @@
 // The logger.
-ghost use Rattle.std.specs.Prelude.{◌≡◌, ◌+◌, ◌<◌, IfOk};
-ghost use Rattle.defmt_logger.specs.Kept.{IsKept, TellsIn, pace_of};
+ghost use Rattle.std.specs.Prelude.{◌≡◌, ◌+◌, ◌<◌, [], ◌∷◌, IfOk};
+ghost use Rattle.defmt_frames.specs.Frames.{count, pace_of};
+ghost use Rattle.defmt_logger.specs.Kept.{IsKept, TellsIn};
 ghost use Rattle.defmt_logger.specs.Tape.{marks_of};
 ghost use Rattle.rtt_ring.specs.Views.{new_up};
 
-use crate::books::{Books, Eight, Seat, W0, W1, W2, W3, W4, W5, W6, W7};
 use crate::desk::Desk;
-use crate::locked::{Locked, Naming};
-use crate::pen::{Pen, Pens};
+use crate::logging::{EachStatement, Logging, Naming};
 use crate::tape::Tape;
 use defmt_hooks::{Clock, Stamp};
 use defmt_script::Script;
 use dl_io::Memory;
 use rtt_modes::Relief;
 use rtt_ring::UpEnd;
+use shared_work::{Blanks, Books, Eight, HasBook, Pen, Pens, Quota, Shared, Work};
 use std::alloc::Global;
 use std::marker::PhantomData;
-use std::sync::ledger::{Blank, Ledger};
-use std::sync::{Mutex, Wait};
+use std::sync::Wait;
+use std::sync::ledger::Ledger;
 
 /// A desk that threads share. Each logs by its own pen.
 #[derive(Drop)]
-pub struct Logger<B: Books, K: Naming, U: UpEnd, C: Clock> {
-    lock: Mutex<Locked<B, K, U, C>>,
+pub struct Logger<B: Books, Q: Quota, T: Work<Q>> {
+    shared: Shared<B, Q, T>,
 }
 
-impl<B: Books, K: Naming, U: UpEnd, C: Clock> Logger<B, K, U, C> {
+impl<B: Books, Q: Quota, T: Work<Q>> Logger<B, Q, T> {
     /// Acquires the logger, logs the pen's next statement, of which there is one, and releases the logger. It may wait for
     /// the logger, and in blocking mode for the reader. Takes no memory.
-    pub fn log<S: Seat<B, L>, L: Ledger, R: Relief, W: Wait>(
+    pub fn log<S: HasBook<B, L>, L: Ledger, R: Relief, W: Wait>(
         &self,
         rt: &W,
-        pen: &mut Pen<S, L, K>,
+        pen: &mut Pen<S, L, Q>,
         relief: &mut R,
     )
         requires place { pen.old.place < pen.old.total }
@@ -40,8 +40,24 @@ impl<B: Books, K: Naming, U: UpEnd, C: Clock> Logger<B, K, U, C> {
         ensures place { pen.new.place ≡ pen.old.place + 1 }
         ensures relief { R.kept relief.new }
     {
-        self.lock.lock(rt).log(rt, pen, relief)
+        self.shared.step(rt, pen, relief)
     }
+}
+
+// How many statements the writers 0 to 7 have.
+fn totals_of(script: &Script) -> [u32; 8]
+    ensures { result ≡ count script.now 0 ∷ count script.now 1 ∷ count script.now 2 ∷ count script.now 3 ∷ count script.now 4 ∷ count script.now 5 ∷ count script.now 6 ∷ count script.now 7 ∷ [] }
+{
+    [
+        script.count(0),
+        script.count(1),
+        script.count(2),
+        script.count(3),
+        script.count(4),
+        script.count(5),
+        script.count(6),
+        script.count(7),
+    ]
 }
 
 impl<
@@ -56,7 +72,7 @@ impl<
     K: Naming,
     U: UpEnd + Drop,
     C: Clock + Drop,
-> Logger<Eight<L0, L1, L2, L3, L4, L5, L6, L7>, K, U, C> {
+> Logger<Eight<L0, L1, L2, L3, L4, L5, L6, L7>, EachStatement<K>, Logging<K, U, C>> {
     /// A logger with a desk on which nothing was logged, and the pens of the writers 0 to 7.
     ///
     /// The stamp counts as the script's stamps do, and by 0 and 0 without them. The end is as its split gave it and has the
@@ -66,21 +82,14 @@ impl<
     /// `Memory` where there is none. Script, stamp and end are then given up.
     pub fn start(
         alloc: Global,
-        blank0: Blank,
-        blank1: Blank,
-        blank2: Blank,
-        blank3: Blank,
-        blank4: Blank,
-        blank5: Blank,
-        blank6: Blank,
-        blank7: Blank,
+        blanks: Blanks,
         script: Script,
         stamp: Stamp<C>,
         up: U,
     ) -> Result<
         (
-            Logger<Eight<L0, L1, L2, L3, L4, L5, L6, L7>, K, U, C>,
-            Pens<L0, L1, L2, L3, L4, L5, L6, L7, K>,
+            Logger<Eight<L0, L1, L2, L3, L4, L5, L6, L7>, EachStatement<K>, Logging<K, U, C>>,
+            Pens<Eight<L0, L1, L2, L3, L4, L5, L6, L7>, EachStatement<K>>,
         ),
         Memory,
     >
@@ -88,14 +97,14 @@ impl<
         requires fresh { U.view up ≡ new_up (U.view up).split script.settings.ring (U.view up).tells }
         requires told { TellsIn script.settings.mode (U.view up) }
         requires names { (K.script ≡ script) × (K.split ≡ (U.view up).split) }
-        requires l0 { (blank0.name ≡ L0.name) × (blank0.parts ≡ L0.parts) × (blank0.parts ≡ 1) }
-        requires l1 { (blank1.name ≡ L1.name) × (blank1.parts ≡ L1.parts) × (blank1.parts ≡ 1) }
-        requires l2 { (blank2.name ≡ L2.name) × (blank2.parts ≡ L2.parts) × (blank2.parts ≡ 1) }
-        requires l3 { (blank3.name ≡ L3.name) × (blank3.parts ≡ L3.parts) × (blank3.parts ≡ 1) }
-        requires l4 { (blank4.name ≡ L4.name) × (blank4.parts ≡ L4.parts) × (blank4.parts ≡ 1) }
-        requires l5 { (blank5.name ≡ L5.name) × (blank5.parts ≡ L5.parts) × (blank5.parts ≡ 1) }
-        requires l6 { (blank6.name ≡ L6.name) × (blank6.parts ≡ L6.parts) × (blank6.parts ≡ 1) }
-        requires l7 { (blank7.name ≡ L7.name) × (blank7.parts ≡ L7.parts) × (blank7.parts ≡ 1) }
+        requires l0 { (blanks.b0.name ≡ L0.name) × (blanks.b0.parts ≡ L0.parts) }
+        requires l1 { (blanks.b1.name ≡ L1.name) × (blanks.b1.parts ≡ L1.parts) }
+        requires l2 { (blanks.b2.name ≡ L2.name) × (blanks.b2.parts ≡ L2.parts) }
+        requires l3 { (blanks.b3.name ≡ L3.name) × (blanks.b3.parts ≡ L3.parts) }
+        requires l4 { (blanks.b4.name ≡ L4.name) × (blanks.b4.parts ≡ L4.parts) }
+        requires l5 { (blanks.b5.name ≡ L5.name) × (blanks.b5.parts ≡ L5.parts) }
+        requires l6 { (blanks.b6.name ≡ L6.name) × (blanks.b6.parts ≡ L6.parts) }
+        requires l7 { (blanks.b7.name ≡ L7.name) × (blanks.b7.parts ≡ L7.parts) }
         ensures p0 { IfOk result (λ r. r.1.p0.place ≡ 0) }
         ensures p1 { IfOk result (λ r. r.1.p1.place ≡ 0) }
         ensures p2 { IfOk result (λ r. r.1.p2.place ≡ 0) }
@@ -105,51 +114,24 @@ impl<
         ensures p6 { IfOk result (λ r. r.1.p6.place ≡ 0) }
         ensures p7 { IfOk result (λ r. r.1.p7.place ≡ 0) }
     {
-        let (b0, p0) = Pen::<W0, L0, K>::open(blank0, script.count(0));
-        let (b1, p1) = Pen::<W1, L1, K>::open(blank1, script.count(1));
-        let (b2, p2) = Pen::<W2, L2, K>::open(blank2, script.count(2));
-        let (b3, p3) = Pen::<W3, L3, K>::open(blank3, script.count(3));
-        let (b4, p4) = Pen::<W4, L4, K>::open(blank4, script.count(4));
-        let (b5, p5) = Pen::<W5, L5, K>::open(blank5, script.count(5));
-        let (b6, p6) = Pen::<W6, L6, K>::open(blank6, script.count(6));
-        let (b7, p7) = Pen::<W7, L7, K>::open(blank7, script.count(7));
-        let books = Eight {
-            b0,
-            b1,
-            b2,
-            b3,
-            b4,
-            b5,
-            b6,
-            b7,
-        };
+        let totals = totals_of(&script);
         let desk = Desk::start(alloc, script, stamp, up)?;
-        let locked = Locked {
+        let logging = Logging {
             desk,
-            books,
             of: PhantomData,
         };
-        let logger = Logger {
-            lock: Mutex::new(locked),
-        };
-        let pens = Pens {
-            p0,
-            p1,
-            p2,
-            p3,
-            p4,
-            p5,
-            p6,
-            p7,
-        };
-        Ok((logger, pens))
+        let (shared, pens) = Shared::start(blanks, totals, logging);
+        Ok((Logger { shared }, pens))
     }
 
     /// The tape, the end of the ring and the script, once all eight pens are back. Takes no memory.
     ///
     /// The script is the one that `start` took, and the end comes from the same split as the one that `start` took. Each
     /// writer has as many marks as its pen's place.
-    pub fn close(self, pens: Pens<L0, L1, L2, L3, L4, L5, L6, L7, K>) -> (Tape, U, Script)
+    pub fn close(
+        self,
+        pens: Pens<Eight<L0, L1, L2, L3, L4, L5, L6, L7>, EachStatement<K>>,
+    ) -> (Tape, U, Script)
         ensures script { result.2 ≡ K.script }
         ensures split { (U.view result.1).split ≡ K.split }
         ensures kept { IsKept (record { script = result.2; tape = result.0; up = U.view result.1 }) }
@@ -162,31 +144,9 @@ impl<
         ensures p6 { marks_of 6 result.0.marks ≡ pens.p6.place }
         ensures p7 { marks_of 7 result.0.marks ≡ pens.p7.place }
     {
-        let Logger { lock } = self;
-        let mut locked = lock.into_inner();
-        let Pens {
-            p0,
-            p1,
-            p2,
-            p3,
-            p4,
-            p5,
-            p6,
-            p7,
-        } = pens;
-        locked.audit(p0);
-        locked.audit(p1);
-        locked.audit(p2);
-        locked.audit(p3);
-        locked.audit(p4);
-        locked.audit(p5);
-        locked.audit(p6);
-        locked.audit(p7);
-        let Locked {
-            desk,
-            books: _,
-            of: _,
-        } = locked;
-        desk.close()
+        let Logger { shared } = self;
+        let Logging { desk, of: _ } = shared.close(pens);
+        let (tape, up, script) = desk.close();
+        (tape, up, script)
     }
 }

@@ -8,15 +8,15 @@ use Rattle.defmt_decode.specs.Sent.{Sent, AreSent, IsSent, code_of, front_event,
 use Rattle.defmt_decode.specs.declared.event.Event.{Event}
 use Rattle.defmt_eager.specs.Line.{eager_line}
 use Rattle.defmt_encode.specs.Carry.{message_of, stamp_args}
+use Rattle.defmt_frames.proofs.Frames.{sound_at, writer_below}
+use Rattle.defmt_frames.specs.Frames.{first_stamp, frame_at, frame_with, stamp_in, stamp_step, statements_of}
 use Rattle.defmt_values.specs.Sound.{AreSound}
 use Rattle.defmt_framing.specs.Cut.{front}
 use Rattle.defmt_framing.specs.Frames.{frame_of, frames}
 use Rattle.defmt_intern.specs.Table.{Map}
 use Rattle.defmt_lines.specs.declared.settings.RingMode.{RingMode}
 use Rattle.defmt_lines.specs.declared.settings.RingMode.TheVariants.{Block, Skip, Trim}
-use Rattle.defmt_logger.proofs.Frames.{sound_at}
-use Rattle.defmt_logger.proofs.Room.{writer_below}
-use Rattle.defmt_logger.specs.Tape.{IsLawful as IsLawfulTape, first_stamp, frame_at, frame_with, line_by, line_with, lines_of, mark_frame, mark_line, stamp_in, stamp_step, statements_of, stream_of}
+use Rattle.defmt_logger.specs.Tape.{IsLawful as IsLawfulTape, line_by, line_with, lines_of, mark_frame, mark_line, stream_from, stream_of}
 use Rattle.defmt_logger.specs.declared.mark.Mark.{Mark}
 use Rattle.defmt_run.proofs.Marks.{AreGood, IsGood, IsKept, are_good, there}
 use Rattle.defmt_run.proofs.Stamped.{Fit}
@@ -59,13 +59,13 @@ sents s (m ∷ ms) good = sent_by m.fate (mark_sent s m good.0) ++ sents s ms go
 
 -- ---- what was sent is the stream of their frames
 
-part_is : (s : Script) (m : Mark) (stm : Statement) → slice_get (statements_of s m.writer) m.place ≡ Some stm → (fate : Fate) → IsKept fate
-    → part_of (mark_frame s m) fate ≡ frames (map (code_of s.table) (sent_by fate (sent_of s m.stamp stm)))
+part_is : (s : Script) (number : ℕ) (m : Mark) (stm : Statement) → slice_get (statements_of s m.writer) m.place ≡ Some stm → (fate : Fate) → IsKept fate
+    → part_of (mark_frame s number m) fate ≡ frames (map (code_of s.table) (sent_by fate (sent_of s m.stamp stm)))
 unfolding frame_at frames
-part_is s m stm found Whole kept =
+part_is s number m stm found Whole kept =
     ap (frame_with s.table (stamp_in s.settings.stamp m.stamp)) found ∙ sym (append-nil (frame_of (code_of s.table (sent_of s m.stamp stm))))
-part_is s m stm found (Dropped need room) kept = refl
-part_is s m stm found (Cut need room) kept = absurd kept
+part_is s number m stm found (Dropped need room) kept = refl
+part_is s number m stm found (Cut need room) kept = absurd kept
 
 frames-append : (t : Map) (xs ys : List Sent) → frames (map (code_of t) (xs ++ ys)) ≡ frames (map (code_of t) xs) ++ frames (map (code_of t) ys)
 unfolding frames
@@ -73,13 +73,13 @@ frames-append t [] ys = refl
 frames-append t (x ∷ xs) ys =
     ap (λ (l : List ℕ). frame_of (code_of t x) ++ l) (frames-append t xs ys) ∙ sym (append_assoc (frame_of (code_of t x)) (frames (map (code_of t) xs)) (frames (map (code_of t) ys)))
 
-stream_is : (s : Script) (tape : List Mark) (good : AreGood s tape) → stream_of s tape ≡ frames_of s.table (sents s tape good)
+stream_is : (s : Script) (number : ℕ) (tape : List Mark) (good : AreGood s tape) → stream_from s number tape ≡ frames_of s.table (sents s tape good)
 unfolding frames
-stream_is s [] good = refl
-stream_is s (m ∷ ms) good =
+stream_is s number [] good = refl
+stream_is s number (m ∷ ms) good =
     let x = mark_sent s m good.0 in
-    ap (λ (l : List ℕ). l ++ stream_of s ms) (part_is s m (statement_at s m good.0) (there (statements_of s m.writer) m.place good.0.placed).1 m.fate good.0.kept)
-    ∙ ap (λ (l : List ℕ). frames (map (code_of s.table) (sent_by m.fate x)) ++ l) (stream_is s ms good.1)
+    ap (λ (l : List ℕ). l ++ stream_from s (number + 1) ms) (part_is s number m (statement_at s m good.0) (there (statements_of s m.writer) m.place good.0.placed).1 m.fate good.0.kept)
+    ∙ ap (λ (l : List ℕ). frames (map (code_of s.table) (sent_by m.fate x)) ++ l) (stream_is s (number + 1) ms good.1)
     ∙ sym (frames-append s.table (sent_by m.fate x) (sents s ms good.1))
 
 -- ---- each of them is sent
@@ -165,7 +165,7 @@ heard_lines : (s : Script) → Known s → Short → WithoutFront → (tape : Li
 heard_lines s known short law tape lawful mode =
     let good : AreGood s tape = are_good s tape known.lawful lawful mode known.base known.step in
     let is : events_of s.table (stream_of s tape) ≡ map (line_of s.table) (sents s tape good) =
-    ap (events_of s.table) (stream_is s tape good) ∙ lines_sent law s.table (sents s tape good) (are_sent s known short tape good) in
+    ap (events_of s.table) (stream_is s 0 tape good) ∙ lines_sent law s.table (sents s tape good) (are_sent s known short tape good) in
     subst (λ (l : List Event). AreLines l (lines_of s tape)) (sym is) (lines_are s tape good)
 
 in_mode : (mode : RingMode) (s : Script) (tape : List Mark) (events : List Event) → ((mode ≡ Trim → ⊥) → AreLines events (lines_of s tape)) → LinesIn mode s tape events

@@ -2,9 +2,10 @@
 use Rattle.std.proofs.Common.{◌≡◌, ◌≤◌, ◌<◌, ◌+◌, ◌^◌, ◌==◌, ℕ, zero, suc, List, [], ◌∷◌, ◌++◌, Bool, true, false, length, refl, sym, subst, ◌∙◌, ap, arith, eq-eqb, append_assoc, length-append}
 use Rattle.std.specs.Prelude.{if◌then◌else◌, Some, None, slice_get}
 use Rattle.std.proofs.Math.Nat.{mul-le-mul_left}
+use Rattle.defmt_frames.specs.Frames.{count, first_stamp, stamp_number, stamp_step, statements_of}
 use Rattle.defmt_lines.specs.declared.settings.RingMode.TheVariants.{Trim}
 use Rattle.defmt_logger.proofs.Room.{tape_fits}
-use Rattle.defmt_logger.specs.Tape.{FateLaw, IsLawful as IsLawfulTape, Runs, count, mark_frame, marks_of, places, stamp_number, stamp_step, first_stamp}
+use Rattle.defmt_logger.specs.Tape.{FateLaw, IsLawful as IsLawfulTape, Runs, mark_frame, marks_of, places}
 use Rattle.defmt_logger.specs.declared.mark.Mark.{Mark}
 use Rattle.defmt_run.specs.Printed.{ArePlaced}
 use Rattle.defmt_script.specs.Lawful.{IsLawful}
@@ -84,7 +85,7 @@ good_from s tape front (m ∷ ms) lawful few mode base step is placed =
       record {
         placed = placed.0;
         small = subst (λ (n : ℕ). n < 2 ^ 64) (sym (lawful.stamps front ms m is)) (small_stamp s (length front) base step before);
-        kept = not_cut s front (mark_frame s m) m.fate mode (lawful.fates front ms m is);
+        kept = not_cut s front (mark_frame s (length front) m) m.fate mode (lawful.fates front ms m is);
       },
       good_from s tape (front ++ m ∷ []) ms lawful few mode base step (is ∙ sym (append_assoc front (m ∷ []) ms)) placed.1,
     )

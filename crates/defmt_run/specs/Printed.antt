@@ -7,11 +7,12 @@ use Rattle.elf_table.specs.Listed.{symbols_in}
 use Rattle.defmt_eager.specs.Line.{eager_line, IsWide}
 use Rattle.defmt_intern.specs.Stamp.{stamp_of}
 use Rattle.defmt_encode.specs.Carry.{message_of, stamp_args}
+use Rattle.defmt_frames.specs.Frames.{count, stamp_in, stamp_number, statements_of}
 use Rattle.defmt_intern.specs.Table.{Map}
 use Rattle.defmt_intern.specs.declared.entry.Entry.{Entry}
 use Rattle.defmt_intern.specs.declared.entry.Tag.{Tag}
 use Rattle.defmt_intern.specs.declared.entry.Tag.TheVariants as tags
-use Rattle.defmt_logger.specs.Tape.{count, mark_line, stamp_in, stamp_number, statements_of, stream_of}
+use Rattle.defmt_logger.specs.Tape.{mark_line, stream_of}
 use Rattle.defmt_logger.specs.declared.mark.Mark.{Mark}
 use Rattle.defmt_run.specs.Output.{ended, event_line, loss_lines}
 use Rattle.defmt_run.specs.Told.{IsHeard, IsUntold, Ran, Told}

@@ -3,10 +3,11 @@ use Rattle.std.specs.Prelude.{◌≡◌, ◌<◌, ℕ, true, List, [], ◌∷◌
 use Rattle.defmt_decode.specs.declared.event.Event.{Event}
 use Rattle.defmt_decode.specs.declared.event.Event.TheVariants.{Line}
 use Rattle.defmt_decode.specs.Event.{events_of}
+use Rattle.defmt_frames.specs.Frames.{count}
 use Rattle.defmt_lines.specs.declared.settings.RingMode.{RingMode}
 use Rattle.defmt_lines.specs.declared.settings.RingMode.TheVariants.{Block, Skip, Trim}
 use Rattle.defmt_logger.specs.Kept.{LooksIn}
-use Rattle.defmt_logger.specs.Tape.{IsLawful, count, lines_of, marks_of, stream_of}
+use Rattle.defmt_logger.specs.Tape.{IsLawful, lines_of, marks_of, stream_of}
 use Rattle.defmt_logger.specs.declared.mark.Mark.{Mark}
 use Rattle.defmt_script.specs.Script.{Script}
 use Rattle.defmt_writers.specs.Runs.{ReachedIn}

@@ -1,7 +1,7 @@
 // The run of a script by threads.
 ghost use Rattle.std.specs.Prelude.{◌≡◌, ◌≤◌, ◌+◌, ◌*◌, IfOk};
+ghost use Rattle.defmt_frames.specs.Frames.{first_stamp, stamp_step};
 ghost use Rattle.defmt_hooks.specs.Even.{RunsEvenly};
-ghost use Rattle.defmt_logger.specs.Tape.{first_stamp, stamp_step};
 ghost use Rattle.defmt_writers.specs.Runs.{IsRun};
 ghost use Rattle.rtt_ring.specs.declared.settled.RingKind.TheVariants.{Word};
 

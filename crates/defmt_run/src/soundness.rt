@@ -1,7 +1,7 @@
 // What the types of a script's statements say of them.
 ghost use Rattle.std.specs.Prelude.{◌≡◌, ◌<◌, ℕ, Some, slice_get};
+ghost use Rattle.defmt_frames.specs.Frames.{statements_of};
 ghost use Rattle.defmt_values.specs.Sound.{AreSound};
-ghost use Rattle.defmt_logger.specs.Tape.{statements_of};
 ghost use Rattle.defmt_values.specs.declared.value.Statement.{Statement as AnyStatement};
 
 use defmt_script::Script;

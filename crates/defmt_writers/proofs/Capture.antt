@@ -4,9 +4,10 @@ use Rattle.std.specs.Prelude.{slice_get, slice_index_or}
 use Rattle.std.proofs.Math.Nat.{mul-div-le}
 use Rattle.std.proofs.lemmas.List.{length-take, take_all}
 use Rattle.defmt_encode.specs.Carry.{message_of, stamp_args}
-use Rattle.defmt_logger.proofs.Frames.{sound_at}
+use Rattle.defmt_frames.proofs.Frames.{sound_at}
+use Rattle.defmt_frames.specs.Frames.{frame_at, frame_with, stamp_in, statements_of}
 use Rattle.defmt_logger.proofs.Room.{tape_fits}
-use Rattle.defmt_logger.specs.Tape.{IsLawful, frame_at, frame_with, mark_frame, mark_part, stamp_in, statements_of, stream_of}
+use Rattle.defmt_logger.specs.Tape.{IsLawful, mark_frame, mark_part, stream_from, stream_of}
 use Rattle.defmt_logger.specs.declared.mark.Mark.{Mark}
 use Rattle.defmt_script.specs.Lawful.{IsSound, IsLawful as HoldsOfScripts}
 use Rattle.defmt_script.specs.Script.{Script, count_all}
@@ -34,24 +35,24 @@ with_short : (s : Script) (n : ℕ) (o : Option Statement) → Bounded → ((stm
 with_short s n None bounded sound = omega arith
 with_short s n (Some stm) bounded sound = frame_short (message_of s.table (stamp_args (stamp_in s.settings.stamp n)) stm.index stm.args) bounded ((sound stm refl).short n)
 
-at_short : (s : Script) (w k n : ℕ) → Bounded → HoldsOfScripts s → length (frame_at s w k n) ≤ 2288
+at_short : (s : Script) (number w k n : ℕ) → Bounded → HoldsOfScripts s → length (frame_at s number w k n) ≤ 2288
 unfolding frame_at
-at_short s w k n bounded h = with_short s n (slice_get (statements_of s w) k) bounded (λ stm is. sound_at s w k stm h is)
+at_short s number w k n bounded h = with_short s n (slice_get (statements_of s w) k) bounded (λ stm is. sound_at s w k stm h is)
 
 part_short : (bytes : List ℕ) (fate : Fate) → length bytes ≤ 2288 → length (part_of bytes fate) ≤ 2288
 part_short bytes Whole short = short
 part_short bytes (Dropped need room) short = omega arith
 part_short bytes (Cut need room) short = omega (arith, short, length-take room bytes)
 
-stream_short : (s : Script) (tape : List Mark) → Bounded → HoldsOfScripts s → length (stream_of s tape) ≤ 2288 * length tape
-stream_short s [] bounded h = omega arith
-stream_short s (m ∷ ms) bounded h =
-    let one : length (mark_part s m) ≤ 2288 = part_short (mark_frame s m) m.fate (at_short s m.writer m.place m.stamp bounded h) in
-    let others : length (stream_of s ms) ≤ 2288 * length ms = stream_short s ms bounded h in
-    omega (arith, one, others, length-append (mark_part s m) (stream_of s ms))
+stream_short : (s : Script) (number : ℕ) (tape : List Mark) → Bounded → HoldsOfScripts s → length (stream_from s number tape) ≤ 2288 * length tape
+stream_short s number [] bounded h = omega arith
+stream_short s number (m ∷ ms) bounded h =
+    let one : length (mark_part s number m) ≤ 2288 = part_short (mark_frame s number m) m.fate (at_short s number m.writer m.place m.stamp bounded h) in
+    let others : length (stream_from s (number + 1) ms) ≤ 2288 * length ms = stream_short s (number + 1) ms bounded h in
+    omega (arith, one, others, length-append (mark_part s number m) (stream_from s (number + 1) ms))
 
 pub stream_fits : (s : Script) (tape : List Mark) (n : ℕ) → Bounded → HoldsOfScripts s → IsLawful s tape → n ≡ count_all s.writers → length (stream_of s tape) ≤ n * 2288
-stream_fits s tape n bounded h lawful e = omega (arith, stream_short s tape bounded h, tape_fits s tape lawful.within, e)
+stream_fits s tape n bounded h lawful e = omega (arith, stream_short s 0 tape bounded h, tape_fits s tape lawful.within, e)
 
 -- ---- the counts of the first writers
 

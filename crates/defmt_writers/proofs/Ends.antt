@@ -2,11 +2,12 @@
 use Rattle.std.proofs.Common.{◌≡◌, ℕ, zero, suc, ◌-◌, ◌^◌, ◌<◌, ◌≤◌, List, [], ◌++◌, Bool, true, length, sym, ap, ◌∙◌, subst, inl, inr, arith}
 use Rattle.std.specs.Prelude.{min, Result, Ok, Err, IfOk}
 use Rattle.std.proofs.Math.Nat.{min-eq_left, le-min}
+use Rattle.defmt_frames.specs.Frames.{count}
 use Rattle.defmt_lines.specs.declared.settings.RingMode.{RingMode}
 use Rattle.defmt_lines.specs.declared.settings.RingMode.TheVariants.{Block, Skip, Trim}
 use Rattle.defmt_logger.proofs.Append.{released_more}
 use Rattle.defmt_logger.specs.Kept.{Behind, IsKept, LooksIn, Reel, TellsIn}
-use Rattle.defmt_logger.specs.Tape.{count, marks_of}
+use Rattle.defmt_logger.specs.Tape.{marks_of}
 use Rattle.defmt_logger.specs.declared.mark.Mark.{Mark}
 use Rattle.defmt_script.specs.Script.{Script}
 use Rattle.defmt_writers.specs.Runs.{IsRun, ModeFits, ReachedIn}

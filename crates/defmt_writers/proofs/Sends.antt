@@ -1,22 +1,16 @@
--- A logger may be lent to other threads, since each of its parts may go to one. A closure may go there with its five captures.
-use denote.Param.Send.{IsSend, IsSync, sendable, view_send}
-use denote.Param.SendFields.{as_row_send, declared_send}
+-- What a logger's writers share may go to another thread, since each of its parts may.
+use denote.Param.Send.{IsSend, sendable, view_send}
+use denote.Param.SendFields.{declared_send}
 use denote.RattleType.{RattleType}
-use denote.Struct.Field.{row_field}
-use denote.Struct.Tuple.{TupleAt, type_at}
-use mathlib.Core.List.{[], ◌∷◌}
-use mir.Syntax.{Sym}
 use Rattle.std.proofs.Crossing.{crosses}
+use Rattle.defmt_frames.proofs.sites.Sites.TheSendSync.{the_send as sites_send}
 use Rattle.defmt_hooks.specs.declared.clock.Clock as clock
 use Rattle.defmt_intern.proofs.table.Table.TheSendSync.{the_send as table_send}
-use Rattle.defmt_logger.proofs.sites.Sites.TheSendSync.{the_send as sites_send}
 use Rattle.defmt_logger.proofs.tape.Tape.TheSendSync.{the_send as tape_send}
 use Rattle.defmt_logger.specs.contracts.desk.Desk.{the_row as desk_row}
 use Rattle.defmt_logger.specs.contracts.desk.Desk.TheInside.{the_type as inside_type}
-use Rattle.defmt_logger.specs.contracts.locked.Locked.{the_row as locked_row}
-use Rattle.defmt_logger.specs.contracts.logger.Logger.{the_row as logger_row}
-use Rattle.defmt_logger.specs.declared.books.Books as books
-use Rattle.defmt_logger.specs.declared.locked.Naming as naming
+use Rattle.defmt_logger.specs.contracts.logging.Logging.{the_row as logging_row}
+use Rattle.defmt_logger.specs.declared.logging.Naming as naming
 use Rattle.defmt_script.specs.contracts.script.Script.{the_row as script_row}
 use Rattle.defmt_script.specs.contracts.script.Script.TheInside.{the_type as script_inside}
 use Rattle.defmt_script.specs.contracts.script.Statements.{the_row as statements_row}
@@ -71,14 +65,6 @@ desk_send U C u k a b =
       ),
     ))
 
-locked_send : (B K U C : RattleType) (b : books.Ghosts B.Denot) (n : naming.Ghosts K.Denot) (u : up.Ghosts U.Denot) (k : clock.Ghosts C.Denot)
-    → IsSend B → IsSend K → IsSend U → IsSend C → IsSend (locked_row B K U C b n u k)
-locked_send B K U C b n u k sb sk su sc = search (sendable, crosses, desk_send) depth 60
-
-pub logger_sync : (B K U C : RattleType) (b : books.Ghosts B.Denot) (n : naming.Ghosts K.Denot) (u : up.Ghosts U.Denot) (k : clock.Ghosts C.Denot)
-    → IsSend B → IsSend K → IsSend U → IsSend C → IsSync (logger_row B K U C b n u k)
-logger_sync B K U C b n u k sb sk su sc = search (sendable, crosses, locked_send) depth 60
-
-pub five_send : (ν : Sym) (A B C D E : RattleType) → IsSend A → IsSend B → IsSend C → IsSend D → IsSend E → IsSend (TupleAt ν (A ∷ B ∷ C ∷ D ∷ E ∷ []))
-five_send ν A B C D E a b c d e = declared_send (type_at ν (A ∷ B ∷ C ∷ D ∷ E ∷ []))
-    (as_row_send (row_field A) a, (as_row_send (row_field B) b, (as_row_send (row_field C) c, (as_row_send (row_field D) d, (as_row_send (row_field E) e, tt)))))
+pub logging_send : (K U C : RattleType) (n : naming.Ghosts K.Denot) (u : up.Ghosts U.Denot) (k : clock.Ghosts C.Denot)
+    → IsSend K → IsSend U → IsSend C → IsSend (logging_row K U C n u k)
+logging_send K U C n u k sk su sc = search (sendable, crosses, desk_send) depth 60

@@ -1,9 +1,10 @@
 -- What a run of a script by threads answers.
 use Rattle.std.specs.Prelude.{◌≡◌, ℕ, ◌<◌, ◌⊎◌, Bool, true, List, [], ◌++◌, length}
+use Rattle.defmt_frames.specs.Frames.{count}
 use Rattle.defmt_lines.specs.declared.settings.RingMode.{RingMode}
 use Rattle.defmt_lines.specs.declared.settings.RingMode.TheVariants.{Block, Skip, Trim}
 use Rattle.defmt_logger.specs.Kept.{LooksIn}
-use Rattle.defmt_logger.specs.Tape.{IsLawful, Released, count, marks_of, stream_of}
+use Rattle.defmt_logger.specs.Tape.{IsLawful, Released, marks_of, stream_of}
 use Rattle.defmt_logger.specs.declared.mark.Mark.{Mark}
 use Rattle.defmt_script.specs.Script.{Script}
 use Rattle.rtt_ring.specs.Account.{Account}

@@ -1,6 +1,7 @@
 // How a run goes.
 ghost use Rattle.std.specs.Prelude.{◌≡◌, ◌-◌, ◌^◌, ◌≤◌, List, [], ◌++◌, IfOk, length, min};
-ghost use Rattle.defmt_logger.specs.Kept.{TellsIn, pace_of};
+ghost use Rattle.defmt_frames.specs.Frames.{pace_of};
+ghost use Rattle.defmt_logger.specs.Kept.{TellsIn};
 ghost use Rattle.defmt_logger.specs.Tape.{IsLawful, stream_of};
 ghost use Rattle.defmt_logger.specs.declared.mark.Mark.{Mark};
 ghost use Rattle.defmt_writers.specs.Runs.{IsRun, ModeFits};
@@ -11,15 +12,18 @@ use crate::gate::Gate;
 use crate::serving::serve_here;
 use crate::writers::{work, write};
 use defmt_hooks::{Clock, Stamp};
-use defmt_logger::{Books, Eight, FRAME_SIZE, Logger, Naming, Pen, Pens, Seat, Tape};
+use defmt_logger::{EachStatement, FRAME_SIZE, Logger, Logging, Naming, Tape};
 use defmt_script::Script;
 use dl_io::{Bytes, Memory};
 use rtt_ring::{Channel, RingFault, Settled, UpEnd};
 use rzcobs_core::canonical_size;
+use shared_work::{
+    Blanks, Books, Eight, HasBook, Ledgers, Pen, Pens, Quota, W0, W1, W2, W3, W4, W5, W6, W7, Work,
+};
 use std::alloc::Global;
 use std::marker::Brand;
 use std::sync::Wait;
-use std::sync::ledger::{Blank, Ledger};
+use std::sync::ledger::Ledger;
 use std::thread::Threads;
 
 /// What a run answers.
@@ -67,19 +71,14 @@ fn empty_capture(alloc: Global, room: usize) -> Result<Bytes, Memory>
 fn finish_pen<
     H: Channel,
     B: Books,
-    K: Naming,
-    C: Clock,
-    S: Seat<B, L>,
+    Q: Quota,
+    T: Work<Q>,
+    S: HasBook<B, L>,
     L: Ledger,
+    K: Naming,
     G: Gate,
     R: Wait,
->(
-    rt: &R,
-    logger: &Logger<B, K, H::Up, C>,
-    pen: &mut Pen<S, L, K>,
-    gate: &G,
-    drain: &mut Drain<K, H::Down>,
-)
+>(rt: &R, logger: &Logger<B, Q, T>, pen: &mut Pen<S, L, Q>, gate: &G, drain: &mut Drain<K, H::Down>)
     ensures place { pen.new.place ≡ pen.new.total }
 {
     let count = pen.total();
@@ -93,31 +92,26 @@ fn finish_pen<
         write(rt, logger, count, pen, gate, &mut Yields);
         return;
     }
-    serve_here::<H, B, K, C, S, L, G, R>(rt, logger, count, pen, down, captured, gate);
+    serve_here::<H, B, Q, T, S, L, G, R>(rt, logger, count, pen, down, captured, gate);
 }
 
 // Logs the statements that the pens have left.
-fn finish<
-    H: Channel,
-    L0: Ledger,
-    L1: Ledger,
-    L2: Ledger,
-    L3: Ledger,
-    L4: Ledger,
-    L5: Ledger,
-    L6: Ledger,
-    L7: Ledger,
-    K: Naming,
-    C: Clock,
-    G: Gate,
-    R: Wait,
->(
+fn finish<H: Channel, E: Ledgers, Q: Quota, T: Work<Q>, K: Naming, G: Gate, R: Wait>(
     rt: &R,
-    logger: &Logger<Eight<L0, L1, L2, L3, L4, L5, L6, L7>, K, H::Up, C>,
-    pens: &mut Pens<L0, L1, L2, L3, L4, L5, L6, L7, K>,
+    logger: &Logger<E, Q, T>,
+    pens: &mut Pens<E, Q>,
     gate: &G,
     drain: &mut Drain<K, H::Down>,
 )
+where
+    W0: HasBook<E, E::L0>,
+    W1: HasBook<E, E::L1>,
+    W2: HasBook<E, E::L2>,
+    W3: HasBook<E, E::L3>,
+    W4: HasBook<E, E::L4>,
+    W5: HasBook<E, E::L5>,
+    W6: HasBook<E, E::L6>,
+    W7: HasBook<E, E::L7>,
     ensures p0 { pens.new.p0.place ≡ pens.new.p0.total }
     ensures p1 { pens.new.p1.place ≡ pens.new.p1.total }
     ensures p2 { pens.new.p2.place ≡ pens.new.p2.total }
@@ -127,14 +121,14 @@ fn finish<
     ensures p6 { pens.new.p6.place ≡ pens.new.p6.total }
     ensures p7 { pens.new.p7.place ≡ pens.new.p7.total }
 {
-    finish_pen::<H, _, _, _, _, _, _, _>(rt, logger, &mut pens.p0, gate, drain);
-    finish_pen::<H, _, _, _, _, _, _, _>(rt, logger, &mut pens.p1, gate, drain);
-    finish_pen::<H, _, _, _, _, _, _, _>(rt, logger, &mut pens.p2, gate, drain);
-    finish_pen::<H, _, _, _, _, _, _, _>(rt, logger, &mut pens.p3, gate, drain);
-    finish_pen::<H, _, _, _, _, _, _, _>(rt, logger, &mut pens.p4, gate, drain);
-    finish_pen::<H, _, _, _, _, _, _, _>(rt, logger, &mut pens.p5, gate, drain);
-    finish_pen::<H, _, _, _, _, _, _, _>(rt, logger, &mut pens.p6, gate, drain);
-    finish_pen::<H, _, _, _, _, _, _, _>(rt, logger, &mut pens.p7, gate, drain);
+    finish_pen::<H, _, _, _, _, _, _, _, _>(rt, logger, &mut pens.p0, gate, drain);
+    finish_pen::<H, _, _, _, _, _, _, _, _>(rt, logger, &mut pens.p1, gate, drain);
+    finish_pen::<H, _, _, _, _, _, _, _, _>(rt, logger, &mut pens.p2, gate, drain);
+    finish_pen::<H, _, _, _, _, _, _, _, _>(rt, logger, &mut pens.p3, gate, drain);
+    finish_pen::<H, _, _, _, _, _, _, _, _>(rt, logger, &mut pens.p4, gate, drain);
+    finish_pen::<H, _, _, _, _, _, _, _, _>(rt, logger, &mut pens.p5, gate, drain);
+    finish_pen::<H, _, _, _, _, _, _, _, _>(rt, logger, &mut pens.p6, gate, drain);
+    finish_pen::<H, _, _, _, _, _, _, _, _>(rt, logger, &mut pens.p7, gate, drain);
 }
 
 // What a run answers once the two ends of its ring are brought together.
@@ -171,29 +165,22 @@ fn settle<H: Channel>(
 // Runs a script over the two ends of one split, under their names.
 fn run_named<
     H: Channel,
-    L0: Ledger + Send,
-    L1: Ledger + Send,
-    L2: Ledger + Send,
-    L3: Ledger + Send,
-    L4: Ledger + Send,
-    L5: Ledger + Send,
-    L6: Ledger + Send,
-    L7: Ledger + Send,
-    K: Naming + Send,
+    L0: Ledger + Send + Sync,
+    L1: Ledger + Send + Sync,
+    L2: Ledger + Send + Sync,
+    L3: Ledger + Send + Sync,
+    L4: Ledger + Send + Sync,
+    L5: Ledger + Send + Sync,
+    L6: Ledger + Send + Sync,
+    L7: Ledger + Send + Sync,
+    K: Naming + Send + Sync,
     C: Clock + Send + Drop,
     G: Gate + Sync,
     R: Threads + Wait + Sync,
 >(
     rt: &R,
     alloc: Global,
-    blank0: Blank,
-    blank1: Blank,
-    blank2: Blank,
-    blank3: Blank,
-    blank4: Blank,
-    blank5: Blank,
-    blank6: Blank,
-    blank7: Blank,
+    blanks: Blanks,
     script: Script,
     stamp: Stamp<C>,
     gate: &G,
@@ -207,24 +194,26 @@ fn run_named<
     requires down { H.Down.view down ≡ new_down (H.Up.view up).split script.settings.ring }
     requires captured { captured.items ≡ [] }
     requires names { (K.script ≡ script) × (K.split ≡ (H.Up.view up).split) }
-    requires l0 { (blank0.name ≡ L0.name) × (blank0.parts ≡ L0.parts) × (blank0.parts ≡ 1) }
-    requires l1 { (blank1.name ≡ L1.name) × (blank1.parts ≡ L1.parts) × (blank1.parts ≡ 1) }
-    requires l2 { (blank2.name ≡ L2.name) × (blank2.parts ≡ L2.parts) × (blank2.parts ≡ 1) }
-    requires l3 { (blank3.name ≡ L3.name) × (blank3.parts ≡ L3.parts) × (blank3.parts ≡ 1) }
-    requires l4 { (blank4.name ≡ L4.name) × (blank4.parts ≡ L4.parts) × (blank4.parts ≡ 1) }
-    requires l5 { (blank5.name ≡ L5.name) × (blank5.parts ≡ L5.parts) × (blank5.parts ≡ 1) }
-    requires l6 { (blank6.name ≡ L6.name) × (blank6.parts ≡ L6.parts) × (blank6.parts ≡ 1) }
-    requires l7 { (blank7.name ≡ L7.name) × (blank7.parts ≡ L7.parts) × (blank7.parts ≡ 1) }
+    requires l0 { (blanks.b0.name ≡ L0.name) × (blanks.b0.parts ≡ L0.parts) }
+    requires l1 { (blanks.b1.name ≡ L1.name) × (blanks.b1.parts ≡ L1.parts) }
+    requires l2 { (blanks.b2.name ≡ L2.name) × (blanks.b2.parts ≡ L2.parts) }
+    requires l3 { (blanks.b3.name ≡ L3.name) × (blanks.b3.parts ≡ L3.parts) }
+    requires l4 { (blanks.b4.name ≡ L4.name) × (blanks.b4.parts ≡ L4.parts) }
+    requires l5 { (blanks.b5.name ≡ L5.name) × (blanks.b5.parts ≡ L5.parts) }
+    requires l6 { (blanks.b6.name ≡ L6.name) × (blanks.b6.parts ≡ L6.parts) }
+    requires l7 { (blanks.b7.name ≡ L7.name) × (blanks.b7.parts ≡ L7.parts) }
     ensures script { IfOk result (λ r. r.script ≡ K.script) }
     ensures run { IfOk result (λ r. IsRun K.script r.tape.marks r.settled r.captured.items r.rest.items r.looks) }
     ensures ring { IfOk result (λ r. r.settled.ring ≡ H.KIND) }
 {
     let drain = Drain::<K, H::Down>::new(down, captured, script.late());
-    let (logger, mut pens) = Logger::<Eight<L0, L1, L2, L3, L4, L5, L6, L7>, K, H::Up, C>::start(
-        alloc, blank0, blank1, blank2, blank3, blank4, blank5, blank6, blank7, script, stamp, up,
-    )?;
+    let (logger, mut pens) = Logger::<
+        Eight<L0, L1, L2, L3, L4, L5, L6, L7>,
+        EachStatement<K>,
+        Logging<K, H::Up, C>,
+    >::start(alloc, blanks, script, stamp, up)?;
     let mut drain = work(rt, &logger, &mut pens, gate, drain);
-    finish::<H, _, _, _, _, _, _, _, _, _, _, _, _>(rt, &logger, &mut pens, gate, &mut drain);
+    finish::<H, _, _, _, _, _, _>(rt, &logger, &mut pens, gate, &mut drain);
     drain.take_all(gate);
     let (tape, up, script) = logger.close(pens);
     let Drain {
@@ -262,14 +251,7 @@ pub fn run_script<H: Channel, C: Clock + Send + Drop, G: Gate + Sync, R: Threads
     run_named::<H, Brand, Brand, Brand, Brand, Brand, Brand, Brand, Brand, Brand, C, G, R>(
         rt,
         alloc,
-        Blank::new(1),
-        Blank::new(1),
-        Blank::new(1),
-        Blank::new(1),
-        Blank::new(1),
-        Blank::new(1),
-        Blank::new(1),
-        Blank::new(1),
+        Blanks::new(),
         script,
         stamp,
         gate,

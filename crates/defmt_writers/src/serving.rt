@@ -1,15 +1,14 @@
 // A reader that reads while its own thread logs.
 ghost use Rattle.std.specs.Prelude.{◌≡◌};
-ghost use Rattle.defmt_logger.specs.Tape.{count as statements};
 
 use crate::drain::take;
 use crate::gate::Gate;
 use crate::writers::write;
-use defmt_hooks::Clock;
-use defmt_logger::{Books, Logger, Naming, Pen, Seat};
+use defmt_logger::Logger;
 use dl_io::Bytes;
 use rtt_modes::Relief;
-use rtt_ring::{Channel, DownEnd, UpEnd};
+use rtt_ring::{Channel, DownEnd};
+use shared_work::{Books, HasBook, Pen, Quota, Work};
 use std::marker::{Brand, PhantomData};
 use std::sync::Wait;
 use std::sync::ledger::Ledger;
@@ -80,23 +79,22 @@ fn serve<
     's,
     N: Lent,
     B: Books,
-    K: Naming,
-    U: UpEnd,
-    C: Clock,
-    S: Seat<B, L>,
+    Q: Quota,
+    T: Work<Q>,
+    S: HasBook<B, L>,
     L: Ledger,
     D: DownEnd,
     G: Gate,
     W: Wait,
 >(
     rt: &W,
-    logger: &Logger<B, K, U, C>,
+    logger: &Logger<B, Q, T>,
     count: u32,
-    pen: &mut Pen<S, L, K>,
+    pen: &mut Pen<S, L, Q>,
     reader: Reader<'s, D>,
     gate: &G,
 ) -> Reader<'s, D>
-    requires count { count ≡ statements K.script S.NUMBER }
+    requires count { count ≡ Q.quota S.NUMBER }
     requires got { (D.view reader.down.now).got ≡ reader.capture.now.items }
     requires split { (D.view reader.down.now).split ≡ N.split }
     requires lent { (reader.down.ghost_name ≡ N.down) × (reader.capture.ghost_name ≡ N.capture) }
@@ -122,34 +120,35 @@ fn serve<
 /// Logs the statements that a pen has left, on the calling thread. In blocking mode, where a frame waits for room, bytes are
 /// taken at the ring's lower end and captured, as far as the capture has room for them.
 ///
-/// The pen is one of this logger's, as its type says, and `count` is how many statements its writer has. The capture holds
+/// The pen is one of this logger's, as its type says, and `count` is how many statements its writer has: the quota of the
+/// logger, which is the script's count for each writer. The capture holds
 /// exactly what the lower end has got, before and afterwards; the end stays one of the same split. The pen's place is then
 /// `count`. The gate is asked before each statement, and told of each take that took something. The call takes no memory. It
 /// may wait, for the logger and in blocking mode for room.
 pub fn serve_here<
     H: Channel,
     B: Books,
-    K: Naming,
-    C: Clock,
-    S: Seat<B, L>,
+    Q: Quota,
+    T: Work<Q>,
+    S: HasBook<B, L>,
     L: Ledger,
     G: Gate,
     W: Wait,
 >(
     rt: &W,
-    logger: &Logger<B, K, H::Up, C>,
+    logger: &Logger<B, Q, T>,
     count: u32,
-    pen: &mut Pen<S, L, K>,
+    pen: &mut Pen<S, L, Q>,
     down: &mut H::Down,
     capture: &mut Bytes,
     gate: &G,
 )
-    requires count { count ≡ statements K.script S.NUMBER }
+    requires count { count ≡ Q.quota S.NUMBER }
     requires got { (H.Down.view down.old).got ≡ capture.old.items }
     ensures place { pen.new.place ≡ count }
     ensures got { (H.Down.view down.new).got ≡ capture.new.items }
     ensures split { (H.Down.view down.new).split ≡ (H.Down.view down.old).split }
 {
     let reader = Reader { down, capture };
-    serve::<Brand, B, K, H::Up, C, S, L, H::Down, G, W>(rt, logger, count, pen, reader, gate);
+    serve::<Brand, B, Q, T, S, L, H::Down, G, W>(rt, logger, count, pen, reader, gate);
 }

@@ -1,13 +1,12 @@
 // The writers' threads.
 ghost use Rattle.std.specs.Prelude.{◌≡◌, ◌≤◌};
-ghost use Rattle.defmt_logger.specs.Tape.{count as statements};
 
 use crate::drain::{Drain, Yields};
 use crate::gate::Gate;
-use defmt_hooks::Clock;
-use defmt_logger::{Books, Eight, Logger, Naming, Pen, Pens, Seat};
+use defmt_logger::{Logger, Naming};
 use rtt_modes::Relief;
-use rtt_ring::{DownEnd, UpEnd};
+use rtt_ring::DownEnd;
+use shared_work::{Books, Eight, HasBook, Pen, Pens, Quota, Work};
 use std::sync::Wait;
 use std::sync::atomic::{AtomicU64, Ordering};
 use std::sync::ledger::Ledger;
@@ -17,16 +16,15 @@ use std::thread::{Scope, Threads};
 // Logs the statements that the pen has left of all that its writer has, and asks the gate before each.
 pub(crate) fn write<
     B: Books,
-    K: Naming,
-    U: UpEnd,
-    C: Clock,
-    S: Seat<B, L>,
+    Q: Quota,
+    T: Work<Q>,
+    S: HasBook<B, L>,
     L: Ledger,
     G: Gate,
     R: Relief,
     W: Wait,
->(rt: &W, logger: &Logger<B, K, U, C>, count: u32, pen: &mut Pen<S, L, K>, gate: &G, relief: &mut R)
-    requires count { count ≡ statements K.script S.NUMBER }
+>(rt: &W, logger: &Logger<B, Q, T>, count: u32, pen: &mut Pen<S, L, Q>, gate: &G, relief: &mut R)
+    requires count { count ≡ Q.quota S.NUMBER }
     requires relief { R.kept relief.old }
     ensures place { pen.new.place ≡ count }
     ensures relief { R.kept relief.new }
@@ -38,10 +36,10 @@ pub(crate) fn write<
 }
 
 // One writer's thread.
-fn run_one<B: Books, K: Naming, U: UpEnd, C: Clock, S: Seat<B, L>, L: Ledger, G: Gate, W: Wait>(
+fn run_one<B: Books, Q: Quota, T: Work<Q>, S: HasBook<B, L>, L: Ledger, G: Gate, W: Wait>(
     rt: &W,
-    logger: &Logger<B, K, U, C>,
-    pen: &mut Pen<S, L, K>,
+    logger: &Logger<B, Q, T>,
+    pen: &mut Pen<S, L, Q>,
     gate: &G,
     done: &AtomicU64,
 ) {
@@ -54,18 +52,17 @@ fn start<
     's,
     E,
     B: Books + Send,
-    K: Naming + Send,
-    U: UpEnd + Send,
-    C: Clock + Send,
-    S: Seat<B, L> + Send,
-    L: Ledger + Send,
+    Q: Quota + Send + Sync,
+    T: Work<Q> + Send,
+    S: HasBook<B, L> + Send,
+    L: Ledger + Send + Sync,
     G: Gate + Sync,
     W: Wait + Sync,
 >(
     scope: &Scope<'s, E>,
     rt: &'s W,
-    logger: &'s Logger<B, K, U, C>,
-    pen: &'s mut Pen<S, L, K>,
+    logger: &'s Logger<B, Q, T>,
+    pen: &'s mut Pen<S, L, Q>,
     gate: &'s G,
     done: &'s AtomicU64,
 ) -> u64
@@ -86,24 +83,23 @@ fn start<
 fn start_all<
     's,
     E,
-    L0: Ledger + Send,
-    L1: Ledger + Send,
-    L2: Ledger + Send,
-    L3: Ledger + Send,
-    L4: Ledger + Send,
-    L5: Ledger + Send,
-    L6: Ledger + Send,
-    L7: Ledger + Send,
-    K: Naming + Send,
-    U: UpEnd + Send,
-    C: Clock + Send,
+    L0: Ledger + Send + Sync,
+    L1: Ledger + Send + Sync,
+    L2: Ledger + Send + Sync,
+    L3: Ledger + Send + Sync,
+    L4: Ledger + Send + Sync,
+    L5: Ledger + Send + Sync,
+    L6: Ledger + Send + Sync,
+    L7: Ledger + Send + Sync,
+    Q: Quota + Send + Sync,
+    T: Work<Q> + Send,
     G: Gate + Sync,
     W: Wait + Sync,
 >(
     scope: &Scope<'s, E>,
     rt: &'s W,
-    logger: &'s Logger<Eight<L0, L1, L2, L3, L4, L5, L6, L7>, K, U, C>,
-    pens: &'s mut Pens<L0, L1, L2, L3, L4, L5, L6, L7, K>,
+    logger: &'s Logger<Eight<L0, L1, L2, L3, L4, L5, L6, L7>, Q, T>,
+    pens: &'s mut Pens<Eight<L0, L1, L2, L3, L4, L5, L6, L7>, Q>,
     gate: &'s G,
     done: &'s AtomicU64,
 ) -> u64 {
@@ -149,24 +145,24 @@ fn read<K: Naming, D: DownEnd, G: Gate, W: Wait>(
 
 // Starts a thread for each writer that has statements, lends it its pen, and reads until all have ended.
 pub(crate) fn work<
-    L0: Ledger + Send,
-    L1: Ledger + Send,
-    L2: Ledger + Send,
-    L3: Ledger + Send,
-    L4: Ledger + Send,
-    L5: Ledger + Send,
-    L6: Ledger + Send,
-    L7: Ledger + Send,
-    K: Naming + Send,
-    U: UpEnd + Send,
-    C: Clock + Send,
+    L0: Ledger + Send + Sync,
+    L1: Ledger + Send + Sync,
+    L2: Ledger + Send + Sync,
+    L3: Ledger + Send + Sync,
+    L4: Ledger + Send + Sync,
+    L5: Ledger + Send + Sync,
+    L6: Ledger + Send + Sync,
+    L7: Ledger + Send + Sync,
+    Q: Quota + Send + Sync,
+    T: Work<Q> + Send,
+    K: Naming,
     D: DownEnd + Drop,
     G: Gate + Sync,
     R: Threads + Wait + Sync,
 >(
     rt: &R,
-    logger: &Logger<Eight<L0, L1, L2, L3, L4, L5, L6, L7>, K, U, C>,
-    pens: &mut Pens<L0, L1, L2, L3, L4, L5, L6, L7, K>,
+    logger: &Logger<Eight<L0, L1, L2, L3, L4, L5, L6, L7>, Q, T>,
+    pens: &mut Pens<Eight<L0, L1, L2, L3, L4, L5, L6, L7>, Q>,
     gate: &G,
     drain: Drain<K, D>,
 ) -> Drain<K, D> {

@@ -1,6 +1,6 @@
 // A logger over a plain ring, on one thread.
 ghost use Rattle.std.specs.Prelude.{◌≡◌, [], true, ⊤};
-ghost use Rattle.defmt_logger.specs.Kept.{pace_of};
+ghost use Rattle.defmt_frames.specs.Frames.{pace_of};
 ghost use Rattle.rtt_ring.specs.PlainView.{up_of};
 ghost use Rattle.rtt_ring.specs.Views.{new_up};
 
@@ -9,17 +9,18 @@ use crate::scripts::{put_digits_or_nothing, put_marks, script_of, site_at, stamp
 use defmt_grammar::{IntSize, Kind, Slot};
 use defmt_hooks::{Clock, Stamp};
 use defmt_intern::Table;
-use defmt_logger::{Books, Eight, Logger, Naming, Pen, Seat, Tape};
+use defmt_logger::{EachStatement, Logger, Logging, Naming, Tape};
 use defmt_macros::{Frame, Site, put};
 use defmt_script::Script;
 use dl_io::Bytes;
 use rtt_modes::Relief;
-use rtt_ring::{PlainRing, UpEnd};
+use rtt_ring::PlainRing;
+use shared_work::{Blanks, Books, Eight, HasBook, Pen, Quota, Work};
 use std::alloc::Global;
 use std::fmt::Write;
 use std::marker::Brand;
 use std::sync::Wait;
-use std::sync::ledger::{Blank, Ledger};
+use std::sync::ledger::Ledger;
 use std::test::Fail;
 
 // A script: what came of it where the writer 1 logs a statement, then the writer 0 three, as far as they have them.
@@ -59,10 +60,10 @@ impl Relief for NoRelief {
 }
 
 // Logs the next statement of a pen, where it has one left.
-fn log_by<B: Books, K: Naming, U: UpEnd, C: Clock, S: Seat<B, L>, L: Ledger, W: Wait>(
+fn log_by<B: Books, Q: Quota, T: Work<Q>, S: HasBook<B, L>, L: Ledger, W: Wait>(
     rt: &W,
-    logger: &Logger<B, K, U, C>,
-    pen: &mut Pen<S, L, K>,
+    logger: &Logger<B, Q, T>,
+    pen: &mut Pen<S, L, Q>,
 ) {
     if pen.place() < pen.total() {
         logger.log(rt, pen, &mut NoRelief);
@@ -70,10 +71,10 @@ fn log_by<B: Books, K: Naming, U: UpEnd, C: Clock, S: Seat<B, L>, L: Ledger, W: 
 }
 
 // Logs the next three statements of a pen, as far as it has them.
-fn log_three_by<B: Books, K: Naming, U: UpEnd, C: Clock, S: Seat<B, L>, L: Ledger, W: Wait>(
+fn log_three_by<B: Books, Q: Quota, T: Work<Q>, S: HasBook<B, L>, L: Ledger, W: Wait>(
     rt: &W,
-    logger: &Logger<B, K, U, C>,
-    pen: &mut Pen<S, L, K>,
+    logger: &Logger<B, Q, T>,
+    pen: &mut Pen<S, L, Q>,
 ) {
     for _ in 0..3 {
         log_by(rt, logger, pen);
@@ -148,14 +149,7 @@ fn log_by_pens<
 >(
     rt: &W,
     alloc: Global,
-    blank0: Blank,
-    blank1: Blank,
-    blank2: Blank,
-    blank3: Blank,
-    blank4: Blank,
-    blank5: Blank,
-    blank6: Blank,
-    blank7: Blank,
+    blanks: Blanks,
     script: Script,
     stamp: Stamp<C>,
     ring: PlainRing,
@@ -165,23 +159,20 @@ fn log_by_pens<
     requires pace { stamp ≡ pace_of script.settings.stamp }
     requires fresh { up_of ring ≡ new_up (up_of ring).split script.settings.ring true }
     requires names { (K.script ≡ script) × (K.split ≡ (up_of ring).split) }
-    requires l0 { (blank0.name ≡ L0.name) × (blank0.parts ≡ L0.parts) × (blank0.parts ≡ 1) }
-    requires l1 { (blank1.name ≡ L1.name) × (blank1.parts ≡ L1.parts) × (blank1.parts ≡ 1) }
-    requires l2 { (blank2.name ≡ L2.name) × (blank2.parts ≡ L2.parts) × (blank2.parts ≡ 1) }
-    requires l3 { (blank3.name ≡ L3.name) × (blank3.parts ≡ L3.parts) × (blank3.parts ≡ 1) }
-    requires l4 { (blank4.name ≡ L4.name) × (blank4.parts ≡ L4.parts) × (blank4.parts ≡ 1) }
-    requires l5 { (blank5.name ≡ L5.name) × (blank5.parts ≡ L5.parts) × (blank5.parts ≡ 1) }
-    requires l6 { (blank6.name ≡ L6.name) × (blank6.parts ≡ L6.parts) × (blank6.parts ≡ 1) }
-    requires l7 { (blank7.name ≡ L7.name) × (blank7.parts ≡ L7.parts) × (blank7.parts ≡ 1) }
+    requires l0 { (blanks.b0.name ≡ L0.name) × (blanks.b0.parts ≡ L0.parts) }
+    requires l1 { (blanks.b1.name ≡ L1.name) × (blanks.b1.parts ≡ L1.parts) }
+    requires l2 { (blanks.b2.name ≡ L2.name) × (blanks.b2.parts ≡ L2.parts) }
+    requires l3 { (blanks.b3.name ≡ L3.name) × (blanks.b3.parts ≡ L3.parts) }
+    requires l4 { (blanks.b4.name ≡ L4.name) × (blanks.b4.parts ≡ L4.parts) }
+    requires l5 { (blanks.b5.name ≡ L5.name) × (blanks.b5.parts ≡ L5.parts) }
+    requires l6 { (blanks.b6.name ≡ L6.name) × (blanks.b6.parts ≡ L6.parts) }
+    requires l7 { (blanks.b7.name ≡ L7.name) × (blanks.b7.parts ≡ L7.parts) }
 {
     let (logger, mut pens) = Logger::<
         Eight<L0, L1, L2, L3, L4, L5, L6, L7>,
-        K,
-        PlainRing,
-        C,
-    >::start(
-        alloc, blank0, blank1, blank2, blank3, blank4, blank5, blank6, blank7, script, stamp, ring,
-    )?;
+        EachStatement<K>,
+        Logging<K, PlainRing, C>,
+    >::start(alloc, blanks, script, stamp, ring)?;
     log_by(rt, &logger, &mut pens.p1);
     log_three_by(rt, &logger, &mut pens.p0);
     let dropped = drop_frame_of(alloc, table);
@@ -205,14 +196,7 @@ fn log_script<W: Wait>(
     log_by_pens::<Brand, Brand, Brand, Brand, Brand, Brand, Brand, Brand, Brand, _, _>(
         rt,
         alloc,
-        Blank::new(1),
-        Blank::new(1),
-        Blank::new(1),
-        Blank::new(1),
-        Blank::new(1),
-        Blank::new(1),
-        Blank::new(1),
-        Blank::new(1),
+        Blanks::new(),
         script,
         stamp,
         ring,

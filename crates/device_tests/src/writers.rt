@@ -1,23 +1,25 @@
 // Scripts that are run by threads, under gates that hold some of them.
 ghost use Rattle.std.specs.Prelude.{◌≡◌, [], IfOk};
-ghost use Rattle.defmt_logger.specs.Kept.{TellsIn, pace_of};
+ghost use Rattle.defmt_frames.specs.Frames.{pace_of};
+ghost use Rattle.defmt_logger.specs.Kept.{TellsIn};
 ghost use Rattle.defmt_writers.specs.Runs.{ModeFits};
 ghost use Rattle.rtt_ring.specs.Views.{new_down, new_up};
 
 use crate::rows::{Kind, each_block};
 use crate::scripts::{put_digits_or_nothing, put_marks, script_of, stamp_of};
 use defmt_hooks::{Clock, Stamp};
-use defmt_logger::{Eight, Logger, Naming};
+use defmt_logger::{EachStatement, Logger, Logging, Naming};
 use defmt_script::{RingMode, Script};
 use defmt_writers::{Gate, OpenGate, Run, run_script, serve_here};
 use dl_io::Bytes;
 use rtt_ring::{Channel, QueueRing, WordRing};
+use shared_work::{Blanks, Eight};
 use std::alloc::Global;
 use std::fmt::Write;
 use std::marker::Brand;
 use std::sync::Wait;
 use std::sync::atomic::{AtomicU64, Ordering};
-use std::sync::ledger::{Blank, Ledger};
+use std::sync::ledger::Ledger;
 use std::test::Fail;
 use std::thread;
 use std::thread::Threads;
@@ -319,14 +321,7 @@ fn serve_alone<
 >(
     rt: &W,
     alloc: Global,
-    blank0: Blank,
-    blank1: Blank,
-    blank2: Blank,
-    blank3: Blank,
-    blank4: Blank,
-    blank5: Blank,
-    blank6: Blank,
-    blank7: Blank,
+    blanks: Blanks,
     script: Script,
     stamp: Stamp<C>,
     up: H::Up,
@@ -340,18 +335,20 @@ fn serve_alone<
     requires down { H.Down.view down ≡ new_down (H.Up.view up).split script.settings.ring }
     requires empty { (captured.old.items ≡ []) × (rest.old.items ≡ []) }
     requires names { (K.script ≡ script) × (K.split ≡ (H.Up.view up).split) }
-    requires l0 { (blank0.name ≡ L0.name) × (blank0.parts ≡ L0.parts) × (blank0.parts ≡ 1) }
-    requires l1 { (blank1.name ≡ L1.name) × (blank1.parts ≡ L1.parts) × (blank1.parts ≡ 1) }
-    requires l2 { (blank2.name ≡ L2.name) × (blank2.parts ≡ L2.parts) × (blank2.parts ≡ 1) }
-    requires l3 { (blank3.name ≡ L3.name) × (blank3.parts ≡ L3.parts) × (blank3.parts ≡ 1) }
-    requires l4 { (blank4.name ≡ L4.name) × (blank4.parts ≡ L4.parts) × (blank4.parts ≡ 1) }
-    requires l5 { (blank5.name ≡ L5.name) × (blank5.parts ≡ L5.parts) × (blank5.parts ≡ 1) }
-    requires l6 { (blank6.name ≡ L6.name) × (blank6.parts ≡ L6.parts) × (blank6.parts ≡ 1) }
-    requires l7 { (blank7.name ≡ L7.name) × (blank7.parts ≡ L7.parts) × (blank7.parts ≡ 1) }
+    requires l0 { (blanks.b0.name ≡ L0.name) × (blanks.b0.parts ≡ L0.parts) }
+    requires l1 { (blanks.b1.name ≡ L1.name) × (blanks.b1.parts ≡ L1.parts) }
+    requires l2 { (blanks.b2.name ≡ L2.name) × (blanks.b2.parts ≡ L2.parts) }
+    requires l3 { (blanks.b3.name ≡ L3.name) × (blanks.b3.parts ≡ L3.parts) }
+    requires l4 { (blanks.b4.name ≡ L4.name) × (blanks.b4.parts ≡ L4.parts) }
+    requires l5 { (blanks.b5.name ≡ L5.name) × (blanks.b5.parts ≡ L5.parts) }
+    requires l6 { (blanks.b6.name ≡ L6.name) × (blanks.b6.parts ≡ L6.parts) }
+    requires l7 { (blanks.b7.name ≡ L7.name) × (blanks.b7.parts ≡ L7.parts) }
 {
-    let (logger, mut pens) = Logger::<Eight<L0, L1, L2, L3, L4, L5, L6, L7>, K, H::Up, C>::start(
-        alloc, blank0, blank1, blank2, blank3, blank4, blank5, blank6, blank7, script, stamp, up,
-    )?;
+    let (logger, mut pens) = Logger::<
+        Eight<L0, L1, L2, L3, L4, L5, L6, L7>,
+        EachStatement<K>,
+        Logging<K, H::Up, C>,
+    >::start(alloc, blanks, script, stamp, up)?;
     let count = pens.p0.total();
     serve_here::<H, _, _, _, _, _, _, _>(
         rt,
@@ -386,14 +383,7 @@ fn run_alone<W: Wait>(
     serve_alone::<WordRing, Brand, Brand, Brand, Brand, Brand, Brand, Brand, Brand, Brand, _, _>(
         rt,
         alloc,
-        Blank::new(1),
-        Blank::new(1),
-        Blank::new(1),
-        Blank::new(1),
-        Blank::new(1),
-        Blank::new(1),
-        Blank::new(1),
-        Blank::new(1),
+        Blanks::new(),
         script,
         stamp,
         up,

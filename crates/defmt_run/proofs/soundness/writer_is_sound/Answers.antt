@@ -1,8 +1,8 @@
 use Rattle.std.proofs.Common.{◌≡◌, ℕ, arith, below_more}
 use Rattle.std.specs.Prelude.{Some, slice_get}
 use Rattle.std.proofs.lemmas.Option.{slice_get_within}
+use Rattle.defmt_frames.specs.Frames.{statements_of}
 use Rattle.defmt_values.specs.Sound.{AreSound}
-use Rattle.defmt_logger.specs.Tape.{statements_of}
 use Rattle.defmt_values.specs.declared.value.Statement.{Statement}
 use Rattle.defmt_run.proofs.soundness.writer_is_sound.Goals as goal
 

@@ -2,9 +2,10 @@ use Rattle.std.proofs.Common.{◌≡◌, ◌++◌, ◌∙◌, ℕ, List, ap, sub
 use Rattle.std.specs.Prelude.{OnOk, Option}
 use Rattle.defmt_eager.specs.Line.{eager_line}
 use Rattle.defmt_encode.specs.Carry.{stamp_args}
+use Rattle.defmt_frames.proofs.Frames.{sound_at}
+use Rattle.defmt_frames.specs.Frames.{statements_of}
 use Rattle.defmt_intern.specs.Table.{Map}
-use Rattle.defmt_logger.proofs.Frames.{sound_at}
-use Rattle.defmt_logger.specs.Tape.{mark_line, statements_of}
+use Rattle.defmt_logger.specs.Tape.{mark_line}
 use Rattle.defmt_run.specs.Output.{ended}
 use Rattle.defmt_run.proofs.Lines.{line_is}
 use Rattle.defmt_run.proofs.Marks.{is_there}

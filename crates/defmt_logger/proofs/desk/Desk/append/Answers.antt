@@ -1,10 +1,11 @@
 use Rattle.std.proofs.Common.{rules, ◌≡◌, ◌<◌, ◌++◌, [], ◌∷◌, length, subst, arith}
 use Rattle.std.specs.Prelude.{slice_index_or}
 use Rattle.std.proofs.lemmas.Grind.{common_steps}
+use Rattle.defmt_frames.specs.Frames.{count, frame_at, stamp_number}
 use Rattle.defmt_logger.proofs.Next.{Next, more_left, next_is, room_left, writer_is}
 use Rattle.defmt_logger.proofs.Room.{marks_within}
 use Rattle.defmt_logger.specs.Kept.{SendsIn, Sheet, next_mark}
-use Rattle.defmt_logger.specs.Tape.{count, frame_at, marks_of, stamp_number}
+use Rattle.defmt_logger.specs.Tape.{marks_of}
 use Rattle.defmt_logger.proofs.desk.Desk.append.Given.{Over}
 use Rattle.defmt_logger.proofs.desk.Desk.append.Goals.{After-push_reserved}
 use Rattle.defmt_logger.proofs.desk.Desk.append.Goals as goal
@@ -14,8 +15,8 @@ next : (g : Over) (c : After-push_reserved g) → let s = c.self.inside in Next 
 next g c =
     let s = c.self.inside in
     let d : Sheet = record { script = s.script; tape = s.tape; up = g.U.UpEnd.view s.up } in
-    next_is d s.sites s.places s.stamp s.message.items s.frame.items c.args.writer c.len.result c.at-stamp.result c.send_statement-fate.result c.push_reserved.new.self _
-    c.self.invariant c.lawful.ensures (more_left d _ c.args.writer c.self.view_is c.requires.place) c.len.ensures c.at-stamp.ensures c.push_reserved.ensures.marks c.push_reserved.ensures.room c.send_statement-fate.ensures.sent
+    next_is d s.sites s.places s.stamp s.message.items s.frame.items c.args.writer c.len-marks.result c.at-stamp.result c.send_statement-fate.result c.push_reserved.new.self _
+    c.self.invariant c.lawful.ensures (more_left d _ c.args.writer c.self.view_is c.requires.place) c.len-marks.ensures c.at-stamp.ensures c.push_reserved.ensures.marks c.push_reserved.ensures.room c.send_statement-fate.ensures.sent
 
 pub bounds-self-inside-writer : goal.bounds-self-inside-writer
 bounds-self-inside-writer g c = writer_is c.self.inside.script c.self.inside.tape.marks c.args.writer c.lawful.ensures (more_left _ _ c.args.writer c.self.view_is c.requires.place)
@@ -55,7 +56,7 @@ pub returns-clause-sent : goal.returns-clause-sent
 returns-clause-sent g c =
     let w = c.args.writer in
     let n = next g (goal.at.returns-clause-sent g c).After-push_reserved in
-    subst (λ (x : Sheet). SendsIn x.script.settings.mode x.up (g.U.UpEnd.view c.send_statement-fate.new.up) (frame_at x.script w (marks_of w x.tape.marks) (stamp_number x.script (length x.tape.marks))) c.send_statement-fate.result) c.self.view_is n.sends
+    subst (λ (x : Sheet). SendsIn x.script.settings.mode x.up (g.U.UpEnd.view c.send_statement-fate.new.up) (frame_at x.script (length x.tape.marks) w (marks_of w x.tape.marks) (stamp_number x.script (length x.tape.marks))) c.send_statement-fate.result) c.self.view_is n.sends
 
 pub returns-clause-kept : goal.returns-clause-kept
 returns-clause-kept g c = (next g (goal.at.returns-clause-kept g c).After-push_reserved).kept

@@ -1,0 +1,49 @@
+-- A writer's statements are sound, and the frame of one that is there is that of its message.
+use Rattle.std.proofs.Common.{◌≡◌, ℕ, zero, suc, ◌<◌, List, [], ◌∷◌, Option, Some, None, length, take, sym, ap, ◌∙◌, subst, arith}
+use Rattle.std.specs.Prelude.{slice_get, slice_index_or}
+use Rattle.std.specs.List.{AllByRecursion}
+use Rattle.std.proofs.lemmas.Option.{same_Some}
+use Rattle.defmt_encode.specs.Carry.{frame_of, message_of, stamp_args}
+use Rattle.defmt_frames.specs.Frames.{frame_at, frame_with, stamp_in, statements_of}
+use Rattle.defmt_intern.specs.Table.{Map}
+use Rattle.defmt_script.specs.Lawful.{IsLawful, IsSound}
+use Rattle.defmt_script.specs.Script.{Script}
+use Rattle.defmt_values.specs.declared.value.Statement.{Statement}
+
+at_place : {X : Type 0} (P : X → Type 0) (xs : List X) (i : ℕ) (x : X) → AllByRecursion P xs → slice_get xs i ≡ Some x → P x
+at_place P [] i x all is = absurd (cc is)
+at_place P (y ∷ xs) zero x all is = subst P (same_Some y x is) all.0
+at_place P (y ∷ xs) (suc i) x all is = at_place P xs i x all.1 is
+
+at_writer : (P : List Statement → Type 0) (ws : List (List Statement)) (w : ℕ) → AllByRecursion P ws → P [] → P (slice_index_or ws w [])
+at_writer P [] w all none = none
+at_writer P (l ∷ ws) zero all none = all.0
+at_writer P (l ∷ ws) (suc w) all none = at_writer P ws w all.1 none
+
+pub sound_at : (s : Script) (w k : ℕ) (stm : Statement) → IsLawful s → slice_get (statements_of s w) k ≡ Some stm → IsSound s.table s.settings.stamp stm
+sound_at s w k stm h is =
+    let P : Statement → Type 0 = IsSound s.table s.settings.stamp in
+    at_place P (statements_of s w) k stm (at_writer (λ l. AllByRecursion P l) s.writers w h.sound tt) is
+
+pub some_taken : (n : ℕ) (xs ys : List ℕ) (x : ℕ) → take n xs ≡ x ∷ ys → 0 < n
+some_taken zero xs ys x is = absurd (cc is)
+some_taken (suc n) xs ys x is = omega arith
+
+pub statement_there : (xs : List Statement) (k : ℕ) → k < length xs → slice_get xs k ≡ None → ⊥
+statement_there [] k lt none = absurd (omega (arith, lt))
+statement_there (x ∷ xs) zero lt none = absurd (cc none)
+statement_there (x ∷ xs) (suc k) lt none = statement_there xs k (omega (arith, lt)) none
+
+-- a writer that has a statement is one of the script's
+pub writer_below : (ws : List (List Statement)) (w n : ℕ) → n < length (slice_index_or ws w []) → w < length ws
+writer_below [] w n h = absurd (omega (arith, h))
+writer_below (l ∷ ws) zero n h = omega arith
+writer_below (l ∷ ws) (suc w) n h = omega (arith, writer_below ws w n h)
+
+pub frame_is : (s : Script) (number w k n : ℕ) (stm : Statement) (table : Map) (o : Option ℕ) → slice_get (statements_of s w) k ≡ Some stm → table ≡ s.table → o ≡ stamp_in s.settings.stamp n
+    → frame_of (message_of table (stamp_args o) stm.index stm.args) ≡ frame_at s number w k n
+unfolding frame_at
+frame_is s number w k n stm table o there same carried =
+    ap (λ (t : Map). frame_with t o (Some stm)) same
+    ∙ ap (λ (p : Option ℕ). frame_with s.table p (Some stm)) carried
+    ∙ ap (λ (x : Option Statement). frame_with s.table (stamp_in s.settings.stamp n) x) (sym there)

@@ -1,0 +1,3 @@
+pub mod Frames
+mod SiteLaws
+mod Stamps

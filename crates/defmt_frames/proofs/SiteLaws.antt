@@ -1,0 +1,120 @@
+-- The sites of a script's statements.
+use Rattle.std.proofs.Common.{◌≡◌, ◌∙◌, ◌≤◌, ◌<◌, ℕ, zero, suc, Bool, true, false, cond, List, [], ◌∷◌, length, Option, Some, None, is_eq, nat_cmp, refl, sym, ap, subst, arith}
+use Rattle.std.specs.Prelude.{IsSome, is_some, nat_lt, slice_get, slice_index_or}
+use Rattle.std.proofs.lemmas.Bool.Decides.{nat_tests}
+use Rattle.std.proofs.lemmas.Option.{same_Some}
+use Rattle.defmt_encode.proofs.Hears.{one_entry}
+use Rattle.defmt_encode.specs.Carry.{message_of, stamp_args}
+use Rattle.defmt_frames.proofs.Frames.{sound_at}
+use Rattle.defmt_frames.proofs.Stamps.{suits}
+use Rattle.defmt_frames.specs.Frames.{stamp_in, statements_of}
+use Rattle.defmt_frames.specs.Sites.{AreSitesOf, HasSites, HaveSites, IsMessage, IsSiteOf, Keeps, Writes, site_at}
+use Rattle.defmt_frames.specs.declared.sites.Sites.{Sites}
+use Rattle.defmt_grammar.specs.Slots.{slots_of}
+use Rattle.defmt_intern.specs.Body.{body_of}
+use Rattle.defmt_intern.specs.Table.{Map}
+use Rattle.defmt_intern.specs.declared.entry.Entry.{Entry}
+use Rattle.defmt_intern.specs.declared.parsed.Parsed.{Parsed}
+use Rattle.defmt_intern.specs.declared.parsed.Parsed.TheVariants.{One}
+use Rattle.defmt_macros.specs.Sites.{IsSite, found_in, found_text, no_message}
+use Rattle.defmt_macros.specs.declared.site.Site.{Site}
+use Rattle.defmt_script.specs.Lawful.{IsLawful, IsSound, message_limit}
+use Rattle.defmt_script.specs.Script.{Script}
+use Rattle.defmt_values.specs.Entries.{is_logged, look}
+use Rattle.defmt_values.specs.Fits.{Fits}
+use Rattle.defmt_values.specs.declared.value.Statement.{Statement}
+
+-- ---- messages
+
+pub sound_message : (table : Map) (stamp : Option (ℕ × ℕ)) (stm : Statement) → IsSound table stamp stm → IsMessage table stm.index
+sound_message table stamp stm s = record {
+  entry = s.fits.entry;
+  pieces = s.fits.pieces;
+  there = s.fits.there;
+  logged = ap (λ (e : Entry). is_logged e.tag) (one_entry table stm.index s.fits.entry s.logged.entry s.fits.there s.logged.there) ∙ s.logged.tag;
+  body = s.fits.body;
+}
+
+-- a message has the site of its entry
+pub message_site : (table : Map) (index : ℕ) (m : IsMessage table index) → IsSite table index m.entry.tag (slots_of m.pieces)
+message_site table index m =
+    ap found_in m.there
+    ∙ ap (λ (b : Bool). cond b (found_text m.entry.tag (body_of m.entry)) no_message) m.logged
+    ∙ ap (found_text m.entry.tag) m.body
+
+-- what was looked up is what the message has
+pub message_body : (table : Map) (index : ℕ) (m : IsMessage table index) (e : Entry) (body : Parsed) → look table index ≡ Some e → body ≡ body_of e → body ≡ One m.pieces
+message_body table index m e body there is = is ∙ ap body_of (one_entry table index e m.entry there m.there) ∙ m.body
+
+-- ---- one site more
+
+module _ (old new : Sites) (index : ℕ) (site : Site) (more : (q : ℕ) → site_at new q ≡ cond (is_eq (nat_cmp index q)) (Some site) (site_at old q)) where
+  own_by : (table : Map) (q : ℕ) (s : Site) (b : Bool) → is_eq (nat_cmp index q) ≡ b → AreSitesOf table old → IsSiteOf table index site → cond b (Some site) (site_at old q) ≡ Some s → IsSiteOf table q s
+  own_by table q s true e own here is =
+      let same : index ≡ q = grind (arith, nat_tests) in
+      let P : ℕ → Site → Type 0 = λ i x. IsSiteOf table i x in
+      subst (λ (x : Site). P q x) (same_Some site s is) (subst (λ (i : ℕ). P i site) same here)
+  own_by table q s false e own here is = own q s is
+
+  pub more_own : (table : Map) → AreSitesOf table old → IsSiteOf table index site → AreSitesOf table new
+  more_own table own here q s is = own_by table q s (is_eq (nat_cmp index q)) refl own here (sym (more q) ∙ is)
+
+  kept_by : (q : ℕ) (b : Bool) → IsSome (site_at old q) → IsSome (cond b (Some site) (site_at old q))
+  kept_by q true h = refl
+  kept_by q false h = h
+
+  pub more_keeps : Keeps old new
+  more_keeps q h = ap is_some (more q) ∙ kept_by q (is_eq (nat_cmp index q)) h
+
+-- ---- the sites of lists of statements
+
+pub within : (xs : List Statement) (k : ℕ) (x : Statement) → slice_get xs k ≡ Some x → k < length xs
+within [] k x is = absurd (cc is)
+within (y ∷ xs) zero x is = omega arith
+within (y ∷ xs) (suc k) x is = omega (arith, within xs k x is)
+
+pub have_more : (old new : Sites) (list : List Statement) → Keeps old new → HaveSites old list → HaveSites new list
+have_more old new list keeps have place stm there = keeps stm.index (have place stm there)
+
+none_at : (place : ℕ) (stm : Statement) → slice_get [] place ≡ Some stm → ⊥
+none_at place stm there = cc there
+
+-- a script has statements of eight writers alone
+past_eight : (ws : List (List Statement)) (w : ℕ) → length ws ≤ w → slice_index_or ws w [] ≡ []
+past_eight [] w le = refl
+past_eight (l ∷ ws) zero le = absurd (omega (arith, le))
+past_eight (l ∷ ws) (suc w) le = past_eight ws w (omega (arith, le))
+
+all_by : (s : Script) (sites : Sites) (n w : ℕ) → IsLawful s → ((v : ℕ) → v < n → HaveSites sites (statements_of s v)) → n ≡ 8 → (b : Bool) → nat_lt w 8 ≡ b → HaveSites sites (statements_of s w)
+all_by s sites n w h below full true is = below w (grind (arith, nat_tests))
+all_by s sites n w h below full false is =
+    let none : statements_of s w ≡ [] = past_eight s.writers w (let out : 8 ≤ w = grind (arith, nat_tests) in omega (arith, out, h.eight)) in
+    λ place stm there. absurd (none_at place stm (ap (λ (l : List Statement). slice_get l place) (sym none) ∙ there))
+
+pub all_have : (s : Script) (sites : Sites) (n : ℕ) → IsLawful s → ((v : ℕ) → v < n → HaveSites sites (statements_of s v)) → n ≡ 8 → (w : ℕ) → HaveSites sites (statements_of s w)
+all_have s sites n h below full w = all_by s sites n w h below full (nat_lt w 8) refl
+
+-- a statement of the script has one
+pub site_there : (s : Script) (sites : Sites) (w k : ℕ) (stm : Statement) → HasSites s sites → slice_get (statements_of s w) k ≡ Some stm → site_at sites stm.index ≡ None → ⊥
+site_there s sites w k stm has there none = let clash : false ≡ true = ap is_some (sym none) ∙ has.all w k stm there in cc clash
+
+-- ---- what logging asks
+
+writes_own : (s : Script) (sites : Sites) (w k n : ℕ) (stm : Statement) (site : Site) → IsLawful s → HasSites s sites → slice_get (statements_of s w) k ≡ Some stm → site_at sites stm.index ≡ Some site
+    → Writes s.table site (stamp_in s.settings.stamp n) stm.args
+writes_own s sites w k n stm site h has there at =
+    let sound : IsSound s.table s.settings.stamp stm = sound_at s w k stm h there in
+    let here : IsSiteOf s.table stm.index site = has.own stm.index site at in
+    record {
+      own = subst (λ (i : ℕ). IsSite s.table i site.tag site.slots) (sym here.0) here.1;
+      suits = suits s n h;
+      fits = subst (λ (i : ℕ). Fits s.table i stm.args) (sym here.0) sound.fits;
+      short = subst (λ (i : ℕ). length (message_of s.table (stamp_args (stamp_in s.settings.stamp n)) i stm.args) ≤ message_limit) (sym here.0) (sound.short n);
+    }
+
+pub writes : (s : Script) (sites : Sites) (w k n : ℕ) (stm : Statement) (site : Site) (table : Map) (o : Option ℕ)
+    → IsLawful s → HasSites s sites → slice_get (statements_of s w) k ≡ Some stm → site_at sites stm.index ≡ Some site → table ≡ s.table → o ≡ stamp_in s.settings.stamp n
+    → Writes table site o stm.args
+writes s sites w k n stm site table o h has there at same carried =
+    let P : Map → Option ℕ → Type 0 = λ t p. Writes t site p stm.args in
+    subst (λ (t : Map). P t o) (sym same) (subst (λ (p : Option ℕ). P s.table p) (sym carried) (writes_own s sites w k n stm site h has there at))

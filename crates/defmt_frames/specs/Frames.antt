@@ -1,0 +1,49 @@
+-- The frames of a script's statements, and the stamps that they carry.
+use Rattle.std.specs.Prelude.{ℕ, ◌+◌, ◌*◌, List, [], length, Option, Some, None, slice_get, slice_index_or}
+use Rattle.defmt_encode.specs.Carry.{frame_of, message_of, stamp_args}
+use Rattle.defmt_hooks.specs.Even.{Pace}
+use Rattle.defmt_intern.specs.Table.{Map}
+use Rattle.defmt_script.specs.Lawful.{stamp_in as carried}
+use Rattle.defmt_script.specs.Script.{Script}
+use Rattle.defmt_values.specs.declared.value.Statement.{Statement}
+
+-- the statements of a writer, none where there is no such writer
+abbrev pub statements_of : Script → ℕ → List Statement
+statements_of s w = slice_index_or s.writers w []
+
+-- how many statements a writer has
+abbrev pub count : Script → ℕ → ℕ
+count s w = length (statements_of s w)
+
+-- ---- stamps (defmt book, "Timestamps")
+
+-- the first stamp, and the step to the next; both are 0 without stamps
+abbrev pub first_stamp : Option (ℕ × ℕ) → ℕ
+first_stamp None = 0
+first_stamp (Some p) = p.0
+
+abbrev pub stamp_step : Option (ℕ × ℕ) → ℕ
+stamp_step None = 0
+stamp_step (Some p) = p.1
+
+-- the numbers by which a script's stamps count
+abbrev pub pace_of : Option (ℕ × ℕ) → Pace
+pace_of stamp = record { base = first_stamp stamp; step = stamp_step stamp }
+
+-- the stamp of a tape's mark number t, from 0
+abbrev pub stamp_number : Script → ℕ → ℕ
+stamp_number s t = first_stamp s.settings.stamp + stamp_step s.settings.stamp * t
+
+-- the stamp that a message carries: none where there are no stamps
+abbrev pub stamp_in : Option (ℕ × ℕ) → ℕ → Option ℕ
+stamp_in stamp n = carried stamp n
+
+-- ---- frames (defmt book, "Encoding")
+
+abbrev pub frame_with : Map → Option ℕ → Option Statement → List ℕ
+frame_with table stamp None = []
+frame_with table stamp (Some stm) = frame_of (message_of table (stamp_args stamp) stm.index stm.args)
+
+-- the frame of the message of a writer's statement, for the mark with this number, with this stamp
+unfoldable pub frame_at : Script → ℕ → ℕ → ℕ → ℕ → List ℕ
+frame_at s number writer place stamp = frame_with s.table (stamp_in s.settings.stamp stamp) (slice_get (statements_of s writer) place)

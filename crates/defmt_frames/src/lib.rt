@@ -1,0 +1,11 @@
+//! The frames of a script's statements, as a device writes them.
+//!
+//! [`Sites`] has a site for each string that a script's statements log. By them [`write_frame`] logs one statement of a writer
+//! by the macro of its string's tag, with a stamp where the script has stamps, and writes the frame of its message.
+#![tactic(auto)]
+
+mod framing;
+mod sites;
+
+pub use framing::write_frame;
+pub use sites::Sites;

@@ -1,0 +1,64 @@
+// What a logger's writers share.
+ghost use Rattle.std.specs.Prelude.{◌≡◌};
+ghost use Rattle.std.specs.Coded.{Coded-set};
+ghost use Rattle.defmt_script.specs.Codes.{coded_script};
+
+use crate::desk::Desk;
+use defmt_hooks::Clock;
+use rtt_modes::Relief;
+use rtt_ring::UpEnd;
+use shared_work::{Quota, Work};
+use std::marker::{Brand, PhantomData};
+use std::sync::Wait;
+
+/// Which script a logger has, and from which split of a ring its end comes. Whoever starts a logger picks the two.
+pub trait Naming {
+    ghost use Rattle.std.specs.Prelude.{ℕ, List};
+    ghost use Rattle.defmt_script.specs.Script.{Script};
+
+    /// The script.
+    ghost script: { Script };
+
+    /// The name of the split.
+    ghost split: { List ℕ };
+}
+
+impl Naming for Brand {
+    ghost use Rattle.std.specs.Prelude.{[]};
+    ghost use Rattle.defmt_script.specs.State.{empty_script};
+
+    ghost script = { empty_script };
+
+    ghost split = { [] };
+}
+
+/// The quota of a logger: a writer has a step for each of its statements.
+#[derive(Drop)]
+pub struct EachStatement<K> {
+    of: PhantomData<K>,
+}
+
+impl<K: Naming> Quota for EachStatement<K> {
+    ghost use Rattle.defmt_frames.specs.Frames.{count};
+
+    ghost quota = { λ w. count K.script w };
+}
+
+/// A desk with what its naming tells: the script is the named one, and the end is from the named split.
+#[derive(Drop)]
+pub struct Logging<K: Naming, U: UpEnd, C: Clock> {
+    pub(crate) desk: Desk<U, C>,
+    pub(crate) of: PhantomData<K>,
+    ghost script: { desk.script ≡ K.script } by { Coded-set coded_script _ _ },
+    ghost split: { desk.up.split ≡ K.split },
+}
+
+impl<K: Naming, U: UpEnd, C: Clock> Work<EachStatement<K>> for Logging<K, U, C> {
+    ghost use Rattle.defmt_logger.specs.Kept.{counts_of};
+
+    ghost done = { λ l. counts_of l.desk.tape.marks };
+
+    fn step<R: Relief, W: Wait>(&mut self, rt: &W, writer: u8, relief: &mut R) {
+        self.desk.append(rt, writer, relief);
+    }
+}

@@ -1,0 +1,130 @@
+// Pens.
+ghost use Rattle.std.specs.Prelude.{◌≡◌, ◌≤◌};
+
+use crate::books::{Ledgers, W0, W1, W2, W3, W4, W5, W6, W7, Writer};
+use crate::work::Quota;
+use std::marker::PhantomData;
+use std::sync::ledger::{Blank, Book, Ledger, Share};
+
+/// Shows that a ledger has one part.
+#[derive(Drop)]
+pub struct Sole<L: Ledger> {
+    pub(crate) of: PhantomData<L>,
+    ghost sole: { L.parts ≡ 1 },
+}
+
+/// The leave of one writer to do its steps. A pen that was lent to a thread is still a pen of the same writer.
+///
+/// Its share of the writer's ledger has counted as many steps as its place tells.
+#[derive(Drop)]
+pub struct Pen<S: Writer, L: Ledger, Q: Quota> {
+    pub(crate) place: u32,
+    pub(crate) total: u32,
+    pub(crate) share: Share<L>,
+    pub(crate) sole: Sole<L>,
+    pub(crate) of: PhantomData<(S, Q)>,
+    pub ghost placed: { share.amount ≡ place },
+    pub ghost all: { total ≡ Q.quota S.NUMBER },
+    pub ghost within: { place ≤ total },
+    pub ghost whole: { share.parts ≡ 1 },
+}
+
+impl<S: Writer, L: Ledger, Q: Quota> Pen<S, L, Q> {
+    // The book and the pen of a new ledger.
+    pub(crate) fn open(blank: Blank, total: u32) -> (Book<L>, Pen<S, L, Q>)
+        requires total { total ≡ Q.quota S.NUMBER }
+        requires blank { (blank.name ≡ L.name) × (blank.parts ≡ L.parts) × (blank.parts ≡ 1) }
+        ensures total { result.0.total ≡ 0 }
+        ensures place { result.1.place ≡ 0 }
+        ensures count { result.1.total ≡ total }
+    {
+        let (book, share) = blank.open::<L>();
+        let pen = Pen {
+            place: 0,
+            total,
+            share,
+            sole: Sole { of: PhantomData },
+            of: PhantomData,
+        };
+        (book, pen)
+    }
+
+    /// The number of the pen's writer, from 0 to 7. Takes no memory.
+    pub fn writer(&self) -> u8
+        ensures { result ≡ S.NUMBER }
+    {
+        S::NUMBER
+    }
+
+    /// How many steps the pen has done, which is the place of the next. Takes no memory.
+    pub fn place(&self) -> u32
+        ensures { result ≡ self.now.place }
+    {
+        self.place
+    }
+
+    /// How many steps the writer has, those that were done among them. Takes no memory.
+    pub fn total(&self) -> u32
+        ensures { result ≡ self.now.total }
+    {
+        self.total
+    }
+}
+
+/// Blanks of eight ledgers, each with one part, for the writers 0 to 7.
+#[derive(Drop)]
+pub struct Blanks {
+    pub b0: Blank,
+    pub b1: Blank,
+    pub b2: Blank,
+    pub b3: Blank,
+    pub b4: Blank,
+    pub b5: Blank,
+    pub b6: Blank,
+    pub b7: Blank,
+    pub ghost one0: { b0.parts ≡ 1 },
+    pub ghost one1: { b1.parts ≡ 1 },
+    pub ghost one2: { b2.parts ≡ 1 },
+    pub ghost one3: { b3.parts ≡ 1 },
+    pub ghost one4: { b4.parts ≡ 1 },
+    pub ghost one5: { b5.parts ≡ 1 },
+    pub ghost one6: { b6.parts ≡ 1 },
+    pub ghost one7: { b7.parts ≡ 1 },
+}
+
+impl Blanks {
+    /// Blanks of eight new ledgers. Takes no memory.
+    pub fn new() -> Blanks {
+        Blanks {
+            b0: Blank::new(1),
+            b1: Blank::new(1),
+            b2: Blank::new(1),
+            b3: Blank::new(1),
+            b4: Blank::new(1),
+            b5: Blank::new(1),
+            b6: Blank::new(1),
+            b7: Blank::new(1),
+        }
+    }
+}
+
+/// The pens of the writers 0 to 7.
+#[derive(Drop)]
+pub struct Pens<E: Ledgers, Q: Quota> {
+    /// The pen of the writer 0.
+    pub p0: Pen<W0, E::L0, Q>,
+    /// The pen of the writer 1.
+    pub p1: Pen<W1, E::L1, Q>,
+    /// The pen of the writer 2.
+    pub p2: Pen<W2, E::L2, Q>,
+    /// The pen of the writer 3.
+    pub p3: Pen<W3, E::L3, Q>,
+    /// The pen of the writer 4.
+    pub p4: Pen<W4, E::L4, Q>,
+    /// The pen of the writer 5.
+    pub p5: Pen<W5, E::L5, Q>,
+    /// The pen of the writer 6.
+    pub p6: Pen<W6, E::L6, Q>,
+    /// The pen of the writer 7.
+    pub p7: Pen<W7, E::L7, Q>,
+}
