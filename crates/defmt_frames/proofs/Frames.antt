@@ -4,9 +4,9 @@ use Rattle.std.specs.Prelude.{slice_get, slice_index_or}
 use Rattle.std.specs.List.{AllByRecursion}
 use Rattle.std.proofs.lemmas.Option.{same_Some}
 use Rattle.defmt_encode.specs.Carry.{frame_of, message_of, stamp_args}
-use Rattle.defmt_frames.specs.Frames.{frame_at, frame_with, stamp_in, statements_of}
+use Rattle.defmt_frames.specs.Frames.{frame_at, frame_with, statements_of}
 use Rattle.defmt_intern.specs.Table.{Map}
-use Rattle.defmt_script.specs.Lawful.{IsLawful, IsSound}
+use Rattle.defmt_script.specs.Lawful.{IsLawful, IsSound, stamp_in}
 use Rattle.defmt_script.specs.Script.{Script}
 use Rattle.defmt_values.specs.declared.value.Statement.{Statement}
 

@@ -7,7 +7,7 @@ use Rattle.defmt_encode.proofs.Hears.{one_entry}
 use Rattle.defmt_encode.specs.Carry.{message_of, stamp_args}
 use Rattle.defmt_frames.proofs.Frames.{sound_at}
 use Rattle.defmt_frames.proofs.Stamps.{suits}
-use Rattle.defmt_frames.specs.Frames.{stamp_in, statements_of}
+use Rattle.defmt_frames.specs.Frames.{statements_of}
 use Rattle.defmt_frames.specs.Sites.{AreSitesOf, HasSites, HaveSites, IsMessage, IsSiteOf, Keeps, Writes, site_at}
 use Rattle.defmt_frames.specs.declared.sites.Sites.{Sites}
 use Rattle.defmt_grammar.specs.Slots.{slots_of}
@@ -18,7 +18,7 @@ use Rattle.defmt_intern.specs.declared.parsed.Parsed.{Parsed}
 use Rattle.defmt_intern.specs.declared.parsed.Parsed.TheVariants.{One}
 use Rattle.defmt_macros.specs.Sites.{IsSite, found_in, found_text, no_message}
 use Rattle.defmt_macros.specs.declared.site.Site.{Site}
-use Rattle.defmt_script.specs.Lawful.{IsLawful, IsSound, message_limit}
+use Rattle.defmt_script.specs.Lawful.{IsLawful, IsSound, message_limit, stamp_in}
 use Rattle.defmt_script.specs.Script.{Script}
 use Rattle.defmt_values.specs.Entries.{is_logged, look}
 use Rattle.defmt_values.specs.Fits.{Fits}

@@ -3,7 +3,7 @@ use Rattle.std.specs.Prelude.{ℕ, ◌+◌, ◌*◌, List, [], length, Option, S
 use Rattle.defmt_encode.specs.Carry.{frame_of, message_of, stamp_args}
 use Rattle.defmt_hooks.specs.Even.{Pace}
 use Rattle.defmt_intern.specs.Table.{Map}
-use Rattle.defmt_script.specs.Lawful.{stamp_in as carried}
+use Rattle.defmt_script.specs.Lawful.{stamp_in}
 use Rattle.defmt_script.specs.Script.{Script}
 use Rattle.defmt_values.specs.declared.value.Statement.{Statement}
 
@@ -33,10 +33,6 @@ pace_of stamp = record { base = first_stamp stamp; step = stamp_step stamp }
 -- the stamp of a tape's mark number t, from 0
 abbrev pub stamp_number : Script → ℕ → ℕ
 stamp_number s t = first_stamp s.settings.stamp + stamp_step s.settings.stamp * t
-
--- the stamp that a message carries: none where there are no stamps
-abbrev pub stamp_in : Option (ℕ × ℕ) → ℕ → Option ℕ
-stamp_in stamp n = carried stamp n
 
 -- ---- frames (defmt book, "Encoding")
 

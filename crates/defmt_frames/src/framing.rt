@@ -1,7 +1,8 @@
 //! The frames of statements.
 ghost use Rattle.std.specs.Prelude.{◌≡◌, ◌<◌, ◌≤◌, length, take};
 ghost use Rattle.defmt_encode.specs.Carry.{frame_of, message_of, stamp_args};
-ghost use Rattle.defmt_frames.specs.Frames.{count, frame_at, stamp_in};
+ghost use Rattle.defmt_frames.specs.Frames.{count, frame_at};
+ghost use Rattle.defmt_script.specs.Lawful.{stamp_in};
 ghost use Rattle.defmt_frames.specs.Sites.{HasSites, Writes};
 
 use crate::sites::Sites;
@@ -43,7 +44,8 @@ fn carried_stamp(script: &Script, stamp: u64) -> Option<u64>
 
 /// Logs a writer's statement by the macro of its string's tag, writes its frame to the front of `frame_out`, and answers how
 /// many bytes the frame has. The message carries the stamp where the script has stamps, and is put into `message_out` first.
-/// `number` is that of the statement's mark on the tape. Takes no memory.
+/// `number` is that of the statement's mark on the tape. The sites are those of the script, and the buffers have 2,000 and
+/// 2,288 bytes. Takes no memory.
 pub fn write_frame(
     script: &Script,
     sites: &Sites,

@@ -87,8 +87,8 @@ impl Sites {
         Ok(())
     }
 
-    /// The site of the string at an index, if one of the statements logs it. Takes no memory.
-    pub fn get(&self, index: u16) -> Option<&Site>
+    /// The site of the string at an index, where there is one. Takes no memory.
+    pub(crate) fn get(&self, index: u16) -> Option<&Site>
         ensures { option_copied result ≡ site_at self.now index }
     {
         self.sites.get(&index)

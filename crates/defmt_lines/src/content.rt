@@ -48,7 +48,7 @@ pub enum Line<'a> {
     Head(Form, Words<'a>),
     /// A string of the table.
     Entry(EntryLine<'a>),
-    /// A form of what a writer does, and that.
+    /// A form of actions, and what the writer does.
     Act(Form, ActionLine<'a>),
     /// It has no form of a line.
     Other,

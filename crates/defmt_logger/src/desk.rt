@@ -18,9 +18,10 @@ use std::alloc::Global;
 use std::marker::Model;
 use std::sync::Wait;
 
-// How many bytes a message has at most, and how many statements a script has at most.
+// How many bytes a message has at most.
 const MESSAGE_SIZE: usize = 2000;
 
+// How many statements a script has at most.
 const STATEMENTS: usize = 4096;
 
 /// How many bytes the frame of a message has at most.

@@ -9,7 +9,7 @@ use Rattle.defmt_decode.specs.declared.event.Event.{Event}
 use Rattle.defmt_eager.specs.Line.{eager_line}
 use Rattle.defmt_encode.specs.Carry.{message_of, stamp_args}
 use Rattle.defmt_frames.proofs.Frames.{sound_at, writer_below}
-use Rattle.defmt_frames.specs.Frames.{first_stamp, frame_at, frame_with, stamp_in, stamp_step, statements_of}
+use Rattle.defmt_frames.specs.Frames.{first_stamp, frame_at, frame_with, stamp_step, statements_of}
 use Rattle.defmt_values.specs.Sound.{AreSound}
 use Rattle.defmt_framing.specs.Cut.{front}
 use Rattle.defmt_framing.specs.Frames.{frame_of, frames}
@@ -21,7 +21,7 @@ use Rattle.defmt_logger.specs.declared.mark.Mark.{Mark}
 use Rattle.defmt_run.proofs.Marks.{AreGood, IsGood, IsKept, are_good, there}
 use Rattle.defmt_run.proofs.Stamped.{Fit}
 use Rattle.defmt_run.specs.Told.{AreLines, LinesIn}
-use Rattle.defmt_script.specs.Lawful.{IsLawful, IsSound}
+use Rattle.defmt_script.specs.Lawful.{IsLawful, IsSound, stamp_in}
 use Rattle.defmt_script.specs.Script.{Script}
 use Rattle.defmt_values.specs.declared.value.Statement.{Statement}
 use Rattle.rtt_modes.specs.Fates.{part_of}

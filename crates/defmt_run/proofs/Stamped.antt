@@ -3,11 +3,10 @@ use Rattle.std.proofs.Common.{◌≡◌, ◌<◌, ◌^◌, ℕ, sym, subst}
 use Rattle.std.specs.Prelude.{Option}
 use Rattle.defmt_eager.specs.Line.{IsWide}
 use Rattle.defmt_encode.specs.Carry.{stamp_args}
-use Rattle.defmt_frames.specs.Frames.{stamp_in}
 use Rattle.defmt_intern.specs.Stamp.{stamp_of}
 use Rattle.defmt_intern.specs.Table.{Map}
 use Rattle.defmt_run.specs.Printed.{Prints}
-use Rattle.defmt_script.specs.Lawful.{IsLawful, IsSound}
+use Rattle.defmt_script.specs.Lawful.{IsLawful, IsSound, stamp_in}
 use Rattle.defmt_script.specs.Script.{Script}
 use Rattle.defmt_values.specs.Fits.{FitsStamp}
 use Rattle.defmt_values.specs.declared.value.Statement.{Statement}

@@ -7,7 +7,7 @@ use Rattle.elf_table.specs.Listed.{symbols_in}
 use Rattle.defmt_eager.specs.Line.{eager_line, IsWide}
 use Rattle.defmt_intern.specs.Stamp.{stamp_of}
 use Rattle.defmt_encode.specs.Carry.{message_of, stamp_args}
-use Rattle.defmt_frames.specs.Frames.{count, stamp_in, stamp_number, statements_of}
+use Rattle.defmt_frames.specs.Frames.{count, stamp_number, statements_of}
 use Rattle.defmt_intern.specs.Table.{Map}
 use Rattle.defmt_intern.specs.declared.entry.Entry.{Entry}
 use Rattle.defmt_intern.specs.declared.entry.Tag.{Tag}
@@ -23,6 +23,7 @@ use Rattle.defmt_run.specs.declared.task.ScriptOutput.{ScriptOutput}
 use Rattle.defmt_run.specs.declared.task.ScriptOutput.TheVariants as of_script
 use Rattle.defmt_run.specs.declared.task.Task.{Task}
 use Rattle.defmt_run.specs.declared.task.Task.TheVariants.{Run, Show}
+use Rattle.defmt_script.specs.Lawful.{stamp_in}
 use Rattle.defmt_script.specs.Script.{Script}
 use Rattle.defmt_values.specs.Entries.{look}
 use Rattle.defmt_values.specs.Fits.{Fits, FitsStamp, IsLogged}

@@ -1,12 +1,12 @@
 // The lines of a script's statements.
 ghost use Rattle.std.specs.Prelude.{◌≡◌, ◌≤◌, ◌<◌, ◌^◌, ◌+◌, ◌++◌, [], length, slice_index_or, IfOk, OnOk};
 ghost use Rattle.defmt_encode.specs.Carry.{stamp_args};
-ghost use Rattle.defmt_frames.specs.Frames.{stamp_in, stamp_number};
+ghost use Rattle.defmt_frames.specs.Frames.{stamp_number};
 ghost use Rattle.defmt_logger.specs.Tape.{mark_line};
 ghost use Rattle.defmt_run.specs.Output.{ended};
 ghost use Rattle.defmt_eager.specs.Line.{eager_line};
 ghost use Rattle.defmt_run.specs.Printed.{IsPlaced, Prints, numbered, numbered_line, statement_lines};
-ghost use Rattle.defmt_script.specs.Lawful.{IsSound};
+ghost use Rattle.defmt_script.specs.Lawful.{IsSound, stamp_in};
 
 use crate::logging::stamps;
 use defmt_eager::{EagerFault, line};

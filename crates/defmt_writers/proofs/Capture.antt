@@ -5,11 +5,11 @@ use Rattle.std.proofs.Math.Nat.{mul-div-le}
 use Rattle.std.proofs.lemmas.List.{length-take, take_all}
 use Rattle.defmt_encode.specs.Carry.{message_of, stamp_args}
 use Rattle.defmt_frames.proofs.Frames.{sound_at}
-use Rattle.defmt_frames.specs.Frames.{frame_at, frame_with, stamp_in, statements_of}
+use Rattle.defmt_frames.specs.Frames.{frame_at, frame_with, statements_of}
 use Rattle.defmt_logger.proofs.Room.{tape_fits}
 use Rattle.defmt_logger.specs.Tape.{IsLawful, mark_frame, mark_part, stream_from, stream_of}
 use Rattle.defmt_logger.specs.declared.mark.Mark.{Mark}
-use Rattle.defmt_script.specs.Lawful.{IsSound, IsLawful as HoldsOfScripts}
+use Rattle.defmt_script.specs.Lawful.{IsSound, IsLawful as HoldsOfScripts, stamp_in}
 use Rattle.defmt_script.specs.Script.{Script, count_all}
 use Rattle.defmt_values.specs.declared.value.Statement.{Statement}
 use Rattle.rtt_modes.specs.Fates.{part_of}

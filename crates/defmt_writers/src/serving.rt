@@ -120,11 +120,10 @@ fn serve<
 /// Logs the statements that a pen has left, on the calling thread. In blocking mode, where a frame waits for room, bytes are
 /// taken at the ring's lower end and captured, as far as the capture has room for them.
 ///
-/// The pen is one of this logger's, as its type says, and `count` is how many statements its writer has: the quota of the
-/// logger, which is the script's count for each writer. The capture holds
-/// exactly what the lower end has got, before and afterwards; the end stays one of the same split. The pen's place is then
-/// `count`. The gate is asked before each statement, and told of each take that took something. The call takes no memory. It
-/// may wait, for the logger and in blocking mode for room.
+/// The pen is one of this logger's, as its type says, and `count` is how many statements its writer has, by the logger's
+/// quota. The capture holds exactly what the lower end has got, before and afterwards; the end stays one of the same split.
+/// The pen's place is then `count`. The gate is asked before each statement, and told of each take that took something. The
+/// call takes no memory. It may wait, for the logger and in blocking mode for room.
 pub fn serve_here<
     H: Channel,
     B: Books,

@@ -2,8 +2,8 @@ use Rattle.std.proofs.Common.{◌≤◌, ◌∙◌, ap, sym, length, ℕ, subst}
 use Rattle.std.specs.Prelude.{Option}
 use Rattle.defmt_encode.specs.Carry.{message_of, stamp_args}
 use Rattle.defmt_frames.proofs.Frames.{sound_at}
-use Rattle.defmt_frames.specs.Frames.{stamp_in}
 use Rattle.defmt_intern.specs.Table.{Map}
+use Rattle.defmt_script.specs.Lawful.{stamp_in}
 use Rattle.defmt_values.specs.declared.value.Statement.{Statement}
 use Rattle.defmt_run.specs.Printed.{carried_message, message_size}
 use Rattle.defmt_run.proofs.Sizes.{never_long}
