@@ -1,5 +1,5 @@
 -- A writer's statements are sound, and the frame of one that is there is that of its message.
-use Rattle.std.proofs.Common.{◌≡◌, ℕ, zero, suc, ◌<◌, List, [], ◌∷◌, Option, Some, None, length, take, sym, ap, ◌∙◌, subst, arith}
+use Rattle.std.proofs.Common.{◌≡◌, ℕ, zero, suc, ◌<◌, List, [], ◌∷◌, Option, Some, None, length, sym, ap, ◌∙◌, subst, arith}
 use Rattle.std.specs.Prelude.{slice_get, slice_index_or}
 use Rattle.std.specs.List.{AllByRecursion}
 use Rattle.std.proofs.lemmas.Option.{same_Some}
@@ -24,10 +24,6 @@ pub sound_at : (s : Script) (w k : ℕ) (stm : Statement) → IsLawful s → sli
 sound_at s w k stm h is =
     let P : Statement → Type 0 = IsSound s.table s.settings.stamp in
     at_place P (statements_of s w) k stm (at_writer (λ l. AllByRecursion P l) s.writers w h.sound tt) is
-
-pub some_taken : (n : ℕ) (xs ys : List ℕ) (x : ℕ) → take n xs ≡ x ∷ ys → 0 < n
-some_taken zero xs ys x is = absurd (cc is)
-some_taken (suc n) xs ys x is = omega arith
 
 pub statement_there : (xs : List Statement) (k : ℕ) → k < length xs → slice_get xs k ≡ None → ⊥
 statement_there [] k lt none = absurd (omega (arith, lt))

@@ -2,6 +2,7 @@
 use Rattle.std.proofs.Common.{◌≡◌, ◌∙◌, ◌≤◌, ◌<◌, ℕ, zero, suc, Bool, true, false, cond, List, [], ◌∷◌, length, Option, Some, None, is_eq, nat_cmp, refl, sym, ap, subst, arith}
 use Rattle.std.specs.Prelude.{IsSome, is_some, nat_lt, slice_get, slice_index_or}
 use Rattle.std.proofs.lemmas.Bool.Decides.{nat_tests}
+use Rattle.std.proofs.lemmas.List.{get_or_past}
 use Rattle.std.proofs.lemmas.Option.{same_Some}
 use Rattle.defmt_encode.proofs.Hears.{one_entry}
 use Rattle.defmt_encode.specs.Carry.{message_of, stamp_args}
@@ -10,13 +11,9 @@ use Rattle.defmt_frames.proofs.Stamps.{suits}
 use Rattle.defmt_frames.specs.Frames.{statements_of}
 use Rattle.defmt_frames.specs.Sites.{AreSitesOf, HasSites, HaveSites, IsMessage, IsSiteOf, Keeps, Writes, site_at}
 use Rattle.defmt_frames.specs.declared.sites.Sites.{Sites}
-use Rattle.defmt_grammar.specs.Slots.{slots_of}
-use Rattle.defmt_intern.specs.Body.{body_of}
 use Rattle.defmt_intern.specs.Table.{Map}
 use Rattle.defmt_intern.specs.declared.entry.Entry.{Entry}
-use Rattle.defmt_intern.specs.declared.parsed.Parsed.{Parsed}
-use Rattle.defmt_intern.specs.declared.parsed.Parsed.TheVariants.{One}
-use Rattle.defmt_macros.specs.Sites.{IsSite, found_in, found_text, no_message}
+use Rattle.defmt_macros.specs.Sites.{IsSite}
 use Rattle.defmt_macros.specs.declared.site.Site.{Site}
 use Rattle.defmt_script.specs.Lawful.{IsLawful, IsSound, message_limit, stamp_in}
 use Rattle.defmt_script.specs.Script.{Script}
@@ -34,17 +31,6 @@ sound_message table stamp stm s = record {
   logged = ap (λ (e : Entry). is_logged e.tag) (one_entry table stm.index s.fits.entry s.logged.entry s.fits.there s.logged.there) ∙ s.logged.tag;
   body = s.fits.body;
 }
-
--- a message has the site of its entry
-pub message_site : (table : Map) (index : ℕ) (m : IsMessage table index) → IsSite table index m.entry.tag (slots_of m.pieces)
-message_site table index m =
-    ap found_in m.there
-    ∙ ap (λ (b : Bool). cond b (found_text m.entry.tag (body_of m.entry)) no_message) m.logged
-    ∙ ap (found_text m.entry.tag) m.body
-
--- what was looked up is what the message has
-pub message_body : (table : Map) (index : ℕ) (m : IsMessage table index) (e : Entry) (body : Parsed) → look table index ≡ Some e → body ≡ body_of e → body ≡ One m.pieces
-message_body table index m e body there is = is ∙ ap body_of (one_entry table index e m.entry there m.there) ∙ m.body
 
 -- ---- one site more
 
@@ -68,11 +54,6 @@ module _ (old new : Sites) (index : ℕ) (site : Site) (more : (q : ℕ) → sit
 
 -- ---- the sites of lists of statements
 
-pub within : (xs : List Statement) (k : ℕ) (x : Statement) → slice_get xs k ≡ Some x → k < length xs
-within [] k x is = absurd (cc is)
-within (y ∷ xs) zero x is = omega arith
-within (y ∷ xs) (suc k) x is = omega (arith, within xs k x is)
-
 pub have_more : (old new : Sites) (list : List Statement) → Keeps old new → HaveSites old list → HaveSites new list
 have_more old new list keeps have place stm there = keeps stm.index (have place stm there)
 
@@ -80,15 +61,10 @@ none_at : (place : ℕ) (stm : Statement) → slice_get [] place ≡ Some stm �
 none_at place stm there = cc there
 
 -- a script has statements of eight writers alone
-past_eight : (ws : List (List Statement)) (w : ℕ) → length ws ≤ w → slice_index_or ws w [] ≡ []
-past_eight [] w le = refl
-past_eight (l ∷ ws) zero le = absurd (omega (arith, le))
-past_eight (l ∷ ws) (suc w) le = past_eight ws w (omega (arith, le))
-
 all_by : (s : Script) (sites : Sites) (n w : ℕ) → IsLawful s → ((v : ℕ) → v < n → HaveSites sites (statements_of s v)) → n ≡ 8 → (b : Bool) → nat_lt w 8 ≡ b → HaveSites sites (statements_of s w)
 all_by s sites n w h below full true is = below w (grind (arith, nat_tests))
 all_by s sites n w h below full false is =
-    let none : statements_of s w ≡ [] = past_eight s.writers w (let out : 8 ≤ w = grind (arith, nat_tests) in omega (arith, out, h.eight)) in
+    let none : statements_of s w ≡ [] = get_or_past s.writers w [] (let out : 8 ≤ w = grind (arith, nat_tests) in omega (arith, out, h.eight)) in
     λ place stm there. absurd (none_at place stm (ap (λ (l : List Statement). slice_get l place) (sym none) ∙ there))
 
 pub all_have : (s : Script) (sites : Sites) (n : ℕ) → IsLawful s → ((v : ℕ) → v < n → HaveSites sites (statements_of s v)) → n ≡ 8 → (w : ℕ) → HaveSites sites (statements_of s w)

@@ -1,9 +1,8 @@
 -- One mark more.
 use Rattle.std.proofs.Common.{◌≡◌, ℕ, ◌+◌, ◌<◌, ◌≤◌, List, [], ◌∷◌, ◌++◌, Bool, true, false, ◌==◌, length, length-append, refl, sym, ap, ◌∙◌, subst, inl, inr, append_assoc, append-nil, arith}
-use Rattle.std.specs.Prelude.{if◌then◌else◌, slice_index_or, slice_set, ◌⊎◌, ◌≢◌}
+use Rattle.std.specs.Prelude.{if◌then◌else◌, slice_index_or, slice_set, ◌⊎◌}
 use Rattle.std.proofs.lemmas.Bool.{eqb-true}
-use Rattle.std.proofs.lemmas.Bool.Decides.{eqb_tells}
-use Rattle.std.proofs.lemmas.List.{length-set, get_or-set_same, get_or-set_other}
+use Rattle.std.proofs.lemmas.List.{length-set}
 use Rattle.defmt_frames.specs.Frames.{count, stamp_number}
 use Rattle.rtt_ring.specs.Views.{Up, UpKept}
 use Rattle.rtt_modes.specs.Fates.{SkippedBy, TrimmedBy, part_of}
@@ -15,6 +14,7 @@ use Rattle.defmt_script.specs.Script.{Script}
 use Rattle.defmt_logger.specs.declared.mark.Mark.{Mark}
 use Rattle.defmt_logger.specs.Tape.{FateLaw, IsLawful, Leaves, Lost, Released, Runs, mark_frame, mark_part, marks_of, places, stream_from, stream_of}
 use Rattle.defmt_logger.specs.Kept.{Behind, Counts, IsKept, LooksIn, Reel, SendsIn, Sheet, TellsIn}
+use Rattle.shared_work.proofs.Counted.{raised}
 
 -- ---- what a mark more makes of a tape
 
@@ -245,21 +245,10 @@ kept_append d now m v k is room place more stamp sends =
 
 -- ---- the writers' next places
 
-counts_case : (xs : List ℕ) (w : ℕ) (v : ℕ) (tape : List Mark) (m : Mark) → length xs ≡ 8 → w < 8 → slice_index_or xs w 0 ≡ marks_of w tape → v ≡ marks_of m.writer tape + 1
-    → ((m.writer == w) ≡ true) × (m.writer ≡ w) ⊎ ((m.writer == w) ≡ false) × (m.writer ≢ w)
-    → slice_index_or (slice_set xs m.writer v) w 0 ≡ marks_of w tape + (if m.writer == w then 1 else 0)
-counts_case xs w v tape m len lt h e (inl s) =
-    let same : m.writer ≡ w = s.1 in
-    let q : slice_index_or (slice_set xs m.writer v) w 0 ≡ v = subst (λ (k : ℕ). slice_index_or (slice_set xs m.writer v) k 0 ≡ v) same (get_or-set_same xs m.writer v 0 (omega (arith, same, len, lt))) in
-    q ∙ e ∙ ap (λ (k : ℕ). marks_of k tape + 1) same ∙ ap (λ (b : Bool). marks_of w tape + (if b then 1 else 0)) (sym s.0)
-counts_case xs w v tape m len lt h e (inr s) =
-    let z : marks_of w tape ≡ marks_of w tape + 0 = omega arith in
-    get_or-set_other xs m.writer w v 0 (λ j. s.1 (sym j)) ∙ h ∙ z ∙ ap (λ (b : Bool). marks_of w tape + (if b then 1 else 0)) (sym s.0)
-
-pub counts_append : (xs : List ℕ) (v : ℕ) (tape now : List Mark) (m : Mark) → Counts xs tape → now ≡ tape ++ m ∷ [] → v ≡ marks_of m.writer tape + 1 → Counts (slice_set xs m.writer v) now
-counts_append xs v tape now m c is e = (
-  length-set xs m.writer v ∙ c.0,
-  λ w lt. counts_case xs w v tape m c.0 lt (c.1 w lt) e (eqb_tells m.writer w) ∙ sym (marks_of-snoc w tape m) ∙ ap (marks_of w) (sym is),
+pub counts_append : (xs : List ℕ) (tape now : List Mark) (m : Mark) → Counts xs tape → now ≡ tape ++ m ∷ [] → m.writer < 8 → Counts (slice_set xs m.writer (slice_index_or xs m.writer 0 + 1)) now
+counts_append xs tape now m c is below = (
+  length-set xs m.writer (slice_index_or xs m.writer 0 + 1) ∙ c.0,
+  λ w lt. raised xs m.writer w (λ _. omega (arith, c.0, below)) ∙ ap (λ (k : ℕ). k + (if m.writer == w then 1 else 0)) (c.1 w lt) ∙ sym (marks_of-snoc w tape m) ∙ ap (marks_of w) (sym is),
 )
 
 -- ---- no mark yet

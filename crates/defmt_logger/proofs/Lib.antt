@@ -1,4 +1,3 @@
 pub mod Append
-mod Counts
 mod Next
 pub mod Room

@@ -44,7 +44,7 @@ pub record Next (d : Sheet) (places : List ℕ) (w : ℕ) (fate : Fate) (now : R
 next_by : (d : Sheet) (places : List ℕ) (w t place stamp : ℕ) (fate : Fate) (now : Reel) (v : Up)
     → IsKept d → Counts places d.tape.marks
     → marks_of w d.tape.marks < count d.script w
-    → slice_index_or places w 0 ≡ marks_of w d.tape.marks
+    → w < 8
     → t ≡ length d.tape.marks
     → place ≡ marks_of w d.tape.marks
     → stamp ≡ stamp_number d.script (length d.tape.marks)
@@ -52,7 +52,7 @@ next_by : (d : Sheet) (places : List ℕ) (w t place stamp : ℕ) (fate : Fate) 
     → now.room + 1 ≡ d.tape.room
     → SendsIn d.script.settings.mode d.up v (frame_at d.script t w place stamp) fate
     → Next d places w fate now v
-next_by d places w t place stamp fate now v k counts more here t_is place_is stamp_is marks room sends =
+next_by d places w t place stamp fate now v k counts more below t_is place_is stamp_is marks room sends =
     let tape : List Mark = d.tape.marks in
     let mark : ℕ → ℕ → Mark = λ p n. record { writer = w; place = p; stamp = n; fate = fate } in
     let m : Mark = next_mark d.script tape w fate in
@@ -66,7 +66,7 @@ next_by d places w t place stamp fate now v k counts more here t_is place_is sta
       marks = is;
       sends = sent;
       kept = kept_append d now m v k is room refl more refl sent;
-      counts = counts_append places (slice_index_or places w 0 + 1) tape now.marks m counts is (ap (λ (n : ℕ). n + 1) here);
+      counts = counts_append places tape now.marks m counts is below;
     }
 
 pub next_is : (d : Sheet) (sites : Sites) (places : List ℕ) (pace : Pace) (message frame : List ℕ) (w t stamp : ℕ) (fate : Fate) (now : Reel) (v : Up)
@@ -80,9 +80,10 @@ pub next_is : (d : Sheet) (sites : Sites) (places : List ℕ) (pace : Pace) (mes
     → SendsIn d.script.settings.mode d.up v (frame_at d.script t w (slice_index_or places w 0) stamp) fate
     → Next d places w fate now v
 next_is d sites places pace message frame w t stamp fate now v k h more t_is given marks room sends =
-    let here : slice_index_or places w 0 ≡ marks_of w d.tape.marks = k.counts.1 w (writer_is d.script d.tape.marks w h more) in
+    let below : w < 8 = writer_is d.script d.tape.marks w h more in
+    let here : slice_index_or places w 0 ≡ marks_of w d.tape.marks = k.counts.1 w below in
     let now_is : stamp ≡ stamp_number d.script (length d.tape.marks) = stamp_is d.script pace t stamp k.pace_is given ∙ ap (stamp_number d.script) t_is in
-    next_by d places w t (slice_index_or places w 0) stamp fate now v k.kept k.counts more here t_is here now_is marks room sends
+    next_by d places w t (slice_index_or places w 0) stamp fate now v k.kept k.counts more below t_is here now_is marks room sends
 
 -- ---- a desk on which nothing was logged
 

@@ -1,6 +1,5 @@
 -- What contracts see of a tape and of a desk, and what a desk keeps.
-use Rattle.std.specs.Prelude.{◌≡◌, ℕ, ◌+◌, ◌<◌, ◌≤◌, true, List, [], ◌++◌, length, map, slice_index_or}
-use Rattle.std.specs.List.{range_with_len}
+use Rattle.std.specs.Prelude.{◌≡◌, ℕ, ◌+◌, ◌<◌, ◌≤◌, true, List, [], ◌++◌, length, slice_index_or}
 use Rattle.defmt_frames.specs.Frames.{pace_of, stamp_number}
 use Rattle.defmt_frames.specs.Sites.{HasSites}
 use Rattle.defmt_frames.specs.declared.sites.Sites.{Sites}
@@ -76,10 +75,6 @@ pub record IsKept (d : Sheet) : Type 0 where
 -- eight numbers, how many marks each writer has
 abbrev pub Counts : List ℕ → List Mark → Type 0
 Counts xs tape = (length xs ≡ 8) × ((w : ℕ) → w < 8 → slice_index_or xs w 0 ≡ marks_of w tape)
-
--- how many marks each of the writers 0 to 7 has
-unfoldable pub counts_of : List Mark → List ℕ
-counts_of tape = map (λ w. marks_of w tape) (range_with_len 0 8)
 
 -- the next mark of a writer
 abbrev pub next_mark : Script → List Mark → ℕ → Fate → Mark

@@ -4,6 +4,7 @@ ghost use Rattle.defmt_frames.specs.Frames.{count, pace_of};
 ghost use Rattle.defmt_logger.specs.Kept.{IsKept, TellsIn};
 ghost use Rattle.defmt_logger.specs.Tape.{marks_of};
 ghost use Rattle.rtt_ring.specs.Views.{new_up};
+ghost use Rattle.shared_work.specs.Names.{AreNamed};
 
 use crate::desk::Desk;
 use crate::logging::{EachStatement, Logging, Naming};
@@ -13,7 +14,7 @@ use defmt_script::Script;
 use dl_io::Memory;
 use rtt_modes::Relief;
 use rtt_ring::UpEnd;
-use shared_work::{Blanks, Books, Eight, HasBook, Pen, Pens, Quota, Shared, Work};
+use shared_work::{Blanks, Books, Eight, HasBook, Named, Names, Pen, Pens, Quota, Shared, Work};
 use std::alloc::Global;
 use std::marker::PhantomData;
 use std::sync::Wait;
@@ -60,23 +61,15 @@ fn totals_of(script: &Script) -> [u32; 8]
     ]
 }
 
-impl<
-    L0: Ledger,
-    L1: Ledger,
-    L2: Ledger,
-    L3: Ledger,
-    L4: Ledger,
-    L5: Ledger,
-    L6: Ledger,
-    L7: Ledger,
-    K: Naming,
-    U: UpEnd + Drop,
-    C: Clock + Drop,
-> Logger<Eight<L0, L1, L2, L3, L4, L5, L6, L7>, EachStatement<K>, Logging<K, U, C>> {
+impl<E: Names, K: Naming, U: UpEnd + Drop, C: Clock + Drop> Logger<
+    Eight<Named<E>>,
+    EachStatement<K>,
+    Logging<K, U, C>,
+> {
     /// A logger with a desk on which nothing was logged, and the pens of the writers 0 to 7.
     ///
     /// The stamp counts as the script's stamps do, and by 0 and 0 without them. The end is as its split gave it and has the
-    /// script's size; in skip and trim mode it tells how many bytes were released. Each blank is of a ledger with one part.
+    /// script's size; in skip and trim mode it tells how many bytes were released. Each blank is of its writer's ledger.
     ///
     /// # Errors
     /// `Memory` where there is none. Script, stamp and end are then given up.
@@ -86,25 +79,12 @@ impl<
         script: Script,
         stamp: Stamp<C>,
         up: U,
-    ) -> Result<
-        (
-            Logger<Eight<L0, L1, L2, L3, L4, L5, L6, L7>, EachStatement<K>, Logging<K, U, C>>,
-            Pens<Eight<L0, L1, L2, L3, L4, L5, L6, L7>, EachStatement<K>>,
-        ),
-        Memory,
-    >
+    ) -> Result<(Self, Pens<Named<E>, EachStatement<K>>), Memory>
         requires pace { stamp ≡ pace_of script.settings.stamp }
         requires fresh { U.view up ≡ new_up (U.view up).split script.settings.ring (U.view up).tells }
         requires told { TellsIn script.settings.mode (U.view up) }
         requires names { (K.script ≡ script) × (K.split ≡ (U.view up).split) }
-        requires l0 { (blanks.b0.name ≡ L0.name) × (blanks.b0.parts ≡ L0.parts) }
-        requires l1 { (blanks.b1.name ≡ L1.name) × (blanks.b1.parts ≡ L1.parts) }
-        requires l2 { (blanks.b2.name ≡ L2.name) × (blanks.b2.parts ≡ L2.parts) }
-        requires l3 { (blanks.b3.name ≡ L3.name) × (blanks.b3.parts ≡ L3.parts) }
-        requires l4 { (blanks.b4.name ≡ L4.name) × (blanks.b4.parts ≡ L4.parts) }
-        requires l5 { (blanks.b5.name ≡ L5.name) × (blanks.b5.parts ≡ L5.parts) }
-        requires l6 { (blanks.b6.name ≡ L6.name) × (blanks.b6.parts ≡ L6.parts) }
-        requires l7 { (blanks.b7.name ≡ L7.name) × (blanks.b7.parts ≡ L7.parts) }
+        requires ledgers { AreNamed blanks E.names }
         ensures p0 { IfOk result (λ r. r.1.p0.place ≡ 0) }
         ensures p1 { IfOk result (λ r. r.1.p1.place ≡ 0) }
         ensures p2 { IfOk result (λ r. r.1.p2.place ≡ 0) }
@@ -128,10 +108,7 @@ impl<
     ///
     /// The script is the one that `start` took, and the end comes from the same split as the one that `start` took. Each
     /// writer has as many marks as its pen's place.
-    pub fn close(
-        self,
-        pens: Pens<Eight<L0, L1, L2, L3, L4, L5, L6, L7>, EachStatement<K>>,
-    ) -> (Tape, U, Script)
+    pub fn close(self, pens: Pens<Named<E>, EachStatement<K>>) -> (Tape, U, Script)
         ensures script { result.2 ≡ K.script }
         ensures split { (U.view result.1).split ≡ K.split }
         ensures kept { IsKept (record { script = result.2; tape = result.0; up = U.view result.1 }) }
@@ -146,7 +123,6 @@ impl<
     {
         let Logger { shared } = self;
         let Logging { desk, of: _ } = shared.close(pens);
-        let (tape, up, script) = desk.close();
-        (tape, up, script)
+        desk.close()
     }
 }

@@ -54,9 +54,9 @@ pub struct Logging<K: Naming, U: UpEnd, C: Clock> {
 }
 
 impl<K: Naming, U: UpEnd, C: Clock> Work<EachStatement<K>> for Logging<K, U, C> {
-    ghost use Rattle.defmt_logger.specs.Kept.{counts_of};
+    ghost use Rattle.defmt_logger.specs.Tape.{marks_of};
 
-    ghost done = { λ l. counts_of l.desk.tape.marks };
+    ghost done = { λ l w. marks_of w l.desk.tape.marks };
 
     fn step<R: Relief, W: Wait>(&mut self, rt: &W, writer: u8, relief: &mut R) {
         self.desk.append(rt, writer, relief);

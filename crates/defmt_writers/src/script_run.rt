@@ -6,6 +6,7 @@ ghost use Rattle.defmt_logger.specs.Tape.{IsLawful, stream_of};
 ghost use Rattle.defmt_logger.specs.declared.mark.Mark.{Mark};
 ghost use Rattle.defmt_writers.specs.Runs.{IsRun, ModeFits};
 ghost use Rattle.rtt_ring.specs.Views.{new_down, new_up};
+ghost use Rattle.shared_work.specs.Names.{AreNamed};
 
 use crate::drain::{Drain, Yields};
 use crate::gate::Gate;
@@ -17,9 +18,7 @@ use defmt_script::Script;
 use dl_io::{Bytes, Memory};
 use rtt_ring::{Channel, RingFault, Settled, UpEnd};
 use rzcobs_core::canonical_size;
-use shared_work::{
-    Blanks, Books, Eight, HasBook, Ledgers, Pen, Pens, Quota, W0, W1, W2, W3, W4, W5, W6, W7, Work,
-};
+use shared_work::{Blanks, Books, Eight, HasBook, Named, Names, Pen, Pens, Quota, Work};
 use std::alloc::Global;
 use std::marker::Brand;
 use std::sync::Wait;
@@ -96,22 +95,13 @@ fn finish_pen<
 }
 
 // Logs the statements that the pens have left.
-fn finish<H: Channel, E: Ledgers, Q: Quota, T: Work<Q>, K: Naming, G: Gate, R: Wait>(
+fn finish<H: Channel, E: Names, Q: Quota, T: Work<Q>, K: Naming, G: Gate, R: Wait>(
     rt: &R,
-    logger: &Logger<E, Q, T>,
-    pens: &mut Pens<E, Q>,
+    logger: &Logger<Eight<Named<E>>, Q, T>,
+    pens: &mut Pens<Named<E>, Q>,
     gate: &G,
     drain: &mut Drain<K, H::Down>,
 )
-where
-    W0: HasBook<E, E::L0>,
-    W1: HasBook<E, E::L1>,
-    W2: HasBook<E, E::L2>,
-    W3: HasBook<E, E::L3>,
-    W4: HasBook<E, E::L4>,
-    W5: HasBook<E, E::L5>,
-    W6: HasBook<E, E::L6>,
-    W7: HasBook<E, E::L7>,
     ensures p0 { pens.new.p0.place ≡ pens.new.p0.total }
     ensures p1 { pens.new.p1.place ≡ pens.new.p1.total }
     ensures p2 { pens.new.p2.place ≡ pens.new.p2.total }
@@ -165,14 +155,7 @@ fn settle<H: Channel>(
 // Runs a script over the two ends of one split, under their names.
 fn run_named<
     H: Channel,
-    L0: Ledger + Send + Sync,
-    L1: Ledger + Send + Sync,
-    L2: Ledger + Send + Sync,
-    L3: Ledger + Send + Sync,
-    L4: Ledger + Send + Sync,
-    L5: Ledger + Send + Sync,
-    L6: Ledger + Send + Sync,
-    L7: Ledger + Send + Sync,
+    E: Names + Send + Sync,
     K: Naming + Send + Sync,
     C: Clock + Send + Drop,
     G: Gate + Sync,
@@ -194,21 +177,14 @@ fn run_named<
     requires down { H.Down.view down ≡ new_down (H.Up.view up).split script.settings.ring }
     requires captured { captured.items ≡ [] }
     requires names { (K.script ≡ script) × (K.split ≡ (H.Up.view up).split) }
-    requires l0 { (blanks.b0.name ≡ L0.name) × (blanks.b0.parts ≡ L0.parts) }
-    requires l1 { (blanks.b1.name ≡ L1.name) × (blanks.b1.parts ≡ L1.parts) }
-    requires l2 { (blanks.b2.name ≡ L2.name) × (blanks.b2.parts ≡ L2.parts) }
-    requires l3 { (blanks.b3.name ≡ L3.name) × (blanks.b3.parts ≡ L3.parts) }
-    requires l4 { (blanks.b4.name ≡ L4.name) × (blanks.b4.parts ≡ L4.parts) }
-    requires l5 { (blanks.b5.name ≡ L5.name) × (blanks.b5.parts ≡ L5.parts) }
-    requires l6 { (blanks.b6.name ≡ L6.name) × (blanks.b6.parts ≡ L6.parts) }
-    requires l7 { (blanks.b7.name ≡ L7.name) × (blanks.b7.parts ≡ L7.parts) }
+    requires ledgers { AreNamed blanks E.names }
     ensures script { IfOk result (λ r. r.script ≡ K.script) }
     ensures run { IfOk result (λ r. IsRun K.script r.tape.marks r.settled r.captured.items r.rest.items r.looks) }
     ensures ring { IfOk result (λ r. r.settled.ring ≡ H.KIND) }
 {
     let drain = Drain::<K, H::Down>::new(down, captured, script.late());
     let (logger, mut pens) = Logger::<
-        Eight<L0, L1, L2, L3, L4, L5, L6, L7>,
+        Eight<Named<E>>,
         EachStatement<K>,
         Logging<K, H::Up, C>,
     >::start(alloc, blanks, script, stamp, up)?;
@@ -248,7 +224,7 @@ pub fn run_script<H: Channel, C: Clock + Send + Drop, G: Gate + Sync, R: Threads
     ensures ring { IfOk result (λ r. r.settled.ring ≡ H.KIND) }
 {
     let (up, down, captured) = prepare::<H>(alloc, &script)?;
-    run_named::<H, Brand, Brand, Brand, Brand, Brand, Brand, Brand, Brand, Brand, C, G, R>(
+    run_named::<H, Brand, Brand, C, G, R>(
         rt,
         alloc,
         Blanks::new(),

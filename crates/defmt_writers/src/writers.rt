@@ -6,7 +6,7 @@ use crate::gate::Gate;
 use defmt_logger::{Logger, Naming};
 use rtt_modes::Relief;
 use rtt_ring::DownEnd;
-use shared_work::{Books, Eight, HasBook, Pen, Pens, Quota, Work};
+use shared_work::{Books, Eight, HasBook, Named, Names, Pen, Pens, Quota, Work};
 use std::sync::Wait;
 use std::sync::atomic::{AtomicU64, Ordering};
 use std::sync::ledger::Ledger;
@@ -83,14 +83,7 @@ fn start<
 fn start_all<
     's,
     E,
-    L0: Ledger + Send + Sync,
-    L1: Ledger + Send + Sync,
-    L2: Ledger + Send + Sync,
-    L3: Ledger + Send + Sync,
-    L4: Ledger + Send + Sync,
-    L5: Ledger + Send + Sync,
-    L6: Ledger + Send + Sync,
-    L7: Ledger + Send + Sync,
+    E: Names + Send + Sync,
     Q: Quota + Send + Sync,
     T: Work<Q> + Send,
     G: Gate + Sync,
@@ -98,8 +91,8 @@ fn start_all<
 >(
     scope: &Scope<'s, E>,
     rt: &'s W,
-    logger: &'s Logger<Eight<L0, L1, L2, L3, L4, L5, L6, L7>, Q, T>,
-    pens: &'s mut Pens<Eight<L0, L1, L2, L3, L4, L5, L6, L7>, Q>,
+    logger: &'s Logger<Eight<Named<E>>, Q, T>,
+    pens: &'s mut Pens<Named<E>, Q>,
     gate: &'s G,
     done: &'s AtomicU64,
 ) -> u64 {
@@ -145,14 +138,7 @@ fn read<K: Naming, D: DownEnd, G: Gate, W: Wait>(
 
 // Starts a thread for each writer that has statements, lends it its pen, and reads until all have ended.
 pub(crate) fn work<
-    L0: Ledger + Send + Sync,
-    L1: Ledger + Send + Sync,
-    L2: Ledger + Send + Sync,
-    L3: Ledger + Send + Sync,
-    L4: Ledger + Send + Sync,
-    L5: Ledger + Send + Sync,
-    L6: Ledger + Send + Sync,
-    L7: Ledger + Send + Sync,
+    E: Names + Send + Sync,
     Q: Quota + Send + Sync,
     T: Work<Q> + Send,
     K: Naming,
@@ -161,8 +147,8 @@ pub(crate) fn work<
     R: Threads + Wait + Sync,
 >(
     rt: &R,
-    logger: &Logger<Eight<L0, L1, L2, L3, L4, L5, L6, L7>, Q, T>,
-    pens: &mut Pens<Eight<L0, L1, L2, L3, L4, L5, L6, L7>, Q>,
+    logger: &Logger<Eight<Named<E>>, Q, T>,
+    pens: &mut Pens<Named<E>, Q>,
     gate: &G,
     drain: Drain<K, D>,
 ) -> Drain<K, D> {

@@ -3,6 +3,7 @@ ghost use Rattle.std.specs.Prelude.{◌≡◌, [], true, ⊤};
 ghost use Rattle.defmt_frames.specs.Frames.{pace_of};
 ghost use Rattle.rtt_ring.specs.PlainView.{up_of};
 ghost use Rattle.rtt_ring.specs.Views.{new_up};
+ghost use Rattle.shared_work.specs.Names.{AreNamed};
 
 use crate::rows::{self, each_block};
 use crate::scripts::{put_digits_or_nothing, put_marks, script_of, site_at, stamp_of};
@@ -15,7 +16,7 @@ use defmt_script::Script;
 use dl_io::Bytes;
 use rtt_modes::Relief;
 use rtt_ring::PlainRing;
-use shared_work::{Blanks, Books, Eight, HasBook, Pen, Quota, Work};
+use shared_work::{Blanks, Books, Eight, HasBook, Named, Names, Pen, Quota, Work};
 use std::alloc::Global;
 use std::fmt::Write;
 use std::marker::Brand;
@@ -135,14 +136,7 @@ fn put_sent(
 // Logs a statement of the writer 1 and three of the writer 0, as far as they have them, drops a frame of a table where there
 // is one, and closes the logger. Puts the tape and what was sent.
 fn log_by_pens<
-    L0: Ledger,
-    L1: Ledger,
-    L2: Ledger,
-    L3: Ledger,
-    L4: Ledger,
-    L5: Ledger,
-    L6: Ledger,
-    L7: Ledger,
+    E: Names,
     K: Naming,
     C: Clock + Drop,
     W: Wait,
@@ -159,17 +153,10 @@ fn log_by_pens<
     requires pace { stamp ≡ pace_of script.settings.stamp }
     requires fresh { up_of ring ≡ new_up (up_of ring).split script.settings.ring true }
     requires names { (K.script ≡ script) × (K.split ≡ (up_of ring).split) }
-    requires l0 { (blanks.b0.name ≡ L0.name) × (blanks.b0.parts ≡ L0.parts) }
-    requires l1 { (blanks.b1.name ≡ L1.name) × (blanks.b1.parts ≡ L1.parts) }
-    requires l2 { (blanks.b2.name ≡ L2.name) × (blanks.b2.parts ≡ L2.parts) }
-    requires l3 { (blanks.b3.name ≡ L3.name) × (blanks.b3.parts ≡ L3.parts) }
-    requires l4 { (blanks.b4.name ≡ L4.name) × (blanks.b4.parts ≡ L4.parts) }
-    requires l5 { (blanks.b5.name ≡ L5.name) × (blanks.b5.parts ≡ L5.parts) }
-    requires l6 { (blanks.b6.name ≡ L6.name) × (blanks.b6.parts ≡ L6.parts) }
-    requires l7 { (blanks.b7.name ≡ L7.name) × (blanks.b7.parts ≡ L7.parts) }
+    requires ledgers { AreNamed blanks E.names }
 {
     let (logger, mut pens) = Logger::<
-        Eight<L0, L1, L2, L3, L4, L5, L6, L7>,
+        Eight<Named<E>>,
         EachStatement<K>,
         Logging<K, PlainRing, C>,
     >::start(alloc, blanks, script, stamp, ring)?;
@@ -193,7 +180,7 @@ fn log_script<W: Wait>(
         return Err(Fail::new("no ring"));
     };
     let stamp = stamp_of(&script);
-    log_by_pens::<Brand, Brand, Brand, Brand, Brand, Brand, Brand, Brand, Brand, _, _>(
+    log_by_pens::<Brand, Brand, _, _>(
         rt,
         alloc,
         Blanks::new(),

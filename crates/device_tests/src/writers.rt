@@ -4,6 +4,7 @@ ghost use Rattle.defmt_frames.specs.Frames.{pace_of};
 ghost use Rattle.defmt_logger.specs.Kept.{TellsIn};
 ghost use Rattle.defmt_writers.specs.Runs.{ModeFits};
 ghost use Rattle.rtt_ring.specs.Views.{new_down, new_up};
+ghost use Rattle.shared_work.specs.Names.{AreNamed};
 
 use crate::rows::{Kind, each_block};
 use crate::scripts::{put_digits_or_nothing, put_marks, script_of, stamp_of};
@@ -13,13 +14,12 @@ use defmt_script::{RingMode, Script};
 use defmt_writers::{Gate, OpenGate, Run, run_script, serve_here};
 use dl_io::Bytes;
 use rtt_ring::{Channel, QueueRing, WordRing};
-use shared_work::{Blanks, Eight};
+use shared_work::{Blanks, Eight, Named, Names};
 use std::alloc::Global;
 use std::fmt::Write;
 use std::marker::Brand;
 use std::sync::Wait;
 use std::sync::atomic::{AtomicU64, Ordering};
-use std::sync::ledger::Ledger;
 use std::test::Fail;
 use std::thread;
 use std::thread::Threads;
@@ -307,14 +307,7 @@ pub(crate) fn put_open<R: Threads + Wait + Sync>(
 // Logs the statements of the writer 0 on this thread alone. What was sent is then captured or the rest.
 fn serve_alone<
     H: Channel,
-    L0: Ledger,
-    L1: Ledger,
-    L2: Ledger,
-    L3: Ledger,
-    L4: Ledger,
-    L5: Ledger,
-    L6: Ledger,
-    L7: Ledger,
+    E: Names,
     K: Naming,
     C: Clock + Drop,
     W: Wait,
@@ -335,17 +328,10 @@ fn serve_alone<
     requires down { H.Down.view down ≡ new_down (H.Up.view up).split script.settings.ring }
     requires empty { (captured.old.items ≡ []) × (rest.old.items ≡ []) }
     requires names { (K.script ≡ script) × (K.split ≡ (H.Up.view up).split) }
-    requires l0 { (blanks.b0.name ≡ L0.name) × (blanks.b0.parts ≡ L0.parts) }
-    requires l1 { (blanks.b1.name ≡ L1.name) × (blanks.b1.parts ≡ L1.parts) }
-    requires l2 { (blanks.b2.name ≡ L2.name) × (blanks.b2.parts ≡ L2.parts) }
-    requires l3 { (blanks.b3.name ≡ L3.name) × (blanks.b3.parts ≡ L3.parts) }
-    requires l4 { (blanks.b4.name ≡ L4.name) × (blanks.b4.parts ≡ L4.parts) }
-    requires l5 { (blanks.b5.name ≡ L5.name) × (blanks.b5.parts ≡ L5.parts) }
-    requires l6 { (blanks.b6.name ≡ L6.name) × (blanks.b6.parts ≡ L6.parts) }
-    requires l7 { (blanks.b7.name ≡ L7.name) × (blanks.b7.parts ≡ L7.parts) }
+    requires ledgers { AreNamed blanks E.names }
 {
     let (logger, mut pens) = Logger::<
-        Eight<L0, L1, L2, L3, L4, L5, L6, L7>,
+        Eight<Named<E>>,
         EachStatement<K>,
         Logging<K, H::Up, C>,
     >::start(alloc, blanks, script, stamp, up)?;
@@ -380,7 +366,7 @@ fn run_alone<W: Wait>(
         return Err(Fail::new("no ring"));
     };
     let stamp = stamp_of(&script);
-    serve_alone::<WordRing, Brand, Brand, Brand, Brand, Brand, Brand, Brand, Brand, Brand, _, _>(
+    serve_alone::<WordRing, Brand, Brand, _, _>(
         rt,
         alloc,
         Blanks::new(),

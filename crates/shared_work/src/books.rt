@@ -1,6 +1,7 @@
 // The books of the writers, and the writers.
-ghost use Rattle.std.specs.Prelude.{◌≡◌, ℕ, ◌+◌, ◌<◌, List, [], ◌∷◌, slice_index_or, slice_set};
+ghost use Rattle.std.specs.Prelude.{◌≡◌, ℕ, ◌+◌, ◌<◌, List, [], ◌∷◌, length, slice_index_or, slice_set};
 
+use std::marker::{Brand, PhantomData};
 use std::sync::ledger::{Book, Ledger, Share};
 
 /// The books of all writers, in which each has counted its steps.
@@ -18,61 +19,20 @@ pub trait Writer {
     const NUMBER: u8;
 }
 
-/// A writer whose ledger `L` has its book among the books `B`.
+/// A writer whose ledger `L`, of one part, has its book among the books `B`.
 pub trait HasBook<B: Books, L: Ledger>: Writer {
-    /// Counts one step more, in the writer's book and in its share.
-    fn add(books: &mut B, share: &mut Share<L>)
-        requires { 0 < share.old.parts }
-        ensures totals { B.totals books.new ≡ slice_set (B.totals books.old) Self.NUMBER (slice_index_or (B.totals books.old) Self.NUMBER 0 + 1) }
-        ensures amount { share.new.amount ≡ share.old.amount + 1 }
-        ensures parts { share.new.parts ≡ share.old.parts };
-
-    /// Changes nothing, and tells that a whole share has the book's total.
-    fn audit(books: &mut B, share: &mut Share<L>)
-        ensures totals { B.totals books.new ≡ B.totals books.old }
-        ensures amount { share.new.amount ≡ share.old.amount }
+    /// Counts so many steps more, in the writer's book and in its share, which had the same total.
+    fn count(books: &mut B, share: &mut Share<L>, more: u64)
+        requires whole { share.old.parts ≡ 1 }
+        ensures same { share.old.amount ≡ slice_index_or (B.totals books.old) Self.NUMBER 0 }
+        ensures totals { B.totals books.new ≡ slice_set (B.totals books.old) Self.NUMBER (slice_index_or (B.totals books.old) Self.NUMBER 0 + more) }
+        ensures amount { share.new.amount ≡ share.old.amount + more }
         ensures parts { share.new.parts ≡ share.old.parts }
-        ensures number { Self.NUMBER < 8 }
-        ensures whole { share.old.parts ≡ L.parts → share.old.amount ≡ slice_index_or (B.totals books.old) Self.NUMBER 0 };
+        ensures number { (Self.NUMBER < 8) × (length (B.totals books.old) ≡ 8) };
 }
 
-/// The books of eight writers.
-#[derive(Drop)]
-pub struct Eight<
-    L0: Ledger,
-    L1: Ledger,
-    L2: Ledger,
-    L3: Ledger,
-    L4: Ledger,
-    L5: Ledger,
-    L6: Ledger,
-    L7: Ledger,
-> {
-    pub(crate) b0: Book<L0>,
-    pub(crate) b1: Book<L1>,
-    pub(crate) b2: Book<L2>,
-    pub(crate) b3: Book<L3>,
-    pub(crate) b4: Book<L4>,
-    pub(crate) b5: Book<L5>,
-    pub(crate) b6: Book<L6>,
-    pub(crate) b7: Book<L7>,
-}
-
-impl<
-    L0: Ledger,
-    L1: Ledger,
-    L2: Ledger,
-    L3: Ledger,
-    L4: Ledger,
-    L5: Ledger,
-    L6: Ledger,
-    L7: Ledger,
-> Books for Eight<L0, L1, L2, L3, L4, L5, L6, L7> {
-    ghost totals = { λ b. b.b0.total ∷ b.b1.total ∷ b.b2.total ∷ b.b3.total ∷ b.b4.total ∷ b.b5.total ∷ b.b6.total ∷ b.b7.total ∷ [] };
-}
-
-/// Books that have the ledgers of the writers 0 to 7.
-pub trait Ledgers: Books {
+/// The ledgers of the writers 0 to 7.
+pub trait Ledgers {
     type L0: Ledger;
 
     type L1: Ledger;
@@ -90,31 +50,67 @@ pub trait Ledgers: Books {
     type L7: Ledger;
 }
 
-impl<
-    L0: Ledger,
-    L1: Ledger,
-    L2: Ledger,
-    L3: Ledger,
-    L4: Ledger,
-    L5: Ledger,
-    L6: Ledger,
-    L7: Ledger,
-> Ledgers for Eight<L0, L1, L2, L3, L4, L5, L6, L7> {
-    type L0 = L0;
+/// The books of eight writers.
+#[derive(Drop)]
+pub struct Eight<E: Ledgers> {
+    pub(crate) b0: Book<E::L0>,
+    pub(crate) b1: Book<E::L1>,
+    pub(crate) b2: Book<E::L2>,
+    pub(crate) b3: Book<E::L3>,
+    pub(crate) b4: Book<E::L4>,
+    pub(crate) b5: Book<E::L5>,
+    pub(crate) b6: Book<E::L6>,
+    pub(crate) b7: Book<E::L7>,
+}
 
-    type L1 = L1;
+impl<E: Ledgers> Books for Eight<E> {
+    ghost totals = { λ b. b.b0.total ∷ b.b1.total ∷ b.b2.total ∷ b.b3.total ∷ b.b4.total ∷ b.b5.total ∷ b.b6.total ∷ b.b7.total ∷ [] };
+}
 
-    type L2 = L2;
+/// The names of eight ledgers. Whoever starts a work picks them.
+pub trait Names {
+    /// By the writer's number.
+    ghost names: { ℕ → ℕ };
+}
 
-    type L3 = L3;
+impl Names for Brand {
+    ghost names = { λ _. 0 };
+}
 
-    type L4 = L4;
+/// The ledger of a writer, by its name. It has one part.
+#[derive(Drop)]
+pub struct LedgerOf<S, E> {
+    of: PhantomData<(S, E)>,
+}
 
-    type L5 = L5;
+impl<S: Writer, E: Names> Ledger for LedgerOf<S, E> {
+    ghost name = { E.names S.NUMBER };
 
-    type L6 = L6;
+    ghost parts = { 1 };
+}
 
-    type L7 = L7;
+/// The ledgers with these names.
+#[derive(Drop)]
+pub struct Named<E> {
+    of: PhantomData<E>,
+}
+
+impl<E: Names> Ledgers for Named<E> {
+    type L0 = LedgerOf<W0, E>;
+
+    type L1 = LedgerOf<W1, E>;
+
+    type L2 = LedgerOf<W2, E>;
+
+    type L3 = LedgerOf<W3, E>;
+
+    type L4 = LedgerOf<W4, E>;
+
+    type L5 = LedgerOf<W5, E>;
+
+    type L6 = LedgerOf<W6, E>;
+
+    type L7 = LedgerOf<W7, E>;
 }
 
 /// The writer 0.
@@ -127,22 +123,10 @@ impl Writer for W0 {
     const NUMBER: u8 = 0;
 }
 
-impl<
-    L0: Ledger,
-    L1: Ledger,
-    L2: Ledger,
-    L3: Ledger,
-    L4: Ledger,
-    L5: Ledger,
-    L6: Ledger,
-    L7: Ledger,
-> HasBook<Eight<L0, L1, L2, L3, L4, L5, L6, L7>, L0> for W0 {
-    fn add(books: &mut Eight<L0, L1, L2, L3, L4, L5, L6, L7>, share: &mut Share<L0>) {
-        books.b0.add(share, 1)
-    }
-
-    fn audit(books: &mut Eight<L0, L1, L2, L3, L4, L5, L6, L7>, share: &mut Share<L0>) {
-        books.b0.audit(share)
+impl<E: Names> HasBook<Eight<Named<E>>, LedgerOf<W0, E>> for W0 {
+    fn count(books: &mut Eight<Named<E>>, share: &mut Share<LedgerOf<W0, E>>, more: u64) {
+        books.b0.audit(share);
+        books.b0.add(share, more)
     }
 }
 
@@ -156,22 +140,10 @@ impl Writer for W1 {
     const NUMBER: u8 = 1;
 }
 
-impl<
-    L0: Ledger,
-    L1: Ledger,
-    L2: Ledger,
-    L3: Ledger,
-    L4: Ledger,
-    L5: Ledger,
-    L6: Ledger,
-    L7: Ledger,
-> HasBook<Eight<L0, L1, L2, L3, L4, L5, L6, L7>, L1> for W1 {
-    fn add(books: &mut Eight<L0, L1, L2, L3, L4, L5, L6, L7>, share: &mut Share<L1>) {
-        books.b1.add(share, 1)
-    }
-
-    fn audit(books: &mut Eight<L0, L1, L2, L3, L4, L5, L6, L7>, share: &mut Share<L1>) {
-        books.b1.audit(share)
+impl<E: Names> HasBook<Eight<Named<E>>, LedgerOf<W1, E>> for W1 {
+    fn count(books: &mut Eight<Named<E>>, share: &mut Share<LedgerOf<W1, E>>, more: u64) {
+        books.b1.audit(share);
+        books.b1.add(share, more)
     }
 }
 
@@ -185,22 +157,10 @@ impl Writer for W2 {
     const NUMBER: u8 = 2;
 }
 
-impl<
-    L0: Ledger,
-    L1: Ledger,
-    L2: Ledger,
-    L3: Ledger,
-    L4: Ledger,
-    L5: Ledger,
-    L6: Ledger,
-    L7: Ledger,
-> HasBook<Eight<L0, L1, L2, L3, L4, L5, L6, L7>, L2> for W2 {
-    fn add(books: &mut Eight<L0, L1, L2, L3, L4, L5, L6, L7>, share: &mut Share<L2>) {
-        books.b2.add(share, 1)
-    }
-
-    fn audit(books: &mut Eight<L0, L1, L2, L3, L4, L5, L6, L7>, share: &mut Share<L2>) {
-        books.b2.audit(share)
+impl<E: Names> HasBook<Eight<Named<E>>, LedgerOf<W2, E>> for W2 {
+    fn count(books: &mut Eight<Named<E>>, share: &mut Share<LedgerOf<W2, E>>, more: u64) {
+        books.b2.audit(share);
+        books.b2.add(share, more)
     }
 }
 
@@ -214,22 +174,10 @@ impl Writer for W3 {
     const NUMBER: u8 = 3;
 }
 
-impl<
-    L0: Ledger,
-    L1: Ledger,
-    L2: Ledger,
-    L3: Ledger,
-    L4: Ledger,
-    L5: Ledger,
-    L6: Ledger,
-    L7: Ledger,
-> HasBook<Eight<L0, L1, L2, L3, L4, L5, L6, L7>, L3> for W3 {
-    fn add(books: &mut Eight<L0, L1, L2, L3, L4, L5, L6, L7>, share: &mut Share<L3>) {
-        books.b3.add(share, 1)
-    }
-
-    fn audit(books: &mut Eight<L0, L1, L2, L3, L4, L5, L6, L7>, share: &mut Share<L3>) {
-        books.b3.audit(share)
+impl<E: Names> HasBook<Eight<Named<E>>, LedgerOf<W3, E>> for W3 {
+    fn count(books: &mut Eight<Named<E>>, share: &mut Share<LedgerOf<W3, E>>, more: u64) {
+        books.b3.audit(share);
+        books.b3.add(share, more)
     }
 }
 
@@ -243,22 +191,10 @@ impl Writer for W4 {
     const NUMBER: u8 = 4;
 }
 
-impl<
-    L0: Ledger,
-    L1: Ledger,
-    L2: Ledger,
-    L3: Ledger,
-    L4: Ledger,
-    L5: Ledger,
-    L6: Ledger,
-    L7: Ledger,
-> HasBook<Eight<L0, L1, L2, L3, L4, L5, L6, L7>, L4> for W4 {
-    fn add(books: &mut Eight<L0, L1, L2, L3, L4, L5, L6, L7>, share: &mut Share<L4>) {
-        books.b4.add(share, 1)
-    }
-
-    fn audit(books: &mut Eight<L0, L1, L2, L3, L4, L5, L6, L7>, share: &mut Share<L4>) {
-        books.b4.audit(share)
+impl<E: Names> HasBook<Eight<Named<E>>, LedgerOf<W4, E>> for W4 {
+    fn count(books: &mut Eight<Named<E>>, share: &mut Share<LedgerOf<W4, E>>, more: u64) {
+        books.b4.audit(share);
+        books.b4.add(share, more)
     }
 }
 
@@ -272,22 +208,10 @@ impl Writer for W5 {
     const NUMBER: u8 = 5;
 }
 
-impl<
-    L0: Ledger,
-    L1: Ledger,
-    L2: Ledger,
-    L3: Ledger,
-    L4: Ledger,
-    L5: Ledger,
-    L6: Ledger,
-    L7: Ledger,
-> HasBook<Eight<L0, L1, L2, L3, L4, L5, L6, L7>, L5> for W5 {
-    fn add(books: &mut Eight<L0, L1, L2, L3, L4, L5, L6, L7>, share: &mut Share<L5>) {
-        books.b5.add(share, 1)
-    }
-
-    fn audit(books: &mut Eight<L0, L1, L2, L3, L4, L5, L6, L7>, share: &mut Share<L5>) {
-        books.b5.audit(share)
+impl<E: Names> HasBook<Eight<Named<E>>, LedgerOf<W5, E>> for W5 {
+    fn count(books: &mut Eight<Named<E>>, share: &mut Share<LedgerOf<W5, E>>, more: u64) {
+        books.b5.audit(share);
+        books.b5.add(share, more)
     }
 }
 
@@ -301,22 +225,10 @@ impl Writer for W6 {
     const NUMBER: u8 = 6;
 }
 
-impl<
-    L0: Ledger,
-    L1: Ledger,
-    L2: Ledger,
-    L3: Ledger,
-    L4: Ledger,
-    L5: Ledger,
-    L6: Ledger,
-    L7: Ledger,
-> HasBook<Eight<L0, L1, L2, L3, L4, L5, L6, L7>, L6> for W6 {
-    fn add(books: &mut Eight<L0, L1, L2, L3, L4, L5, L6, L7>, share: &mut Share<L6>) {
-        books.b6.add(share, 1)
-    }
-
-    fn audit(books: &mut Eight<L0, L1, L2, L3, L4, L5, L6, L7>, share: &mut Share<L6>) {
-        books.b6.audit(share)
+impl<E: Names> HasBook<Eight<Named<E>>, LedgerOf<W6, E>> for W6 {
+    fn count(books: &mut Eight<Named<E>>, share: &mut Share<LedgerOf<W6, E>>, more: u64) {
+        books.b6.audit(share);
+        books.b6.add(share, more)
     }
 }
 
@@ -330,21 +242,9 @@ impl Writer for W7 {
     const NUMBER: u8 = 7;
 }
 
-impl<
-    L0: Ledger,
-    L1: Ledger,
-    L2: Ledger,
-    L3: Ledger,
-    L4: Ledger,
-    L5: Ledger,
-    L6: Ledger,
-    L7: Ledger,
-> HasBook<Eight<L0, L1, L2, L3, L4, L5, L6, L7>, L7> for W7 {
-    fn add(books: &mut Eight<L0, L1, L2, L3, L4, L5, L6, L7>, share: &mut Share<L7>) {
-        books.b7.add(share, 1)
-    }
-
-    fn audit(books: &mut Eight<L0, L1, L2, L3, L4, L5, L6, L7>, share: &mut Share<L7>) {
-        books.b7.audit(share)
+impl<E: Names> HasBook<Eight<Named<E>>, LedgerOf<W7, E>> for W7 {
+    fn count(books: &mut Eight<Named<E>>, share: &mut Share<LedgerOf<W7, E>>, more: u64) {
+        books.b7.audit(share);
+        books.b7.add(share, more)
     }
 }

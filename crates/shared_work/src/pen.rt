@@ -6,13 +6,6 @@ use crate::work::Quota;
 use std::marker::PhantomData;
 use std::sync::ledger::{Blank, Book, Ledger, Share};
 
-/// Shows that a ledger has one part.
-#[derive(Drop)]
-pub struct Sole<L: Ledger> {
-    pub(crate) of: PhantomData<L>,
-    ghost sole: { L.parts ≡ 1 },
-}
-
 /// The leave of one writer to do its steps. A pen that was lent to a thread is still a pen of the same writer.
 ///
 /// Its share of the writer's ledger has counted as many steps as its place tells.
@@ -21,7 +14,6 @@ pub struct Pen<S: Writer, L: Ledger, Q: Quota> {
     pub(crate) place: u32,
     pub(crate) total: u32,
     pub(crate) share: Share<L>,
-    pub(crate) sole: Sole<L>,
     pub(crate) of: PhantomData<(S, Q)>,
     pub ghost placed: { share.amount ≡ place },
     pub ghost all: { total ≡ Q.quota S.NUMBER },
@@ -36,14 +28,12 @@ impl<S: Writer, L: Ledger, Q: Quota> Pen<S, L, Q> {
         requires blank { (blank.name ≡ L.name) × (blank.parts ≡ L.parts) × (blank.parts ≡ 1) }
         ensures total { result.0.total ≡ 0 }
         ensures place { result.1.place ≡ 0 }
-        ensures count { result.1.total ≡ total }
     {
         let (book, share) = blank.open::<L>();
         let pen = Pen {
             place: 0,
             total,
             share,
-            sole: Sole { of: PhantomData },
             of: PhantomData,
         };
         (book, pen)
@@ -82,14 +72,7 @@ pub struct Blanks {
     pub b5: Blank,
     pub b6: Blank,
     pub b7: Blank,
-    pub ghost one0: { b0.parts ≡ 1 },
-    pub ghost one1: { b1.parts ≡ 1 },
-    pub ghost one2: { b2.parts ≡ 1 },
-    pub ghost one3: { b3.parts ≡ 1 },
-    pub ghost one4: { b4.parts ≡ 1 },
-    pub ghost one5: { b5.parts ≡ 1 },
-    pub ghost one6: { b6.parts ≡ 1 },
-    pub ghost one7: { b7.parts ≡ 1 },
+    pub ghost one_part: { (b0.parts ≡ 1) × (b1.parts ≡ 1) × (b2.parts ≡ 1) × (b3.parts ≡ 1) × (b4.parts ≡ 1) × (b5.parts ≡ 1) × (b6.parts ≡ 1) × (b7.parts ≡ 1) },
 }
 
 impl Blanks {

@@ -1,7 +1,8 @@
 // A work behind a lock.
-ghost use Rattle.std.specs.Prelude.{◌≡◌, ◌+◌, ◌<◌, [], ◌∷◌, slice_index_or};
+ghost use Rattle.std.specs.Prelude.{◌≡◌, ℕ, ◌+◌, ◌<◌, [], ◌∷◌, slice_index_or};
+ghost use Rattle.shared_work.specs.Names.{AreNamed};
 
-use crate::books::{Books, Eight, HasBook, Ledgers, W0, W1, W2, W3, W4, W5, W6, W7};
+use crate::books::{Books, Eight, HasBook, LedgerOf, Named, Names, W0, W1, W2, W3, W4, W5, W6, W7};
 use crate::pen::{Blanks, Pen, Pens};
 use crate::work::{Quota, Work};
 use rtt_modes::Relief;
@@ -15,7 +16,7 @@ struct Locked<B: Books, Q: Quota, T: Work<Q>> {
     work: T,
     books: B,
     of: PhantomData<Q>,
-    ghost counted: { B.totals books ≡ T.done work },
+    ghost counted: { (w : ℕ) → slice_index_or (B.totals books) w 0 ≡ T.done work w },
 }
 
 impl<B: Books, Q: Quota, T: Work<Q>> Locked<B, Q, T> {
@@ -37,19 +38,17 @@ impl<B: Books, Q: Quota, T: Work<Q>> Locked<B, Q, T> {
             place,
             total,
             share,
-            sole: _,
             of: _,
         } = pen;
-        S::audit(books, share);
+        S::count(books, share, 1);
         prove!(*place < *total);
         work.step(rt, S::NUMBER, relief);
-        S::add(books, share);
         *place += 1;
     }
 
     // Tells that the pen's place is the number of its writer's steps. Changes neither.
     fn audit<S: HasBook<B, L>, L: Ledger>(&mut self, pen: &mut Pen<S, L, Q>)
-        ensures steps { slice_index_or (T.done self.new.work) S.NUMBER 0 ≡ pen.old.place }
+        ensures steps { T.done self.new.work S.NUMBER ≡ pen.old.place }
         ensures work { self.new.work ≡ self.old.work }
         ensures place { pen.new.place ≡ pen.old.place }
     {
@@ -62,10 +61,9 @@ impl<B: Books, Q: Quota, T: Work<Q>> Locked<B, Q, T> {
             place: _,
             total: _,
             share,
-            sole: _,
             of: _,
         } = pen;
-        S::audit(books, share);
+        S::count(books, share, 0);
     }
 }
 
@@ -94,38 +92,13 @@ impl<B: Books, Q: Quota, T: Work<Q>> Shared<B, Q, T> {
     }
 }
 
-impl<
-    L0: Ledger,
-    L1: Ledger,
-    L2: Ledger,
-    L3: Ledger,
-    L4: Ledger,
-    L5: Ledger,
-    L6: Ledger,
-    L7: Ledger,
-    Q: Quota,
-    T: Work<Q> + Drop,
-> Shared<Eight<L0, L1, L2, L3, L4, L5, L6, L7>, Q, T> {
+impl<E: Names, Q: Quota, T: Work<Q> + Drop> Shared<Eight<Named<E>>, Q, T> {
     /// The work behind a lock, and the pens of the writers 0 to 7, each at place 0. No step was done of the work, `totals` says
     /// how many each writer has, and each blank is of its writer's ledger. Takes no memory.
-    pub fn start(
-        blanks: Blanks,
-        totals: [u32; 8],
-        work: T,
-    ) -> (
-        Shared<Eight<L0, L1, L2, L3, L4, L5, L6, L7>, Q, T>,
-        Pens<Eight<L0, L1, L2, L3, L4, L5, L6, L7>, Q>,
-    )
-        requires fresh { T.done work ≡ 0 ∷ 0 ∷ 0 ∷ 0 ∷ 0 ∷ 0 ∷ 0 ∷ 0 ∷ [] }
+    pub fn start(blanks: Blanks, totals: [u32; 8], work: T) -> (Self, Pens<Named<E>, Q>)
+        requires fresh { (w : ℕ) → T.done work w ≡ 0 }
         requires totals { totals ≡ Q.quota 0 ∷ Q.quota 1 ∷ Q.quota 2 ∷ Q.quota 3 ∷ Q.quota 4 ∷ Q.quota 5 ∷ Q.quota 6 ∷ Q.quota 7 ∷ [] }
-        requires l0 { (blanks.b0.name ≡ L0.name) × (blanks.b0.parts ≡ L0.parts) }
-        requires l1 { (blanks.b1.name ≡ L1.name) × (blanks.b1.parts ≡ L1.parts) }
-        requires l2 { (blanks.b2.name ≡ L2.name) × (blanks.b2.parts ≡ L2.parts) }
-        requires l3 { (blanks.b3.name ≡ L3.name) × (blanks.b3.parts ≡ L3.parts) }
-        requires l4 { (blanks.b4.name ≡ L4.name) × (blanks.b4.parts ≡ L4.parts) }
-        requires l5 { (blanks.b5.name ≡ L5.name) × (blanks.b5.parts ≡ L5.parts) }
-        requires l6 { (blanks.b6.name ≡ L6.name) × (blanks.b6.parts ≡ L6.parts) }
-        requires l7 { (blanks.b7.name ≡ L7.name) × (blanks.b7.parts ≡ L7.parts) }
+        requires names { AreNamed blanks E.names }
         ensures p0 { result.1.p0.place ≡ 0 }
         ensures p1 { result.1.p1.place ≡ 0 }
         ensures p2 { result.1.p2.place ≡ 0 }
@@ -135,24 +108,14 @@ impl<
         ensures p6 { result.1.p6.place ≡ 0 }
         ensures p7 { result.1.p7.place ≡ 0 }
     {
-        let Blanks {
-            b0,
-            b1,
-            b2,
-            b3,
-            b4,
-            b5,
-            b6,
-            b7,
-        } = blanks;
-        let (b0, p0) = Pen::<W0, L0, Q>::open(b0, totals[0]);
-        let (b1, p1) = Pen::<W1, L1, Q>::open(b1, totals[1]);
-        let (b2, p2) = Pen::<W2, L2, Q>::open(b2, totals[2]);
-        let (b3, p3) = Pen::<W3, L3, Q>::open(b3, totals[3]);
-        let (b4, p4) = Pen::<W4, L4, Q>::open(b4, totals[4]);
-        let (b5, p5) = Pen::<W5, L5, Q>::open(b5, totals[5]);
-        let (b6, p6) = Pen::<W6, L6, Q>::open(b6, totals[6]);
-        let (b7, p7) = Pen::<W7, L7, Q>::open(b7, totals[7]);
+        let (b0, p0) = Pen::<W0, LedgerOf<W0, E>, Q>::open(blanks.b0, totals[0]);
+        let (b1, p1) = Pen::<W1, LedgerOf<W1, E>, Q>::open(blanks.b1, totals[1]);
+        let (b2, p2) = Pen::<W2, LedgerOf<W2, E>, Q>::open(blanks.b2, totals[2]);
+        let (b3, p3) = Pen::<W3, LedgerOf<W3, E>, Q>::open(blanks.b3, totals[3]);
+        let (b4, p4) = Pen::<W4, LedgerOf<W4, E>, Q>::open(blanks.b4, totals[4]);
+        let (b5, p5) = Pen::<W5, LedgerOf<W5, E>, Q>::open(blanks.b5, totals[5]);
+        let (b6, p6) = Pen::<W6, LedgerOf<W6, E>, Q>::open(blanks.b6, totals[6]);
+        let (b7, p7) = Pen::<W7, LedgerOf<W7, E>, Q>::open(blanks.b7, totals[7]);
         let books = Eight {
             b0,
             b1,
@@ -185,41 +148,26 @@ impl<
     }
 
     /// The work, once all eight pens are back. Each writer has done as many steps as its pen's place. Takes no memory.
-    pub fn close(self, pens: Pens<Eight<L0, L1, L2, L3, L4, L5, L6, L7>, Q>) -> T
-        ensures p0 { slice_index_or (T.done result) 0 0 ≡ pens.p0.place }
-        ensures p1 { slice_index_or (T.done result) 1 0 ≡ pens.p1.place }
-        ensures p2 { slice_index_or (T.done result) 2 0 ≡ pens.p2.place }
-        ensures p3 { slice_index_or (T.done result) 3 0 ≡ pens.p3.place }
-        ensures p4 { slice_index_or (T.done result) 4 0 ≡ pens.p4.place }
-        ensures p5 { slice_index_or (T.done result) 5 0 ≡ pens.p5.place }
-        ensures p6 { slice_index_or (T.done result) 6 0 ≡ pens.p6.place }
-        ensures p7 { slice_index_or (T.done result) 7 0 ≡ pens.p7.place }
+    pub fn close(self, pens: Pens<Named<E>, Q>) -> T
+        ensures p0 { T.done result 0 ≡ pens.p0.place }
+        ensures p1 { T.done result 1 ≡ pens.p1.place }
+        ensures p2 { T.done result 2 ≡ pens.p2.place }
+        ensures p3 { T.done result 3 ≡ pens.p3.place }
+        ensures p4 { T.done result 4 ≡ pens.p4.place }
+        ensures p5 { T.done result 5 ≡ pens.p5.place }
+        ensures p6 { T.done result 6 ≡ pens.p6.place }
+        ensures p7 { T.done result 7 ≡ pens.p7.place }
     {
-        let Shared { lock } = self;
-        let mut locked = lock.into_inner();
-        let Pens {
-            mut p0,
-            mut p1,
-            mut p2,
-            mut p3,
-            mut p4,
-            mut p5,
-            mut p6,
-            mut p7,
-        } = pens;
-        locked.audit(&mut p0);
-        locked.audit(&mut p1);
-        locked.audit(&mut p2);
-        locked.audit(&mut p3);
-        locked.audit(&mut p4);
-        locked.audit(&mut p5);
-        locked.audit(&mut p6);
-        locked.audit(&mut p7);
-        let Locked {
-            work,
-            books: _,
-            of: _,
-        } = locked;
-        work
+        let mut locked = self.lock.into_inner();
+        let mut pens = pens;
+        locked.audit(&mut pens.p0);
+        locked.audit(&mut pens.p1);
+        locked.audit(&mut pens.p2);
+        locked.audit(&mut pens.p3);
+        locked.audit(&mut pens.p4);
+        locked.audit(&mut pens.p5);
+        locked.audit(&mut pens.p6);
+        locked.audit(&mut pens.p7);
+        locked.work
     }
 }

@@ -12,17 +12,17 @@ pub trait Quota {
 
 /// A work of which each writer does its steps one after the other.
 pub trait Work<Q: Quota> {
-    ghost use Rattle.std.specs.Prelude.{◌≡◌, ℕ, ◌+◌, ◌<◌, List, slice_index_or, slice_set};
+    ghost use Rattle.std.specs.Prelude.{◌≡◌, ℕ, ◌+◌, ◌<◌, ◌==◌, if◌then◌else◌};
 
-    /// How many steps each writer has done, in the writers' order.
-    ghost done: { Self → List ℕ };
+    /// How many steps each writer has done, by the writer's number.
+    ghost done: { Self → ℕ → ℕ };
 
     /// Does the next step of a writer that has one left, and none of another writer. It may wait, and eases the relief
     /// meanwhile.
     fn step<R: Relief, W: Wait>(&mut self, rt: &W, writer: u8, relief: &mut R)
         requires number { writer < 8 }
-        requires place { slice_index_or (done self.old) writer 0 < Q.quota writer }
+        requires place { done self.old writer < Q.quota writer }
         requires relief { R.kept relief.old }
-        ensures done { done self.new ≡ slice_set (done self.old) writer (slice_index_or (done self.old) writer 0 + 1) }
+        ensures done { (w : ℕ) → done self.new w ≡ done self.old w + (if writer == w then 1 else 0) }
         ensures relief { R.kept relief.new };
 }

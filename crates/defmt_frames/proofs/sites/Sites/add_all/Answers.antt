@@ -1,8 +1,9 @@
 use Rattle.std.proofs.Common.{◌≡◌, Some, sym, ap, subst, ◌∙◌, arith}
 use Rattle.std.specs.Option.{option_copied}
 use Rattle.std.specs.Prelude.{slice_get}
+use Rattle.std.proofs.lemmas.Option.{slice_get_within}
 use Rattle.defmt_frames.proofs.Frames.{sound_at}
-use Rattle.defmt_frames.proofs.SiteLaws.{sound_message, within}
+use Rattle.defmt_frames.proofs.SiteLaws.{sound_message}
 use Rattle.defmt_frames.specs.Frames.{statements_of}
 use Rattle.defmt_frames.specs.Sites.{IsMessage}
 use Rattle.defmt_intern.specs.Table.{Map}
@@ -18,4 +19,4 @@ add-requires-clause-message c =
 
 pub returns-clause-all : goal.returns-clause-all
 returns-clause-all c place stm there =
-    c.loop-place.invariant.2 place (omega (arith, within (statements_of c.args.script.now c.args.writer) place stm there, c.loop-place-test.false, c.count-place-end.ensures)) stm there
+    c.loop-place.invariant.2 place (omega (arith, slice_get_within (statements_of c.args.script.now c.args.writer) place stm there, c.loop-place-test.false, c.count-place-end.ensures)) stm there
