@@ -143,7 +143,8 @@ has 'the program is the proved one' "$said" 'proved one'
 has 'how far a build is' "$said" 'crate 2 of 6 is done: left'
 has 'how long it will take' "$said" 'About '
 has 'how long the first build takes' "$said" 'about 20 minutes on four processors, 32 on two'
-is 'the crates side by side get all processors' "$(sed -n 1p "$kit/calls" | grep -c "^defmt_run all check --jobs [1-9]")" 1
+is 'the first crate of the longest chain gets all processors' "$(sed -n 1p "$kit/calls" | grep -c "^low lib --jobs [1-9]")" 1
+is 'so do the crates side by side' "$(sed -n 2p "$kit/calls" | grep -c "^defmt_run all check --jobs [1-9]")" 1
 is 'so does each of the chain' "$(grep -c '^top lib --jobs [1-9]\|^defmt_run lib --jobs [1-9]\|^defmt_cli run --jobs [1-9]' "$kit/calls")" 3
 until_true is_tidy
 is 'no file is left behind' "$(strays)" ''
