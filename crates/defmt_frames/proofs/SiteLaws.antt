@@ -1,6 +1,6 @@
 -- The sites of a script's statements.
-use Rattle.std.proofs.Common.{◌≡◌, ◌∙◌, ◌≤◌, ◌<◌, ℕ, zero, suc, Bool, true, false, cond, List, [], ◌∷◌, length, Option, Some, None, is_eq, nat_cmp, refl, sym, ap, subst, arith}
-use Rattle.std.specs.Prelude.{IsSome, is_some, nat_lt, slice_get, slice_index_or}
+use Rattle.std.proofs.Common.{◌≡◌, ◌∙◌, ◌≤◌, ◌<◌, ℕ, Bool, true, false, cond, List, [], length, Option, Some, None, is_eq, nat_cmp, refl, sym, ap, subst, arith}
+use Rattle.std.specs.Prelude.{IsSome, is_some, nat_lt, slice_get}
 use Rattle.std.proofs.lemmas.Bool.Decides.{nat_tests}
 use Rattle.std.proofs.lemmas.List.{get_or_past}
 use Rattle.std.proofs.lemmas.Option.{same_Some}
@@ -17,7 +17,7 @@ use Rattle.defmt_macros.specs.Sites.{IsSite}
 use Rattle.defmt_macros.specs.declared.site.Site.{Site}
 use Rattle.defmt_script.specs.Lawful.{IsLawful, IsSound, message_limit, stamp_in}
 use Rattle.defmt_script.specs.Script.{Script}
-use Rattle.defmt_values.specs.Entries.{is_logged, look}
+use Rattle.defmt_values.specs.Entries.{is_logged}
 use Rattle.defmt_values.specs.Fits.{Fits}
 use Rattle.defmt_values.specs.declared.value.Statement.{Statement}
 

@@ -1,5 +1,5 @@
 -- A tape has no more marks than its script has statements.
-use Rattle.std.proofs.Common.{◌≡◌, ℕ, suc, ◌+◌, ◌-◌, ◌<◌, ◌≤◌, List, [], ◌∷◌, Bool, true, false, ◌==◌, length, refl, sym, subst, arith, zero-add}
+use Rattle.std.proofs.Common.{◌≡◌, ℕ, suc, ◌+◌, ◌-◌, ◌≤◌, List, [], ◌∷◌, Bool, true, false, ◌==◌, length, refl, sym, subst, arith, zero-add}
 use Rattle.std.specs.Prelude.{if◌then◌else◌, slice_index_or, nat_le}
 use Rattle.std.proofs.lemmas.Bool.Decides.{nat_tests}
 use Rattle.defmt_frames.specs.Frames.{count}

@@ -83,7 +83,7 @@ fn start<
 fn start_all<
     's,
     E,
-    E: Names + Send + Sync,
+    N: Names + Send + Sync,
     Q: Quota + Send + Sync,
     T: Work<Q> + Send,
     G: Gate + Sync,
@@ -91,8 +91,8 @@ fn start_all<
 >(
     scope: &Scope<'s, E>,
     rt: &'s W,
-    logger: &'s Logger<Eight<Named<E>>, Q, T>,
-    pens: &'s mut Pens<Named<E>, Q>,
+    logger: &'s Logger<Eight<Named<N>>, Q, T>,
+    pens: &'s mut Pens<Named<N>, Q>,
     gate: &'s G,
     done: &'s AtomicU64,
 ) -> u64 {
