@@ -4,9 +4,9 @@
     bench/rows.py [CHECKOUT]    of this checkout, or of another
     bench/rows.py --docs        of this one, into docs/PROOFS.md
 
-A row is one thing that a test asks: a line or a block of the text that a test gives to `each_line` or `each_block`, whose number stands in
-the test as "12 rows"; else an assertion, once for each entry of the tables of constants that it stands in a loop over, and once for each
-call of the function that it stands in. A loop over anything else counts once.
+A row is one thing that a test asks: a line or a block of the text that a test gives to `each_line` or `each_block`, with their number
+behind it; else an assertion or a call of `expect`, once for each entry of the tables of constants that it stands in a loop over, and once
+for each call of the function that it stands in. A loop over anything else counts once.
 """
 
 import glob
@@ -19,7 +19,8 @@ from gate import TOP, put_into_docs
 TEXTS = re.compile(r"""//[^\n]*|b?r(#*)".*?"\1|b?"(?:\\.|[^"\\])*"|b?'(?:\\(?:u\{\w+\}|x..|.)|[^\\'])'""", re.S)
 WORD = re.compile(
     r"for\s+[^{};]*?\sin\s+&?(?P<over>\[|\w+)"
-    r"|assert\w*!\((?P<asserted>)"
+    r"|(?:assert\w*!|\bexpect)\((?P<asserted>)"
+    r"|each_(?:line|block)\((?P<asked>)"
     r"|(?P<called>\w+)(?:::<[^;{}()]*>)?\("
 )
 
@@ -65,8 +66,8 @@ class Tests:
                 whole = it.read()
             if "#[test]" not in whole:
                 continue
-            # (no bracket or word of a string counts; the number of rows does)
-            text = TEXTS.sub(lambda it: re.sub(r'.*"(\d+) rows".*', r"rows!(\1)", it[0]) if it[0].endswith(' rows"') else "0", whole)
+            # (no bracket or word of a string counts)
+            text = TEXTS.sub("0", whole)
             self.tables.update(tables_in(text, "const"))
             for found in re.finditer(r"(#\[test\]\s*)?(?:pub(?:\([^)]*\))? )?fn (\w+)", text):
                 # the body follows the words of the function's head, whose clauses stand in braces
@@ -101,11 +102,13 @@ class Tests:
                 end = closing(text, place)
                 count += times * self.rows_in(text[place + 1 : end], tables)
                 place = end
+            elif found["asked"] is not None:
+                place = closing(text, place - 1)
+                # (the last argument but one)
+                count += int(re.search(r",\s*(\d+),\s*[&\w:]+,?\s*$", text[found.end() : place])[1])
             elif found["asserted"] is not None:
-                end = closing(text, place - 1)
-                number = re.search(r"rows!\((\d+)\)", text[place:end])
-                count += int(number[1]) if number else 1
-                place = end
+                count += 1
+                place = closing(text, place - 1)
             elif found["called"] in self.bodies:
                 count += self.rows(found["called"])
         return count

@@ -74,7 +74,5 @@ pub(crate) fn put_stamps(row: &str, out: &mut String) -> Result<(), Fail> {
 
 #[test]
 fn stamps_are_evenly_apart(rt: HostRuntime) -> Result<(), Fail> {
-    let rows = each_line(&rt, rt.alloc(), STAMPS, Kind::Stamps)?;
-    assert_eq!(rt; rows.as_str(), "4 rows");
-    Ok(())
+    each_line(&rt, rt.alloc(), STAMPS, 4, &Kind::Stamps)
 }

@@ -213,9 +213,6 @@ pub(crate) fn put_logged_and_dropped<W: Wait>(
 
 #[test]
 fn pens_log_what_fits_and_a_dropped_frame_leaves_no_trace(rt: HostRuntime) -> Result<(), Fail> {
-    let rows = each_block(&rt, rt.alloc(), LOGGED, rows::Kind::Logged)?;
-    assert_eq!(rt; rows.as_str(), "1 rows");
-    let rows = each_block(&rt, rt.alloc(), DROPPED, rows::Kind::LoggedAndDropped)?;
-    assert_eq!(rt; rows.as_str(), "1 rows");
-    Ok(())
+    each_block(&rt, rt.alloc(), LOGGED, 1, &rows::Kind::Logged)?;
+    each_block(&rt, rt.alloc(), DROPPED, 1, &rows::Kind::LoggedAndDropped)
 }

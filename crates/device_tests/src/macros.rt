@@ -108,7 +108,5 @@ pub(crate) fn put_message(alloc: Global, text: &str, out: &mut String) -> Result
 
 #[test]
 fn each_tag_has_its_macro(rt: HostRuntime) -> Result<(), Fail> {
-    let rows = each_block(&rt, rt.alloc(), MESSAGES, Kind::Message)?;
-    assert_eq!(rt; rows.as_str(), "8 rows");
-    Ok(())
+    each_block(&rt, rt.alloc(), MESSAGES, 8, &Kind::Message)
 }

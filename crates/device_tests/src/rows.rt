@@ -11,7 +11,7 @@ use std::test::Fail;
 use std::thread::Threads;
 
 /// What is asked of an input, each as its module says.
-#[derive(Clone, Copy)]
+#[derive(Drop)]
 pub(crate) enum Kind {
     Trace,
     Debug,
@@ -33,7 +33,7 @@ pub(crate) enum Kind {
 fn put_answer<R: Threads + Wait + Sync>(
     rt: &R,
     alloc: Global,
-    kind: Kind,
+    kind: &Kind,
     input: &str,
     out: &mut String,
 ) -> Result<(), Fail> {
@@ -62,9 +62,10 @@ fn each_row<R: Threads + Wait + Sync>(
     rows: &str,
     between: &str,
     mark: &str,
-    kind: Kind,
-) -> Result<String, Fail> {
-    test_rows::each_row(alloc, rows, between, mark, |alloc, input, out| {
+    count: usize,
+    kind: &Kind,
+) -> Result<(), Fail> {
+    test_rows::each_row(alloc, rows, between, mark, count, |alloc, input, out| {
         put_answer(rt, alloc, kind, input, out)
     })
 }
@@ -74,9 +75,10 @@ pub(crate) fn each_line<R: Threads + Wait + Sync>(
     rt: &R,
     alloc: Global,
     lines: &str,
-    kind: Kind,
-) -> Result<String, Fail> {
-    each_row(rt, alloc, lines, "\n", " = ", kind)
+    count: usize,
+    kind: &Kind,
+) -> Result<(), Fail> {
+    each_row(rt, alloc, lines, "\n", " = ", count, kind)
 }
 
 /// Asks for the answers of blocks, as `test_rows::each_block` does.
@@ -84,7 +86,8 @@ pub(crate) fn each_block<R: Threads + Wait + Sync>(
     rt: &R,
     alloc: Global,
     blocks: &str,
-    kind: Kind,
-) -> Result<String, Fail> {
-    each_row(rt, alloc, blocks, "\n\n", "\n=\n", kind)
+    count: usize,
+    kind: &Kind,
+) -> Result<(), Fail> {
+    each_row(rt, alloc, blocks, "\n\n", "\n=\n", count, kind)
 }

@@ -12,7 +12,7 @@ use defmt_values::own_form;
 use std::alloc::Global;
 use std::fmt::Write;
 use std::test::Fail;
-use test_rows::put_digits;
+use test_rows::{put_digits, put_str};
 
 pub(crate) fn script_of(alloc: Global, text: &str) -> Result<Script, Fail> {
     if text.len() > 10_000 {
@@ -66,7 +66,7 @@ pub(crate) fn site_at(alloc: Global, table: &Table, index: u16) -> Result<Site, 
 // Puts the digits of bytes, or that there are none.
 pub(crate) fn put_digits_or_nothing(out: &mut String, bytes: &[u8]) -> Result<(), Fail> {
     if bytes.is_empty() {
-        return Ok(out.push_str("nothing")?);
+        return put_str(out, "nothing");
     }
     put_digits(out, bytes)
 }

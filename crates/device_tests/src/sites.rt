@@ -106,9 +106,6 @@ pub(crate) fn put_list(alloc: Global, text: &str, out: &mut String) -> Result<()
 fn sites_are_checked_against_the_table_and_slots_keep_their_order(
     rt: HostRuntime,
 ) -> Result<(), Fail> {
-    let rows = each_line(&rt, rt.alloc(), SITES, Kind::Site)?;
-    assert_eq!(rt; rows.as_str(), "6 rows");
-    let rows = each_line(&rt, rt.alloc(), LISTS, Kind::List)?;
-    assert_eq!(rt; rows.as_str(), "1 rows");
-    Ok(())
+    each_line(&rt, rt.alloc(), SITES, 6, &Kind::Site)?;
+    each_line(&rt, rt.alloc(), LISTS, 1, &Kind::List)
 }

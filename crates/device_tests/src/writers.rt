@@ -23,7 +23,7 @@ use std::sync::atomic::{AtomicU64, Ordering};
 use std::test::Fail;
 use std::thread;
 use std::thread::Threads;
-use test_rows::put_digits;
+use test_rows::{put_digits, put_str};
 
 // A script of the writers 0 and 1 with a statement each: what came of it where they wait for each other.
 const MEETINGS: &str = "\
@@ -202,7 +202,7 @@ impl Gate for Hold {
 }
 
 // What is told of a run in front of its account, and the count of the writers that passed a gate.
-#[derive(Clone, Copy)]
+#[derive(Drop)]
 enum Told<'g> {
     Nothing,
     Marks,
@@ -214,7 +214,7 @@ fn put_account(run: &Run, out: &mut String) -> Result<(), Fail> {
     let (count, sent, ring) = (run.tape.len(), run.settled.sent_len(), run.settled.ring());
     write!(out, "{count} marks, {sent} bytes sent, {ring:?}\ncaptured ")?;
     put_digits_or_nothing(out, run.captured.as_slice())?;
-    out.push_str("\nrest ")?;
+    put_str(out, "\nrest ")?;
     put_digits_or_nothing(out, run.rest.as_slice())
 }
 
@@ -225,7 +225,7 @@ fn put_reached(count: u64, run: &Run, out: &mut String) -> Result<(), Fail> {
 }
 
 // Puts what came of a run, but for the order of its marks where they aren't told.
-fn put_told(told: Told<'_>, run: &Run, out: &mut String) -> Result<(), Fail> {
+fn put_told(told: &Told<'_>, run: &Run, out: &mut String) -> Result<(), Fail> {
     match told {
         Told::Nothing => {}
         Told::Marks => put_marks(out, &run.tape)?,
@@ -241,7 +241,7 @@ fn put_run<H: Channel, G: Gate + Sync, R: Threads + Wait + Sync>(
     alloc: Global,
     script: Script,
     gate: &G,
-    told: Told<'_>,
+    told: &Told<'_>,
     out: &mut String,
 ) -> Result<(), Fail>
     requires { ModeFits script.settings.mode H.tells }
@@ -270,7 +270,7 @@ pub(crate) fn put_meeting<R: Threads + Wait + Sync>(
 ) -> Result<(), Fail> {
     let script = script_of(alloc, text)?;
     let gate = Hold::new(2, 0, 2, 0);
-    put_run::<WordRing, _, R>(rt, alloc, script, &gate, Told::Met(&gate.passed), out)
+    put_run::<WordRing, _, R>(rt, alloc, script, &gate, &Told::Met(&gate.passed), out)
 }
 
 pub(crate) fn put_queued<R: Threads + Wait + Sync>(
@@ -280,7 +280,7 @@ pub(crate) fn put_queued<R: Threads + Wait + Sync>(
     out: &mut String,
 ) -> Result<(), Fail> {
     let script = blocking_script_of(alloc, text)?;
-    put_run::<QueueRing, _, R>(rt, alloc, script, &OpenGate, Told::Nothing, out)
+    put_run::<QueueRing, _, R>(rt, alloc, script, &OpenGate, &Told::Nothing, out)
 }
 
 pub(crate) fn put_in_time<R: Threads + Wait + Sync>(
@@ -291,7 +291,7 @@ pub(crate) fn put_in_time<R: Threads + Wait + Sync>(
 ) -> Result<(), Fail> {
     let script = script_of(alloc, text)?;
     let gate = Hold::new(1, 3, 1, 12);
-    put_run::<WordRing, _, R>(rt, alloc, script, &gate, Told::Reached(&gate.passed), out)
+    put_run::<WordRing, _, R>(rt, alloc, script, &gate, &Told::Reached(&gate.passed), out)
 }
 
 pub(crate) fn put_open<R: Threads + Wait + Sync>(
@@ -301,7 +301,7 @@ pub(crate) fn put_open<R: Threads + Wait + Sync>(
     out: &mut String,
 ) -> Result<(), Fail> {
     let script = script_of(alloc, text)?;
-    put_run::<WordRing, _, R>(rt, alloc, script, &OpenGate, Told::Marks, out)
+    put_run::<WordRing, _, R>(rt, alloc, script, &OpenGate, &Told::Marks, out)
 }
 
 // Logs the statements of the writer 0 on this thread alone. What was sent is then captured or the rest.
@@ -387,7 +387,7 @@ fn put_ends(bytes: &[u8], out: &mut String) -> Result<(), Fail> {
     }
     write!(out, "{count} bytes from ")?;
     put_digits(out, &bytes[..5])?;
-    out.push_str(" to ")?;
+    put_str(out, " to ")?;
     put_digits(out, &bytes[count - 2..])
 }
 
@@ -418,27 +418,18 @@ pub(crate) fn put_alone<W: Wait>(
 
 #[test]
 fn two_writers_wait_for_each_other_and_for_room(rt: HostRuntime) -> Result<(), Fail> {
-    let rows = each_block(&rt, rt.alloc(), MEETINGS, Kind::Meeting)?;
-    assert_eq!(rt; rows.as_str(), "3 rows");
-    let rows = each_block(&rt, rt.alloc(), QUEUED, Kind::Queued)?;
-    assert_eq!(rt; rows.as_str(), "1 rows");
-    Ok(())
+    each_block(&rt, rt.alloc(), MEETINGS, 3, &Kind::Meeting)?;
+    each_block(&rt, rt.alloc(), QUEUED, 1, &Kind::Queued)
 }
 
 #[test]
 fn frames_are_dropped_or_cut_beside_a_late_reader_alone(rt: HostRuntime) -> Result<(), Fail> {
-    let rows = each_block(&rt, rt.alloc(), IN_TIME, Kind::InTime)?;
-    assert_eq!(rt; rows.as_str(), "1 rows");
-    let rows = each_block(&rt, rt.alloc(), LATE, Kind::Open)?;
-    assert_eq!(rt; rows.as_str(), "2 rows");
-    Ok(())
+    each_block(&rt, rt.alloc(), IN_TIME, 1, &Kind::InTime)?;
+    each_block(&rt, rt.alloc(), LATE, 2, &Kind::Open)
 }
 
 #[test]
 fn no_lines_send_nothing_and_one_thread_serves_itself(rt: HostRuntime) -> Result<(), Fail> {
-    let rows = each_block(&rt, rt.alloc(), EMPTY, Kind::Open)?;
-    assert_eq!(rt; rows.as_str(), "1 rows");
-    let rows = each_block(&rt, rt.alloc(), ALONE, Kind::Alone)?;
-    assert_eq!(rt; rows.as_str(), "1 rows");
-    Ok(())
+    each_block(&rt, rt.alloc(), EMPTY, 1, &Kind::Open)?;
+    each_block(&rt, rt.alloc(), ALONE, 1, &Kind::Alone)
 }

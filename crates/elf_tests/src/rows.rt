@@ -31,13 +31,3 @@ impl Question for Kind {
         }
     }
 }
-
-/// Asks for the answers of lines, as `test_rows::each_line` does.
-pub fn each_line(alloc: Global, lines: &str, kind: Kind) -> Result<String, Fail> {
-    test_rows::each_line(alloc, lines, &kind)
-}
-
-/// Asks for the answers of blocks, as `test_rows::each_block` does.
-pub fn each_block(alloc: Global, blocks: &str, kind: Kind) -> Result<String, Fail> {
-    test_rows::each_block(alloc, blocks, &kind)
-}

@@ -5,17 +5,17 @@ ghost use Rattle.elf_section.specs.Symbol.{plain_all};
 ghost use Rattle.elf_section.specs.Written.{IsWritable};
 
 use crate::files::{Linked, REFUSED, damage, parted, put_over, put_unlike};
-use crate::rows::{Kind, each_block, each_line};
+use crate::rows::Kind;
 use dl_io::Bytes;
 use elf_section::{ElfFault, Symbol, read_symbols, write_symbols};
 use std::alloc::Global;
 use std::fmt::Write;
 use std::test::Fail;
-use test_rows::{bytes_of, put_digits};
+use test_rows::{bytes_of, each_block, each_line, expect, put_digits, put_str};
 
 fn put_symbol(symbol: &Symbol, out: &mut String) -> Result<(), Fail> {
     write!(out, "; {} ", symbol.value)?;
-    Ok(out.push_str(str::from_utf8(symbol.name.as_slice())?)?)
+    put_str(out, str::from_utf8(symbol.name.as_slice())?)
 }
 
 /// How many symbols there are, and the value and the name of each.
@@ -32,7 +32,7 @@ fn put_refusal(fault: ElfFault, out: &mut String) -> Result<(), Fail> {
         ElfFault::Refused { cause, part, place } => {
             Ok(write!(out, "cause {cause} {part:?} {place}")?)
         }
-        ElfFault::Memory => Ok(out.push_str("memory")?),
+        ElfFault::Memory => put_str(out, "memory"),
     }
 }
 
@@ -172,9 +172,7 @@ cause 8 Nothing 0";
 
 #[test]
 fn the_markers_are_taken_in_both_spellings_and_in_no_other(rt: HostRuntime) -> Result<(), Fail> {
-    let told = each_block(rt.alloc(), MARKERS, Kind::AnswerToMarkers)?;
-    assert_eq!(rt; told.as_str(), "16 rows");
-    Ok(())
+    each_block(rt.alloc(), MARKERS, 16, &Kind::AnswerToMarkers)
 }
 
 // The class, the section whose header has other bytes or the file's own header, their place and the bytes. In their order: the
@@ -344,8 +342,7 @@ fn one_symbol_makes_472_bytes(rt: HostRuntime) -> Result<(), Fail> {
     assert_eq!(rt; file.len(), 472);
     let mut digits = String::new(rt.alloc());
     put_digits(&mut digits, file.as_slice())?;
-    assert_eq!(rt; digits.as_str(), FILE);
-    Ok(())
+    expect(digits.as_str(), FILE)
 }
 
 // Symbols that are written, and what is read back.
@@ -372,12 +369,10 @@ pub fn put_read_back(alloc: Global, text: &str, out: &mut String) -> Result<(), 
 
 #[test]
 fn of_written_symbols_those_with_a_brace_are_read_back(rt: HostRuntime) -> Result<(), Fail> {
-    let told = each_block(rt.alloc(), WRITTEN, Kind::SymbolReadBack)?;
-    assert_eq!(rt; told.as_str(), "3 rows");
+    each_block(rt.alloc(), WRITTEN, 3, &Kind::SymbolReadBack)?;
     let mut none = String::new(rt.alloc());
     put_read_back(rt.alloc(), "", &mut none)?;
-    assert_eq!(rt; none.as_str(), "0 symbols");
-    Ok(())
+    expect(none.as_str(), "0 symbols")
 }
 
 // Damages of the file that leave it whole or change its one symbol; without its brace the name isn't listed.
@@ -397,11 +392,7 @@ pub fn put_answer_to_damage(alloc: Global, text: &str, out: &mut String) -> Resu
 fn a_damaged_file_gives_its_refusal_or_its_symbol_as_it_stands(
     rt: HostRuntime,
 ) -> Result<(), Fail> {
-    let told = each_line(rt.alloc(), HEADERS, Kind::AnswerToHeader)?;
-    assert_eq!(rt; told.as_str(), "28 rows");
-    let told = each_line(rt.alloc(), REFUSED, Kind::SymbolAnswerToDamage)?;
-    assert_eq!(rt; told.as_str(), "16 rows");
-    let told = each_line(rt.alloc(), READ, Kind::SymbolAnswerToDamage)?;
-    assert_eq!(rt; told.as_str(), "5 rows");
-    Ok(())
+    each_line(rt.alloc(), HEADERS, 28, &Kind::AnswerToHeader)?;
+    each_line(rt.alloc(), REFUSED, 16, &Kind::SymbolAnswerToDamage)?;
+    each_line(rt.alloc(), READ, 5, &Kind::SymbolAnswerToDamage)
 }

@@ -1,6 +1,6 @@
 //! Tables that are written and read back, those of linked files, and refusals.
 use crate::files::{Linked, REFUSED, damage, parted, put_unlike};
-use crate::rows::{Kind, each_block, each_line};
+use crate::rows::Kind;
 use defmt_grammar::Text;
 use defmt_intern::{Entry, Table, Tag};
 use dl_io::Bytes;
@@ -8,10 +8,11 @@ use elf_table::{LoadFault, is_writable, read_table, write_table};
 use std::alloc::Global;
 use std::fmt::Write;
 use std::test::Fail;
+use test_rows::{each_block, each_line, expect, put_str};
 
 fn put_word(word: &str, out: &mut String) -> Result<(), Fail> {
-    out.push_str(" ")?;
-    Ok(out.push_str(word)?)
+    put_str(out, " ")?;
+    put_str(out, word)
 }
 
 fn put_entry(index: u16, entry: &Entry, out: &mut String) -> Result<(), Fail> {
@@ -40,7 +41,7 @@ fn put_refusal(fault: LoadFault, out: &mut String) -> Result<(), Fail> {
             Ok(write!(out, "cause {cause} {part:?} {place}")?)
         }
         LoadFault::Names { cause, symbol } => Ok(write!(out, "cause {cause} symbol {symbol}")?),
-        LoadFault::Memory => Ok(out.push_str("memory")?),
+        LoadFault::Memory => put_str(out, "memory"),
     }
 }
 
@@ -126,12 +127,10 @@ fn one_entry_makes_472_bytes(rt: HostRuntime) -> Result<(), Fail> {
 
 #[test]
 fn a_table_reads_back_with_its_indexes(rt: HostRuntime) -> Result<(), Fail> {
-    let told = each_block(rt.alloc(), WRITTEN, Kind::TableReadBack)?;
-    assert_eq!(rt; told.as_str(), "2 rows");
+    each_block(rt.alloc(), WRITTEN, 2, &Kind::TableReadBack)?;
     let mut none = String::new(rt.alloc());
     put_read_back(rt.alloc(), "", &mut none)?;
-    assert_eq!(rt; none.as_str(), "0 entries");
-    Ok(())
+    expect(none.as_str(), "0 entries")
 }
 
 // Damages of the file's symbol. Without its brace the name isn't listed.
@@ -148,11 +147,8 @@ pub fn put_answer_to_damage(alloc: Global, text: &str, out: &mut String) -> Resu
 
 #[test]
 fn a_damaged_file_is_refused_with_its_cause_and_place(rt: HostRuntime) -> Result<(), Fail> {
-    let told = each_line(rt.alloc(), REFUSED, Kind::TableAnswerToDamage)?;
-    assert_eq!(rt; told.as_str(), "16 rows");
-    let told = each_line(rt.alloc(), NAMES, Kind::TableAnswerToDamage)?;
-    assert_eq!(rt; told.as_str(), "3 rows");
-    Ok(())
+    each_line(rt.alloc(), REFUSED, 16, &Kind::TableAnswerToDamage)?;
+    each_line(rt.alloc(), NAMES, 3, &Kind::TableAnswerToDamage)
 }
 
 /// The first symbols of each linked file: one of a section, one of a mapping, and the first marker.
@@ -232,9 +228,7 @@ pub fn put_answer_to_symbols(alloc: Global, lines: &str, out: &mut String) -> Re
 
 #[test]
 fn linked_files_of_both_classes_name_their_table(rt: HostRuntime) -> Result<(), Fail> {
-    let told = each_block(rt.alloc(), LINKED, Kind::AnswerToSymbols)?;
-    assert_eq!(rt; told.as_str(), "7 rows");
-    Ok(())
+    each_block(rt.alloc(), LINKED, 7, &Kind::AnswerToSymbols)
 }
 
 // The second symbol's text has 4,097 bytes.
@@ -259,6 +253,5 @@ fn put_answer_to_long_text(alloc: Global, out: &mut String) -> Result<(), Fail> 
 fn a_text_of_4097_bytes_is_refused(rt: HostRuntime) -> Result<(), Fail> {
     let mut told = String::new(rt.alloc());
     put_answer_to_long_text(rt.alloc(), &mut told)?;
-    assert_eq!(rt; told.as_str(), "cause 4 symbol 1");
-    Ok(())
+    expect(told.as_str(), "cause 4 symbol 1")
 }

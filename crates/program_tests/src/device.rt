@@ -9,6 +9,7 @@ use std::fmt::Write;
 use std::sync::Wait;
 use std::test::Fail;
 use std::thread::Threads;
+use test_rows::put_str;
 
 // How many statements each of four writers has, and what is told.
 const DEVICES: &str = "\
@@ -80,7 +81,7 @@ fn add_statements(number: u32, text: &mut String) -> Result<(), Fail> {
 
 // A script of 40 strings, and of so many statements of each of four writers in turn.
 fn add_device(count: &str, text: &mut String) -> Result<(), Fail> {
-    text.push_str(HEAD)?;
+    put_str(text, HEAD)?;
     for level in LEVELS.split(' ') {
         add_strings(level, text)?;
     }
@@ -93,10 +94,10 @@ fn add_device(count: &str, text: &mut String) -> Result<(), Fail> {
 // Puts a line without its stamp, if it is of this writer.
 fn put_line_of(line: &str, writer: u8, out: &mut String) -> Result<(), Fail> {
     let (_, rest) = parted(line, ' ');
-    if rest.as_bytes().get(6) != Some(&writer) {
-        return Ok(());
+    match rest.as_bytes().get(6) {
+        Some(byte) if *byte == writer => Ok(write!(out, "{rest}\n")?),
+        _ => Ok(()),
     }
-    Ok(write!(out, "{rest}\n")?)
 }
 
 fn put_lines_of(lines: &str, writer: u8, out: &mut String) -> Result<(), Fail> {
@@ -124,7 +125,7 @@ fn put_printed<R: Threads + Wait + Sync>(
 ) -> Result<(), Fail> {
     let line = "defmtl print";
     let mut told = String::new(alloc);
-    put_played(rt, alloc, line, Told::Lines, script, "\n", &mut told)?;
+    put_played(rt, alloc, line, &Told::Lines, script, "\n", &mut told)?;
     put_by_writer(told.as_str(), out)
 }
 
@@ -153,7 +154,7 @@ fn put_decoded<R: Threads + Wait + Sync>(
         rt,
         alloc,
         line,
-        Told::Lines,
+        &Told::Lines,
         &mut stage,
         &OpenGate,
         &mut told,
@@ -198,7 +199,5 @@ pub(crate) fn put_device<R: Threads + Wait + Sync>(
 
 #[test]
 fn a_device_is_decoded_as_it_is_printed(rt: HostRuntime) -> Result<(), Fail> {
-    let rows = each_block(&rt, rt.alloc(), DEVICES, Kind::Device)?;
-    assert_eq!(rt; rows.as_str(), "1 rows");
-    Ok(())
+    each_block(&rt, rt.alloc(), DEVICES, 1, &Kind::Device)
 }

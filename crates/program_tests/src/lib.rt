@@ -1,6 +1,6 @@
 #![tactic(auto)]
 
-//! Tests of the program: the words that it takes, the hearing of recordings, and its sessions by their commands.
+//! Tests of the program: the words that it takes, and its sessions by their commands.
 
 #[cfg(test)]
 mod commands;
@@ -10,8 +10,6 @@ mod decode;
 mod device;
 #[cfg(test)]
 mod gates;
-#[cfg(test)]
-mod hearing;
 #[cfg(test)]
 mod limits;
 #[cfg(test)]

@@ -9,6 +9,7 @@ use std::fmt::Write;
 use std::sync::Wait;
 use std::test::Fail;
 use std::thread::Threads;
+use test_rows::put_str;
 
 // A row is who fails, at which call, and the words; the script is always the same.
 const FAULTS: &str = "\
@@ -47,7 +48,7 @@ pub(crate) fn put_fault<R: Threads + Wait + Sync>(
     let (call, line) = parted(rest, ' ');
     let fails = [call.parse::<u8>()?];
     let mut stage = table_stage(rt, alloc, HI.as_bytes(), b"\n", who, &fails)?;
-    put_session(rt, alloc, line, Told::Counts, &mut stage, &OpenGate, out)
+    put_session(rt, alloc, line, &Told::Counts, &mut stage, &OpenGate, out)
 }
 
 // Calls that fail one after the other, until none does. A row is who fails, the words and what the source gives, and what is told of the
@@ -133,9 +134,9 @@ fn put_turn_in<R: Threads + Wait + Sync>(
     out: &mut String,
 ) -> Result<(), Fail> {
     let mut told = String::new(alloc);
-    put_session(rt, alloc, line, Told::Lines, stage, &OpenGate, &mut told)?;
+    put_session(rt, alloc, line, &Told::Lines, stage, &OpenGate, &mut told)?;
     if faults_of(stage) == 0 {
-        return Ok(out.push_str(told.as_str())?);
+        return put_str(out, told.as_str());
     }
     put_share(told.as_str(), stage.sink.held(), whole, out)
 }
@@ -190,10 +191,10 @@ fn put_calls<R: Threads + Wait + Sync>(
 ) -> Result<(), Fail> {
     for call in 0..=u8::MAX {
         if put_call(rt, alloc, row, call, whole, out)? {
-            return Ok(out.push_str(whole)?);
+            return put_str(out, whole);
         }
     }
-    Err("each call fails".into())
+    Err(Fail::new("each call fails"))
 }
 
 /// Puts what is told where calls fail in turn: who fails, the words and what the source gives.
@@ -210,9 +211,6 @@ pub(crate) fn put_turns<R: Threads + Wait + Sync>(
 
 #[test]
 fn each_call_of_the_outside_that_fails_is_told(rt: HostRuntime) -> Result<(), Fail> {
-    let rows = each_block(&rt, rt.alloc(), FAULTS, Kind::Fault)?;
-    assert_eq!(rt; rows.as_str(), "3 rows");
-    let rows = each_block(&rt, rt.alloc(), TURNS, Kind::Turns)?;
-    assert_eq!(rt; rows.as_str(), "4 rows");
-    Ok(())
+    each_block(&rt, rt.alloc(), FAULTS, 3, &Kind::Fault)?;
+    each_block(&rt, rt.alloc(), TURNS, 4, &Kind::Turns)
 }

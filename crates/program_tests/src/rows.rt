@@ -3,7 +3,6 @@ use crate::commands::put_length;
 use crate::decode::{put_changed, put_decoded};
 use crate::device::put_device;
 use crate::gates::put_held;
-use crate::hearing::{put_heard, put_repeated};
 use crate::limits::put_long;
 use crate::live::put_live;
 use crate::outside::{put_fault, put_turns};
@@ -15,7 +14,7 @@ use std::test::Fail;
 use std::thread::Threads;
 
 /// What is asked of an input, each as its module says.
-#[derive(Clone, Copy)]
+#[derive(Drop)]
 pub(crate) enum Kind {
     Lines,
     OpenLines,
@@ -31,24 +30,22 @@ pub(crate) enum Kind {
     Held,
     Live,
     Device,
-    Heard,
-    Repeated,
     Job,
 }
 
 fn put_answer<R: Threads + Wait + Sync>(
     rt: &R,
     alloc: Global,
-    kind: Kind,
+    kind: &Kind,
     row: &str,
     out: &mut String,
 ) -> Result<(), Fail> {
     match kind {
-        Kind::Lines => put_row(rt, alloc, row, Told::Lines, "\n", out),
-        Kind::OpenLines => put_row(rt, alloc, row, Told::Lines, "", out),
-        Kind::Digits => put_row(rt, alloc, row, Told::Digits, "\n", out),
-        Kind::Account => put_row(rt, alloc, row, Told::Account, "\n", out),
-        Kind::OpenAccount => put_row(rt, alloc, row, Told::Account, "", out),
+        Kind::Lines => put_row(rt, alloc, row, &Told::Lines, "\n", out),
+        Kind::OpenLines => put_row(rt, alloc, row, &Told::Lines, "", out),
+        Kind::Digits => put_row(rt, alloc, row, &Told::Digits, "\n", out),
+        Kind::Account => put_row(rt, alloc, row, &Told::Account, "\n", out),
+        Kind::OpenAccount => put_row(rt, alloc, row, &Told::Account, "", out),
         Kind::Length => put_length(rt, alloc, row, out),
         Kind::Decoded => put_decoded(rt, alloc, row, out),
         Kind::Changed => put_changed(rt, alloc, row, out),
@@ -58,8 +55,6 @@ fn put_answer<R: Threads + Wait + Sync>(
         Kind::Held => put_held(rt, alloc, row, out),
         Kind::Live => put_live(rt, alloc, row, out),
         Kind::Device => put_device(rt, alloc, row, out),
-        Kind::Heard => put_heard(alloc, row, out),
-        Kind::Repeated => put_repeated(alloc, row, out),
         Kind::Job => put_words(alloc, row, out),
     }
 }
@@ -70,9 +65,10 @@ fn each_row<R: Threads + Wait + Sync>(
     rows: &str,
     between: &str,
     mark: &str,
-    kind: Kind,
-) -> Result<String, Fail> {
-    test_rows::each_row(alloc, rows, between, mark, |alloc, row, out| {
+    count: usize,
+    kind: &Kind,
+) -> Result<(), Fail> {
+    test_rows::each_row(alloc, rows, between, mark, count, |alloc, row, out| {
         put_answer(rt, alloc, kind, row, out)
     })
 }
@@ -82,9 +78,10 @@ pub(crate) fn each_line<R: Threads + Wait + Sync>(
     rt: &R,
     alloc: Global,
     lines: &str,
-    kind: Kind,
-) -> Result<String, Fail> {
-    each_row(rt, alloc, lines, "\n", " = ", kind)
+    count: usize,
+    kind: &Kind,
+) -> Result<(), Fail> {
+    each_row(rt, alloc, lines, "\n", " = ", count, kind)
 }
 
 /// Asks for the answers of blocks, as `test_rows::each_block` does.
@@ -92,7 +89,8 @@ pub(crate) fn each_block<R: Threads + Wait + Sync>(
     rt: &R,
     alloc: Global,
     blocks: &str,
-    kind: Kind,
-) -> Result<String, Fail> {
-    each_row(rt, alloc, blocks, "\n\n", "\n=\n", kind)
+    count: usize,
+    kind: &Kind,
+) -> Result<(), Fail> {
+    each_row(rt, alloc, blocks, "\n\n", "\n=\n", count, kind)
 }

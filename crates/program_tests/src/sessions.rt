@@ -10,6 +10,7 @@ use std::fmt::Write;
 use std::sync::Wait;
 use std::test::Fail;
 use std::thread::Threads;
+use test_rows::put_str;
 
 /// What stands in front of the first mark and what stands behind it; the whole text and nothing where there is no mark.
 pub(crate) fn parted(text: &str, mark: char) -> (&str, &str) {
@@ -28,20 +29,15 @@ pub(crate) fn words_of(alloc: Global, line: &str) -> Result<Vec<String>, Fail> {
     Ok(words)
 }
 
-/// A source of these bytes and those behind them, which fails at the reads with these numbers.
-pub(crate) fn source_of(
-    alloc: Global,
-    bytes: &[u8],
-    end: &[u8],
-    fails: &[u8],
-) -> Result<MemSource, Fail> {
+// A source of these bytes and those behind them, which fails at the reads with these numbers.
+fn source_of(alloc: Global, bytes: &[u8], end: &[u8], fails: &[u8]) -> Result<MemSource, Fail> {
     let mut given = Bytes::from_slice(alloc, bytes)?;
     given.extend_from_slice(end)?;
     Ok(MemSource::new(given, Bytes::from_slice(alloc, fails)?))
 }
 
-/// A sink with room, which fails at the writes with these numbers.
-pub(crate) fn sink_of(alloc: Global, fails: &[u8]) -> Result<MemSink, Fail> {
+// A sink with room, which fails at the writes with these numbers.
+fn sink_of(alloc: Global, fails: &[u8]) -> Result<MemSink, Fail> {
     let fails = Bytes::from_slice(alloc, fails)?;
     let mut held = Bytes::new(alloc);
     held.reserve(1_048_576)?;
@@ -108,7 +104,7 @@ pub(crate) fn put_status(alloc: Global, outcome: &Outcome, out: &mut String) -> 
 
 fn put_text(lines: &str, out: &mut String) -> Result<(), Fail> {
     match lines.strip_suffix("\n") {
-        Some(lines) => Ok(out.push_str(lines)?),
+        Some(lines) => put_str(out, lines),
         None => Ok(write!(out, "{lines} without a newline")?),
     }
 }
@@ -121,7 +117,7 @@ fn put_written(written: &[u8], out: &mut String) -> Result<(), Fail> {
     out.push('\n')?;
     match str::from_utf8(written) {
         Ok(lines) => put_text(lines, out),
-        Err(_) => Ok(out.push_str("no text")?),
+        Err(_) => put_str(out, "no text"),
     }
 }
 
@@ -137,7 +133,7 @@ pub(crate) fn put_lines(
 }
 
 /// What is told of a session beside its status.
-#[derive(Clone, Copy)]
+#[derive(Drop)]
 pub(crate) enum Told {
     /// The lines that were written.
     Lines,
@@ -153,7 +149,7 @@ pub(crate) enum Told {
 
 fn put_told(
     alloc: Global,
-    told: Told,
+    told: &Told,
     outcome: &Outcome,
     written: &[u8],
     out: &mut String,
@@ -172,7 +168,7 @@ pub(crate) fn put_session<G: Gate + Sync, R: Threads + Wait + Sync>(
     rt: &R,
     alloc: Global,
     line: &str,
-    told: Told,
+    told: &Told,
     stage: &mut Stage,
     gate: &G,
     out: &mut String,
@@ -194,7 +190,7 @@ pub(crate) fn put_played<R: Threads + Wait + Sync>(
     rt: &R,
     alloc: Global,
     line: &str,
-    told: Told,
+    told: &Told,
     script: &str,
     end: &str,
     out: &mut String,
@@ -208,7 +204,7 @@ pub(crate) fn put_row<R: Threads + Wait + Sync>(
     rt: &R,
     alloc: Global,
     row: &str,
-    told: Told,
+    told: &Told,
     end: &str,
     out: &mut String,
 ) -> Result<(), Fail> {
@@ -219,7 +215,7 @@ pub(crate) fn put_row<R: Threads + Wait + Sync>(
 // What was written, where the status is that of no fault.
 fn copied(alloc: Global, status: u8, written: &[u8]) -> Result<Bytes, Fail> {
     if status != 0 {
-        return Err("a fault".into());
+        return Err(Fail::new("a fault"));
     }
     Ok(Bytes::from_slice(alloc, written)?)
 }

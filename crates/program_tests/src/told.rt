@@ -5,6 +5,7 @@ use defmt_run::{Event, Outcome, RingKind, Settled};
 use std::alloc::Global;
 use std::fmt::Write;
 use std::test::Fail;
+use test_rows::put_str;
 
 const EMPTY: &str = "\
 defmtl run
@@ -27,7 +28,7 @@ fn put_marks(outcome: &Outcome, out: &mut String) -> Result<(), Fail> {
     let marks = outcome.tape.len();
     write!(out, "\n{marks} marks")?;
     if marks > 0 && outcome.looks >= marks as u64 {
-        out.push_str(", at least as many looks")?;
+        put_str(out, ", at least as many looks")?;
     }
     Ok(())
 }
@@ -45,14 +46,14 @@ fn put_settled(settled: &Settled, out: &mut String) -> Result<(), Fail> {
 fn put_ring(outcome: &Outcome, out: &mut String) -> Result<(), Fail> {
     match &outcome.settled {
         Some(settled) => put_settled(settled, out),
-        None => Ok(out.push_str("\nno ring")?),
+        None => put_str(out, "\nno ring"),
     }
 }
 
 fn put_event(event: &Event, out: &mut String) -> Result<(), Fail> {
     match event {
         Event::Line { index, text } => Ok(write!(out, "\nevent {index} {}", text.as_str())?),
-        _ => Ok(out.push_str("\nanother event")?),
+        _ => put_str(out, "\nanother event"),
     }
 }
 
@@ -71,9 +72,6 @@ pub(crate) fn put_account(alloc: Global, outcome: &Outcome, out: &mut String) ->
 fn a_run_tells_its_tape_its_ring_and_its_events_and_an_empty_one_sends_nothing(
     rt: HostRuntime,
 ) -> Result<(), Fail> {
-    let rows = each_block(&rt, rt.alloc(), ACCOUNTS, Kind::Account)?;
-    assert_eq!(rt; rows.as_str(), "1 rows");
-    let rows = each_block(&rt, rt.alloc(), EMPTY, Kind::OpenAccount)?;
-    assert_eq!(rt; rows.as_str(), "1 rows");
-    Ok(())
+    each_block(&rt, rt.alloc(), ACCOUNTS, 1, &Kind::Account)?;
+    each_block(&rt, rt.alloc(), EMPTY, 1, &Kind::OpenAccount)
 }

@@ -5,6 +5,7 @@ use defmt_words::{Job, job_of};
 use std::alloc::Global;
 use std::fmt::Write;
 use std::test::Fail;
+use test_rows::put_str;
 
 const JOBS: &str = "\
 defmtl run = run
@@ -39,13 +40,13 @@ fn put_job(job: Option<Job<'_>>, out: &mut String) -> Result<(), Fail> {
         Some(Job::Generate { count }) => return Ok(write!(out, "generate {count}")?),
         None => "nothing",
     };
-    Ok(out.push_str(word)?)
+    put_str(out, word)
 }
 
 fn put_asked(alloc: Global, words: &[String], out: &mut String) -> Result<(), Fail> {
     match job_of(alloc, words) {
         Ok(job) => put_job(job, out),
-        Err(_) => Ok(out.push_str("memory")?),
+        Err(_) => put_str(out, "memory"),
     }
 }
 
@@ -56,9 +57,6 @@ pub(crate) fn put_words(alloc: Global, row: &str, out: &mut String) -> Result<()
 
 #[test]
 fn words_ask_for_their_job_and_others_for_nothing(rt: HostRuntime) -> Result<(), Fail> {
-    let rows = each_line(&rt, rt.alloc(), JOBS, Kind::Job)?;
-    assert_eq!(rt; rows.as_str(), "8 rows");
-    let rows = each_line(&rt, rt.alloc(), NO_JOBS, Kind::Job)?;
-    assert_eq!(rt; rows.as_str(), "10 rows");
-    Ok(())
+    each_line(&rt, rt.alloc(), JOBS, 8, &Kind::Job)?;
+    each_line(&rt, rt.alloc(), NO_JOBS, 10, &Kind::Job)
 }

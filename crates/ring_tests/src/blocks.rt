@@ -1,11 +1,11 @@
 //! Images, their blocks and the bytes that wait, and each refusal.
-use crate::rows::{Kind, each_block, each_line};
+use crate::rows::Kind;
 use crate::words::{parted, put_digits_or_nothing};
 use rtt_control::{Block, Cause, ControlFault, Descriptor, Descriptors, find, read, unread, write};
 use std::alloc::Global;
 use std::fmt::Write;
 use std::test::Fail;
-use test_rows::{bytes_of, put_digits};
+use test_rows::{bytes_of, each_block, each_line, put_digits, put_str};
 
 // A block with one up-descriptor, and its buffer of 16 bytes in which four wait.
 const IMAGE: &str = "\
@@ -59,7 +59,7 @@ fn image_of(alloc: Global, steps: &str) -> Result<Vec<u8>, Fail> {
 fn put_fault(fault: ControlFault, out: &mut String) -> Result<(), Fail> {
     match fault {
         ControlFault::Refused { cause, place } => Ok(write!(out, "cause {cause} at {place}")?),
-        ControlFault::Memory => Ok(out.push_str("memory")?),
+        ControlFault::Memory => put_str(out, "memory"),
     }
 }
 
@@ -88,9 +88,7 @@ pub fn put_ids(alloc: Global, steps: &str, out: &mut String) -> Result<(), Fail>
 
 #[test]
 fn the_only_id_is_found_and_else_the_image_is_refused(rt: HostRuntime) -> Result<(), Fail> {
-    let rows = each_line(rt.alloc(), IDS, Kind::Ids)?;
-    assert_eq!(rt; rows.as_str(), "6 rows");
-    Ok(())
+    each_line(rt.alloc(), IDS, 6, &Kind::Ids)
 }
 
 // Places and images, and the block there: each descriptor's name, start, size, offsets and flags, all hexadecimal.
@@ -147,9 +145,7 @@ pub fn put_blocks(alloc: Global, row: &str, out: &mut String) -> Result<(), Fail
 
 #[test]
 fn a_block_is_read_or_refused_by_its_first_fault(rt: HostRuntime) -> Result<(), Fail> {
-    let rows = each_line(rt.alloc(), BLOCKS, Kind::Blocks)?;
-    assert_eq!(rt; rows.as_str(), "11 rows");
-    Ok(())
+    each_line(rt.alloc(), BLOCKS, 11, &Kind::Blocks)
 }
 
 // The image's base and a descriptor, and the bytes that wait in its buffer.
@@ -210,9 +206,7 @@ pub fn put_waiting(alloc: Global, row: &str, out: &mut String) -> Result<(), Fai
 
 #[test]
 fn the_waiting_bytes_go_round_the_end_up_to_the_write_offset(rt: HostRuntime) -> Result<(), Fail> {
-    let rows = each_line(rt.alloc(), WAITING, Kind::Waiting)?;
-    assert_eq!(rt; rows.as_str(), "9 rows");
-    Ok(())
+    each_line(rt.alloc(), WAITING, 9, &Kind::Waiting)
 }
 
 // A place and the length of an image of bytes aa, the descriptors of the block that is written there, and the image afterwards.
@@ -267,7 +261,7 @@ fn put_image(block: &Block, len: u8, at: u32, out: &mut String) -> Result<(), Fa
             put_fault(fault, out)?;
             let same = image.iter().all(|byte| *byte == 0xaa);
             let left = if same { ", untouched" } else { ", changed" };
-            Ok(out.push_str(left)?)
+            put_str(out, left)
         }
     }
 }
@@ -283,9 +277,7 @@ pub fn put_written(alloc: Global, row: &str, out: &mut String) -> Result<(), Fai
 
 #[test]
 fn a_block_is_written_and_every_other_byte_stays(rt: HostRuntime) -> Result<(), Fail> {
-    let rows = each_block(rt.alloc(), WRITTEN, Kind::Written)?;
-    assert_eq!(rt; rows.as_str(), "3 rows");
-    Ok(())
+    each_block(rt.alloc(), WRITTEN, 3, &Kind::Written)
 }
 
 #[test]

@@ -2,18 +2,18 @@
 ghost use Rattle.std.specs.Prelude.{⊤};
 
 use crate::rings::{Plain, plain_of};
-use crate::rows::{Kind, each_line};
+use crate::rows::Kind;
 use crate::words::{parted, put_digits_or_nothing};
 use rtt_modes::{Fate, Relief, block, skip, trim};
 use rtt_ring::{DownEnd, UpEnd};
 use std::alloc::Global;
 use std::fmt::Write;
 use std::test::Fail;
-use test_rows::bytes_of;
+use test_rows::{bytes_of, each_line, expect, put_str};
 
 fn put_fate(fate: Fate, out: &mut String) -> Result<(), Fail> {
     match fate {
-        Fate::Whole => Ok(out.push_str("whole")?),
+        Fate::Whole => put_str(out, "whole"),
         Fate::Dropped { need, room } => Ok(write!(out, "dropped {need} {room}")?),
         Fate::Cut { need, room } => Ok(write!(out, "cut {need} {room}")?),
     }
@@ -60,7 +60,7 @@ fn put_step(alloc: Global, plain: &mut Plain, step: &str, out: &mut String) -> R
 fn put_steps(alloc: Global, plain: &mut Plain, steps: &str, out: &mut String) -> Result<(), Fail> {
     for one in steps.split('|') {
         put_step(alloc, plain, one, out)?;
-        out.push_str("; ")?;
+        put_str(out, "; ")?;
     }
     put_end(plain, out)
 }
@@ -71,9 +71,7 @@ pub fn put_frames(alloc: Global, steps: &str, out: &mut String) -> Result<(), Fa
 
 #[test]
 fn skip_drops_and_trim_cuts_what_does_not_fit(rt: HostRuntime) -> Result<(), Fail> {
-    let rows = each_line(rt.alloc(), FRAMES, Kind::Frames)?;
-    assert_eq!(rt; rows.as_str(), "2 rows");
-    Ok(())
+    each_line(rt.alloc(), FRAMES, 2, &Kind::Frames)
 }
 
 // Counts how often it eased.
@@ -103,6 +101,5 @@ fn block_sends_a_frame_that_fits_without_an_ease(rt: HostRuntime) -> Result<(), 
     assert_eq!(rt; relief.eases, 0);
     let mut told = String::new(rt.alloc());
     put_end(&mut plain, &mut told)?;
-    assert_eq!(rt; told.as_str(), "1 looks; 01 02 03 04 05 06 07 08 09 0a");
-    Ok(())
+    expect(told.as_str(), "1 looks; 01 02 03 04 05 06 07 08 09 0a")
 }

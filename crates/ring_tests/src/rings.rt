@@ -3,7 +3,7 @@ ghost use Rattle.std.specs.Prelude.{◌≡◌, []};
 ghost use Rattle.rtt_ring.specs.PlainView.{up_of};
 
 use crate::blocks::{put_found, put_read, put_unread};
-use crate::rows::{Kind, each_line};
+use crate::rows::Kind;
 use crate::words::{parted, put_digits_or_nothing};
 use dl_io::Bytes;
 use rtt_control::Descriptor;
@@ -17,12 +17,12 @@ use std::sync::Wait;
 use std::test::Fail;
 use std::thread;
 use std::thread::Threads;
-use test_rows::bytes_of;
+use test_rows::{bytes_of, each_line, expect, put_str};
 
 fn put_no_ring(fault: RingFault, out: &mut String) -> Result<(), Fail> {
     match fault {
-        RingFault::Size => Ok(out.push_str("size")?),
-        RingFault::Memory => Ok(out.push_str("memory")?),
+        RingFault::Size => put_str(out, "size"),
+        RingFault::Memory => put_str(out, "memory"),
     }
 }
 
@@ -43,8 +43,8 @@ fn put_size<C: Channel>(alloc: Global, size: u32, out: &mut String) -> Result<()
 // Puts the answer of another ring, where it is not the one of the plain ring.
 fn put_unlike(other: &str, out: &mut String) -> Result<(), Fail> {
     if out.as_str() != other {
-        out.push_str(", another ring: ")?;
-        out.push_str(other)?;
+        put_str(out, ", another ring: ")?;
+        put_str(out, other)?;
     }
     Ok(())
 }
@@ -71,13 +71,10 @@ pub fn put_sizes(alloc: Global, size: &str, out: &mut String) -> Result<(), Fail
 
 #[test]
 fn sizes_from_16_to_65536_are_taken(rt: HostRuntime) -> Result<(), Fail> {
-    let rows = each_line(rt.alloc(), SIZES, Kind::Sizes)?;
-    assert_eq!(rt; rows.as_str(), "4 rows");
-    Ok(())
+    each_line(rt.alloc(), SIZES, 4, &Kind::Sizes)
 }
 
 // What an upper end and then a lower end found: the room, and the bytes before and behind the publishing.
-#[derive(Clone, Copy, Drop)]
 struct Found {
     room: u32,
     before: u32,
@@ -159,8 +156,11 @@ impl<U: UpEnd, D: DownEnd> Stepped for Ends<U, D> {
 }
 
 fn put_sent<S: Stepped>(ring: &mut S, bytes: &[u8], out: &mut String) -> Result<(), Fail> {
-    let found = ring.send(bytes);
-    let (room, before, behind) = (found.room, found.before, found.behind);
+    let Found {
+        room,
+        before,
+        behind,
+    } = ring.send(bytes);
     Ok(write!(out, "room {room} found {before} {behind}")?)
 }
 
@@ -189,7 +189,7 @@ fn put_steps<S: Stepped>(
 ) -> Result<(), Fail> {
     for one in steps.split('|') {
         put_step(alloc, ring, one, out)?;
-        out.push_str("; ")?;
+        put_str(out, "; ")?;
     }
     Ok(write!(out, "{} looks", ring.looks())?)
 }
@@ -289,9 +289,7 @@ pub fn put_rings(alloc: Global, row: &str, out: &mut String) -> Result<(), Fail>
 
 #[test]
 fn bytes_go_round_the_end_of_each_ring(rt: HostRuntime) -> Result<(), Fail> {
-    let rows = each_line(rt.alloc(), STEPS, Kind::Rings)?;
-    assert_eq!(rt; rows.as_str(), "3 rows");
-    Ok(())
+    each_line(rt.alloc(), STEPS, 3, &Kind::Rings)
 }
 
 // The one descriptor of the image of a plain ring in which 15 bytes wait round the end of its buffer.
@@ -307,7 +305,7 @@ const TURNED: Descriptor = Descriptor {
 fn put_image(alloc: Global, image: &[u8], out: &mut String) -> Result<(), Fail> {
     put_found(image, out)?;
     put_read(alloc, image, 0, out)?;
-    out.push_str("; ")?;
+    put_str(out, "; ")?;
     put_unread(alloc, image, IMAGE_BASE, &TURNED, out)
 }
 
@@ -330,11 +328,10 @@ fn put_turned_image(alloc: Global, out: &mut String) -> Result<(), Fail> {
 fn the_image_tells_what_waits(rt: HostRuntime) -> Result<(), Fail> {
     let mut told = String::new(rt.alloc());
     put_turned_image(rt.alloc(), &mut told)?;
-    assert_eq!(rt;
+    expect(
         told.as_str(),
-        "found 0; up 0 20000030 10 9 a 0; 0b 0c 0d 0e 0f 15 16 17 18 19 1a 1b 1c 1d 1e"
-    );
-    Ok(())
+        "found 0; up 0 20000030 10 9 a 0; 0b 0c 0d 0e 0f 15 16 17 18 19 1a 1b 1c 1d 1e",
+    )
 }
 
 // An upper end that has nothing staged.

@@ -1,7 +1,7 @@
 //! Lists of bytes, sources, sinks and shelves.
 ghost use Rattle.std.specs.Prelude.{None};
 
-use crate::rows::{Kind, each_line};
+use crate::rows::Kind;
 use crate::words::{part, parted};
 use dl_io::{
     Bytes, DirShelf, Failed, MemShelf, MemSink, MemSource, ReadFault, RepeatSource, Shelf, Sink,
@@ -11,7 +11,7 @@ use std::alloc::Global;
 use std::fmt::Write;
 use std::test::Fail;
 use std::{io, mem, process};
-use test_rows::{bytes_of, put_digits};
+use test_rows::{bytes_of, each_line, expect, put_digits, put_str};
 
 // Steps, the list that is made first, and the list behind each: its length, bytes and room.
 const LISTS: &str = "\
@@ -21,7 +21,7 @@ of |reserve 6|reserve 4|put 01|put 02 03|add 04 05 06 07 = empty; empty, room 6;
 
 fn put_list(list: &Bytes, out: &mut String) -> Result<(), Fail> {
     if list.is_empty() {
-        out.push_str("empty")?;
+        put_str(out, "empty")?;
     } else {
         write!(out, "{}: ", list.len())?;
         put_digits(out, list.as_slice())?;
@@ -88,9 +88,7 @@ pub fn put_lists(alloc: Global, steps: &str, out: &mut String) -> Result<(), Fai
 
 #[test]
 fn a_list_and_its_room_grow_and_shrink(rt: HostRuntime) -> Result<(), Fail> {
-    let rows = each_line(rt.alloc(), LISTS, Kind::Lists)?;
-    assert_eq!(rt; rows.as_str(), "3 rows");
-    Ok(())
+    each_line(rt.alloc(), LISTS, 3, &Kind::Lists)
 }
 
 // A source that gives one byte at a time.
@@ -125,16 +123,16 @@ impl io::Read for Broken {
 // Puts the bytes as text, or `nothing`.
 fn put_plain(bytes: &[u8], out: &mut String) -> Result<(), Fail> {
     if bytes.is_empty() {
-        return Ok(out.push_str("nothing")?);
+        return put_str(out, "nothing");
     }
-    Ok(out.push_str(str::from_utf8(bytes)?)?)
+    put_str(out, str::from_utf8(bytes)?)
 }
 
 fn put_fault(fault: ReadFault, out: &mut String) -> Result<(), Fail> {
     match fault {
-        ReadFault::Failed => Ok(out.push_str("failed")?),
+        ReadFault::Failed => put_str(out, "failed"),
         ReadFault::Long { taken } => Ok(write!(out, "long {taken}")?),
-        ReadFault::Memory => Ok(out.push_str("memory")?),
+        ReadFault::Memory => put_str(out, "memory"),
     }
 }
 
@@ -172,7 +170,7 @@ fn put_reads<S: Source>(
     for limit in limits.split_whitespace() {
         let limit = limit.parse::<u32>()? as usize;
         put_input(read_all(alloc, src, limit), out)?;
-        out.push_str("; ")?;
+        put_str(out, "; ")?;
     }
     Ok(write!(out, "{} faults", src.faults())?)
 }
@@ -214,9 +212,7 @@ pub fn put_sources(alloc: Global, row: &str, out: &mut String) -> Result<(), Fai
 fn an_input_is_read_to_its_end_unless_a_read_fails_or_it_is_too_long(
     rt: HostRuntime,
 ) -> Result<(), Fail> {
-    let rows = each_line(rt.alloc(), SOURCES, Kind::Sources)?;
-    assert_eq!(rt; rows.as_str(), "7 rows");
-    Ok(())
+    each_line(rt.alloc(), SOURCES, 7, &Kind::Sources)
 }
 
 // Inputs of so many sevens, read with the limit 100,000.
@@ -241,9 +237,7 @@ pub fn put_large(alloc: Global, count: &str, out: &mut String) -> Result<(), Fai
 
 #[test]
 fn a_large_input_is_read_in_growing_pieces(rt: HostRuntime) -> Result<(), Fail> {
-    let rows = each_line(rt.alloc(), LARGE, Kind::Large)?;
-    assert_eq!(rt; rows.as_str(), "2 rows");
-    Ok(())
+    each_line(rt.alloc(), LARGE, 2, &Kind::Large)
 }
 
 // A sink that takes one byte at a time.
@@ -267,15 +261,15 @@ impl Sink for Narrow {
 
 fn put_all<K: Sink>(sink: &mut K, bytes: &[u8], out: &mut String) -> Result<(), Fail> {
     match write_all(sink, bytes) {
-        Ok(()) => Ok(out.push_str("ok")?),
-        Err(Failed) => Ok(out.push_str("failed")?),
+        Ok(()) => put_str(out, "ok"),
+        Err(Failed) => put_str(out, "failed"),
     }
 }
 
 fn put_once<K: Sink>(sink: &mut K, bytes: &[u8], out: &mut String) -> Result<(), Fail> {
     match sink.write(bytes) {
         Ok(count) => Ok(write!(out, "{count}")?),
-        Err(Failed) => Ok(out.push_str("failed")?),
+        Err(Failed) => put_str(out, "failed"),
     }
 }
 
@@ -288,7 +282,7 @@ fn put_writes<K: Sink>(sink: &mut K, steps: &str, out: &mut String) -> Result<()
         } else {
             put_once(sink, bytes.as_bytes(), out)?;
         }
-        out.push_str("; ")?;
+        put_str(out, "; ")?;
     }
     Ok(write!(out, "{} faults", sink.faults())?)
 }
@@ -311,7 +305,7 @@ fn sink(alloc: Global, room: &str, fails: &str) -> Result<MemSink, Fail> {
 }
 
 fn put_held(held: &[u8], out: &mut String) -> Result<(), Fail> {
-    out.push_str("; held ")?;
+    put_str(out, "; held ")?;
     put_plain(held, out)
 }
 
@@ -352,9 +346,7 @@ pub fn put_sinks(alloc: Global, row: &str, out: &mut String) -> Result<(), Fail>
 fn all_bytes_are_written_unless_a_write_fails_or_there_is_no_room(
     rt: HostRuntime,
 ) -> Result<(), Fail> {
-    let rows = each_line(rt.alloc(), SINKS, Kind::Sinks)?;
-    assert_eq!(rt; rows.as_str(), "5 rows");
-    Ok(())
+    each_line(rt.alloc(), SINKS, 5, &Kind::Sinks)
 }
 
 // Steps with a shelf whose call 2 is to fail: a file is put, fetched whole with a limit, or fetched from a place into three bytes.
@@ -377,7 +369,7 @@ fn put_at<F: Shelf>(shelf: &mut F, name: &str, at: &str, out: &mut String) -> Re
             write!(out, "{count}: ")?;
             put_digits(out, &buf)
         }
-        Err(Failed) => Ok(out.push_str("failed")?),
+        Err(Failed) => put_str(out, "failed"),
     }
 }
 
@@ -398,7 +390,7 @@ fn put_step(alloc: Global, shelf: &mut MemShelf, step: &str, out: &mut String) -
     match what {
         "put" => {
             put_file(alloc, shelf, name, rest)?;
-            Ok(out.push_str("put")?)
+            put_str(out, "put")
         }
         "all" => put_whole(alloc, shelf, name, rest, out),
         "at" => put_at(shelf, name, rest, out),
@@ -429,9 +421,7 @@ pub fn put_shelves(alloc: Global, steps: &str, out: &mut String) -> Result<(), F
 fn a_file_is_fetched_unless_it_is_missing_or_too_long_or_a_fetch_fails(
     rt: HostRuntime,
 ) -> Result<(), Fail> {
-    let rows = each_line(rt.alloc(), SHELVES, Kind::Shelves)?;
-    assert_eq!(rt; rows.as_str(), "5 rows");
-    Ok(())
+    each_line(rt.alloc(), SHELVES, 5, &Kind::Shelves)
 }
 
 // Writes a file of a folder, fetches it, and fetches it again when it is gone.
@@ -439,7 +429,7 @@ fn put_fetches(rt: &HostRuntime, name: &str, out: &mut String) -> Result<(), Fai
     std::fs::write(rt, name, b"hello".as_slice())?;
     let mut shelf = DirShelf::new(rt);
     put_whole(rt.alloc(), &mut shelf, name, "9", out)?;
-    out.push_str("; ")?;
+    put_str(out, "; ")?;
     std::fs::remove_file(rt, name)?;
     put_whole(rt.alloc(), &mut shelf, name, "9", out)?;
     Ok(write!(out, "; {} faults", shelf.faults())?)
@@ -450,6 +440,5 @@ fn a_folder_is_a_shelf(rt: HostRuntime) -> Result<(), Fail> {
     let name = format!(in rt.alloc(); "/tmp/dl_io-{}", process::id(rt.process()))?;
     let mut told = String::new(rt.alloc());
     put_fetches(&rt, name.as_str(), &mut told)?;
-    assert_eq!(rt; told.as_str(), "hello; failed; 1 faults");
-    Ok(())
+    expect(told.as_str(), "hello; failed; 1 faults")
 }

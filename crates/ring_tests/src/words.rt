@@ -1,6 +1,6 @@
 //! The words of rows.
 use std::test::Fail;
-use test_rows::put_digits;
+use test_rows::{put_digits, put_str};
 
 /// What stands in front of the first space and behind it, and nothing where there is no space.
 pub fn parted(text: &str) -> (&str, &str) {
@@ -13,7 +13,7 @@ pub fn parted(text: &str) -> (&str, &str) {
 /// Puts a semicolon behind what others put, if anything.
 pub fn part(out: &mut String) -> Result<(), Fail> {
     if !out.is_empty() {
-        out.push_str("; ")?;
+        put_str(out, "; ")?;
     }
     Ok(())
 }
@@ -21,7 +21,7 @@ pub fn part(out: &mut String) -> Result<(), Fail> {
 /// Puts the digits of these bytes, or `nothing`.
 pub fn put_digits_or_nothing(bytes: &[u8], out: &mut String) -> Result<(), Fail> {
     if bytes.is_empty() {
-        return Ok(out.push_str("nothing")?);
+        return put_str(out, "nothing");
     }
     put_digits(out, bytes)
 }

@@ -1,5 +1,5 @@
 // What texts of arguments read as, and how arguments are written.
-use crate::rows::{Kind, each_block, each_line};
+use crate::rows::Kind;
 use crate::texts::{inside_of, put_args, script_of};
 use defmt_grammar::Text;
 use defmt_intern::{Entry, Table, Tag};
@@ -8,6 +8,7 @@ use defmt_values::Statement;
 use std::alloc::Global;
 use std::fmt::Write;
 use std::test::Fail;
+use test_rows::{each_block, each_line, put_str};
 
 // A format string and a text of arguments; how they are written, or the cause for which they aren't read.
 const KINDS: &str = r#"{=u8} <255> = <255>
@@ -144,7 +145,7 @@ fn put_written(
     match read_args(alloc, names, table, 1, inside_of(row)?) {
         Ok(args) => put_args(alloc, names, table, &Statement { index: 1, args }, out),
         Err(ArgFault::Refused { cause }) => Ok(write!(out, "cause {cause}")?),
-        Err(ArgFault::Memory) => Ok(out.push_str("memory")?),
+        Err(ArgFault::Memory) => put_str(out, "memory"),
     }
 }
 
@@ -174,7 +175,7 @@ fn put_index(names: &Names, name: &str, out: &mut String) -> Result<(), Fail> {
     put_gap(out)?;
     match names.get(name) {
         Some(index) => Ok(write!(out, "{index}")?),
-        None => Ok(out.push_str("none")?),
+        None => put_str(out, "none"),
     }
 }
 
@@ -192,7 +193,7 @@ fn put_answer_of(
         "name" => Ok(strings.names.put(name, more.parse()?)?),
         "get" => put_index(&strings.names, name, out),
         "args" => put_written_each(alloc, &strings.names, &strings.table, rest, out),
-        _ => Err("no line".into()),
+        _ => Err(Fail::new("no line")),
     }
 }
 
@@ -215,7 +216,7 @@ fn put_by_strings(alloc: Global, strings: &str, rows: &str, out: &mut String) ->
 pub fn put_written_by_script(alloc: Global, block: &str, out: &mut String) -> Result<(), Fail> {
     match block.split_once("\nargs ") {
         Some((strings, rows)) => put_by_strings(alloc, strings, rows, out),
-        None => Err("no arguments".into()),
+        None => Err(Fail::new("no arguments")),
     }
 }
 
@@ -227,16 +228,11 @@ pub fn put_written_of_kind(alloc: Global, row: &str, out: &mut String) -> Result
 
 #[test]
 fn each_kind_has_its_spelling_and_its_causes(rt: HostRuntime) -> Result<(), Fail> {
-    let rows = each_line(rt.alloc(), KINDS, Kind::WrittenOfKind)?;
-    assert_eq!(rt; rows.as_str(), "24 rows");
-    Ok(())
+    each_line(rt.alloc(), KINDS, 24, &Kind::WrittenOfKind)
 }
 
 #[test]
 fn strings_are_found_by_their_names_and_the_least_is_written(rt: HostRuntime) -> Result<(), Fail> {
-    let rows = each_block(rt.alloc(), BY_SCRIPTS, Kind::WrittenByScript)?;
-    assert_eq!(rt; rows.as_str(), "3 rows");
-    let rows = each_block(rt.alloc(), BY_LINES, Kind::AnswersOf)?;
-    assert_eq!(rt; rows.as_str(), "2 rows");
-    Ok(())
+    each_block(rt.alloc(), BY_SCRIPTS, 3, &Kind::WrittenByScript)?;
+    each_block(rt.alloc(), BY_LINES, 2, &Kind::AnswersOf)
 }

@@ -1,5 +1,5 @@
 // The lines of scripts: where they are cut, what each says, and what the first lines set.
-use crate::rows::{Kind, each_line};
+use crate::rows::Kind;
 use crate::texts::{inside_of, put_digits_or_nothing, put_settings};
 use defmt_intern::Tag;
 use defmt_lines::{
@@ -9,7 +9,7 @@ use defmt_shapes::is_name;
 use std::alloc::Global;
 use std::fmt::Write;
 use std::test::Fail;
-use test_rows::bytes_of;
+use test_rows::{bytes_of, each_line, put_str};
 
 // A text; its first line, and what comes after it.
 const CUTS: &str = "\
@@ -68,11 +68,11 @@ a_1 = true
 
 fn put_parts(text: &[u8], out: &mut String) -> Result<(), Fail> {
     if text.is_empty() {
-        return Err("no text".into());
+        return Err(Fail::new("no text"));
     }
     let (line, rest) = next_line(text);
     put_digits_or_nothing(out, line)?;
-    out.push_str(" | ")?;
+    put_str(out, " | ")?;
     put_digits_or_nothing(out, rest)
 }
 
@@ -115,11 +115,11 @@ fn put_action(form: Form, line: &ActionLine<'_>, out: &mut String) -> Result<(),
 
 fn put_said(line: &Line<'_>, out: &mut String) -> Result<(), Fail> {
     match line {
-        Line::Blank => Ok(out.push_str("blank")?),
+        Line::Blank => put_str(out, "blank"),
         Line::Head(form, words) => put_words(*form, words, out),
         Line::Entry(entry) => put_entry(entry, out),
         Line::Act(form, line) => put_action(*form, line, out),
-        Line::Other => Ok(out.push_str("other")?),
+        Line::Other => put_str(out, "other"),
     }
 }
 
@@ -144,7 +144,7 @@ pub fn put_setting(row: &str, out: &mut String) -> Result<(), Fail> {
     match set_by(read_line(inside_of(row)?.as_bytes())) {
         Some(Ok(set)) => put_settings(set.ring, set.mode, set.late, set.stamp, out),
         Some(Err(cause)) => Ok(write!(out, "cause {}", cause.number())?),
-        None => Ok(out.push_str("no setting")?),
+        None => put_str(out, "no setting"),
     }
 }
 
@@ -157,44 +157,34 @@ pub fn put_verdict(alloc: Global, row: &str, out: &mut String) -> Result<(), Fai
     let (tag, text) = row.split_once(' ').unwrap_or((row, ""));
     match verdict_of(alloc, tag, text)? {
         Some(number) => Ok(write!(out, "refused {number}")?),
-        None => Ok(out.push_str("taken")?),
+        None => put_str(out, "taken"),
     }
 }
 
 pub fn put_name(row: &str, out: &mut String) -> Result<(), Fail> {
-    Ok(out.push_str(if is_name(row) { "true" } else { "false" })?)
+    put_str(out, if is_name(row) { "true" } else { "false" })
 }
 
 #[test]
 fn a_carriage_return_is_passed_over_before_a_newline_alone(rt: HostRuntime) -> Result<(), Fail> {
-    let rows = each_line(rt.alloc(), CUTS, Kind::CutOf)?;
-    assert_eq!(rt; rows.as_str(), "2 rows");
-    Ok(())
+    each_line(rt.alloc(), CUTS, 2, &Kind::CutOf)
 }
 
 #[test]
 fn lines_are_cut_at_every_space_where_they_are_texts(rt: HostRuntime) -> Result<(), Fail> {
-    let rows = each_line(rt.alloc(), LINES, Kind::SaidByText)?;
-    assert_eq!(rt; rows.as_str(), "18 rows");
-    let rows = each_line(rt.alloc(), BYTES, Kind::SaidByBytes)?;
-    assert_eq!(rt; rows.as_str(), "1 rows");
-    Ok(())
+    each_line(rt.alloc(), LINES, 18, &Kind::SaidByText)?;
+    each_line(rt.alloc(), BYTES, 1, &Kind::SaidByBytes)
 }
 
 #[test]
 fn settings_are_decimal_numbers_and_words(rt: HostRuntime) -> Result<(), Fail> {
-    let rows = each_line(rt.alloc(), SETTINGS, Kind::SettingOf)?;
-    assert_eq!(rt; rows.as_str(), "10 rows");
-    Ok(())
+    each_line(rt.alloc(), SETTINGS, 10, &Kind::SettingOf)
 }
 
 #[test]
 fn a_text_is_read_by_its_tag_and_a_name_begins_with_a_letter(rt: HostRuntime) -> Result<(), Fail> {
-    let rows = each_line(rt.alloc(), TEXTS, Kind::VerdictOf)?;
-    assert_eq!(rt; rows.as_str(), "5 rows");
-    let rows = each_line(rt.alloc(), NAMES, Kind::NameOf)?;
-    assert_eq!(rt; rows.as_str(), "2 rows");
-    Ok(())
+    each_line(rt.alloc(), TEXTS, 5, &Kind::VerdictOf)?;
+    each_line(rt.alloc(), NAMES, 2, &Kind::NameOf)
 }
 
 #[test]

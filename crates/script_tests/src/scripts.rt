@@ -1,11 +1,12 @@
 // What scripts say, and the first line for which a text is none.
-use crate::rows::{Kind, each_line};
+use crate::rows::Kind;
 use crate::texts::{put_args, put_settings, script_of};
 use defmt_intern::Entry;
 use defmt_script::{Script, ScriptFault, read};
 use std::alloc::Global;
 use std::fmt::Write;
 use std::test::Fail;
+use test_rows::{each_line, expect, put_str};
 
 const FULL: &str =
     "ring 64\nmode skip\nreader late\nstamp 1000 250\ns a defmt_info a {=u8}\r\n\ns b defmt_warn b {=bool}\n# note\nw 0 a 1\nw 1 b true\nw 0 a 2\nw 1 b false";
@@ -74,7 +75,7 @@ fn put_string(script: &Script, index: u16, out: &mut String) -> Result<(), Fail>
     write!(out, "{name} = {back}: ")?;
     match script.table().get(index) {
         Some(entry) => put_entry(entry, out),
-        None => Ok(out.push_str("no entry\n")?),
+        None => put_str(out, "no entry\n"),
     }
 }
 
@@ -140,7 +141,7 @@ fn put_lines(row: &str, text: &mut String) -> Result<(), Fail> {
         if !first {
             text.push('\n')?;
         }
-        text.push_str(line)?;
+        put_str(text, line)?;
         first = false;
     }
     Ok(())
@@ -169,16 +170,16 @@ fn put_fault(fault: &ScriptFault, out: &mut String) -> Result<(), Fail> {
         ScriptFault::Refused { line, cause, inner } => {
             Ok(write!(out, "line {line} cause {cause} inner {inner}")?)
         }
-        ScriptFault::Memory => Ok(out.push_str("memory")?),
+        ScriptFault::Memory => put_str(out, "memory"),
     }
 }
 
 fn put_verdict(alloc: Global, text: &str, out: &mut String) -> Result<(), Fail> {
     if text.len() > 100_000 {
-        return Err("long".into());
+        return Err(Fail::new("long"));
     }
     match read(alloc, text.as_bytes()) {
-        Ok(_) => Ok(out.push_str("read")?),
+        Ok(_) => put_str(out, "read"),
         Err(fault) => put_fault(&fault, out),
     }
 }
@@ -198,19 +199,15 @@ pub fn put_refusal_at_limit(alloc: Global, row: &str, out: &mut String) -> Resul
 #[test]
 fn a_script_has_what_its_lines_say_and_defaults(rt: HostRuntime) -> Result<(), Fail> {
     let told = said(rt.alloc(), FULL)?;
-    assert_eq!(rt; told.as_str(), FULL_SAYS);
+    expect(told.as_str(), FULL_SAYS)?;
     let told = said(rt.alloc(), PLAIN)?;
-    assert_eq!(rt; told.as_str(), PLAIN_SAYS);
-    Ok(())
+    expect(told.as_str(), PLAIN_SAYS)
 }
 
 #[test]
 fn the_first_refused_line_is_told_with_its_first_cause_and_texts_have_limits(
     rt: HostRuntime,
 ) -> Result<(), Fail> {
-    let rows = each_line(rt.alloc(), REFUSALS, Kind::RefusalOf)?;
-    assert_eq!(rt; rows.as_str(), "17 rows");
-    let rows = each_line(rt.alloc(), LIMITS, Kind::RefusalAtLimit)?;
-    assert_eq!(rt; rows.as_str(), "11 rows");
-    Ok(())
+    each_line(rt.alloc(), REFUSALS, 17, &Kind::RefusalOf)?;
+    each_line(rt.alloc(), LIMITS, 11, &Kind::RefusalAtLimit)
 }

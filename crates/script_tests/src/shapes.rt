@@ -1,5 +1,5 @@
 // What texts spell as values and as items, without any table.
-use crate::rows::{Kind, each_line};
+use crate::rows::Kind;
 use crate::texts::{inside_of, put_digits_or_nothing};
 use defmt_shapes::{
     Item, Number, Spelling, bytes_of, first_item, first_value, skip_spaces, unescape,
@@ -7,6 +7,7 @@ use defmt_shapes::{
 use std::alloc::Global;
 use std::fmt::Write;
 use std::test::Fail;
+use test_rows::{each_line, put_str};
 
 // What a text spells first, and how many bytes stand behind that.
 const VALUES: &str = r#"<7 8> = decimal 7, behind 2
@@ -61,19 +62,19 @@ const DEEP: &str = "\
 fn put_number(number: Number, out: &mut String) -> Result<(), Fail> {
     match number {
         Number::Within(number) => Ok(write!(out, "{number}")?),
-        Number::Above => Ok(out.push_str("above")?),
+        Number::Above => put_str(out, "above"),
     }
 }
 
 fn put_variant(variant: Option<Number>, out: &mut String) -> Result<(), Fail> {
     match variant {
         Some(number) => put_number(number, out),
-        None => Ok(out.push_str("no variant")?),
+        None => put_str(out, "no variant"),
     }
 }
 
 fn put_numbered(word: &str, number: Number, out: &mut String) -> Result<(), Fail> {
-    out.push_str(word)?;
+    put_str(out, word)?;
     put_number(number, out)
 }
 
@@ -103,7 +104,7 @@ fn put_spelling(spelling: Spelling<'_>, out: &mut String) -> Result<(), Fail> {
             variant,
             inside,
         } => put_call(name, variant, inside, out),
-        Spelling::Empty => Ok(out.push_str("empty")?),
+        Spelling::Empty => put_str(out, "empty"),
         Spelling::Sequence { name, inside } => Ok(write!(out, "sequence {name} [{inside}]")?),
     }
 }
@@ -114,7 +115,7 @@ pub fn put_value(alloc: Global, row: &str, out: &mut String) -> Result<(), Fail>
             put_spelling(spelling, out)?;
             Ok(write!(out, ", behind {}", rest.len())?)
         }
-        None => Ok(out.push_str("none")?),
+        None => put_str(out, "none"),
     }
 }
 
@@ -124,7 +125,7 @@ pub fn put_item(alloc: Global, text: &str, out: &mut String) -> Result<(), Fail>
             put_variant(variant, out)?;
             Ok(write!(out, " ({inside}), behind {}", rest.len())?)
         }
-        None => Ok(out.push_str("none")?),
+        None => put_str(out, "none"),
     }
 }
 
@@ -146,7 +147,7 @@ pub fn put_behind_spaces(row: &str, out: &mut String) -> Result<(), Fail> {
 // So many calls that are opened, and so many that are closed.
 fn put_calls(opened: u32, closed: u32, text: &mut String) -> Result<(), Fail> {
     for _ in 0..opened {
-        text.push_str("k(")?;
+        put_str(text, "k(")?;
     }
     for _ in 0..closed {
         text.push(')')?;
@@ -157,7 +158,7 @@ fn put_calls(opened: u32, closed: u32, text: &mut String) -> Result<(), Fail> {
 fn put_behind(alloc: Global, text: &str, out: &mut String) -> Result<(), Fail> {
     match first_value(alloc, text)? {
         Some((_, rest)) => Ok(write!(out, "behind {}", rest.len())?),
-        None => Ok(out.push_str("none")?),
+        None => put_str(out, "none"),
     }
 }
 
@@ -174,27 +175,18 @@ pub fn put_behind_calls(alloc: Global, row: &str, out: &mut String) -> Result<()
 fn texts_spell_values_or_none_and_deep_brackets_are_closed_one_by_one(
     rt: HostRuntime,
 ) -> Result<(), Fail> {
-    let rows = each_line(rt.alloc(), VALUES, Kind::ValueOf)?;
-    assert_eq!(rt; rows.as_str(), "31 rows");
-    let rows = each_line(rt.alloc(), DEEP, Kind::BehindCalls)?;
-    assert_eq!(rt; rows.as_str(), "2 rows");
-    Ok(())
+    each_line(rt.alloc(), VALUES, 31, &Kind::ValueOf)?;
+    each_line(rt.alloc(), DEEP, 2, &Kind::BehindCalls)
 }
 
 #[test]
 fn an_item_has_a_variant_and_spaces_in_front_are_passed_over(rt: HostRuntime) -> Result<(), Fail> {
-    let rows = each_line(rt.alloc(), ITEMS, Kind::ItemOf)?;
-    assert_eq!(rt; rows.as_str(), "1 rows");
-    let rows = each_line(rt.alloc(), SPACES, Kind::BehindSpaces)?;
-    assert_eq!(rt; rows.as_str(), "1 rows");
-    Ok(())
+    each_line(rt.alloc(), ITEMS, 1, &Kind::ItemOf)?;
+    each_line(rt.alloc(), SPACES, 1, &Kind::BehindSpaces)
 }
 
 #[test]
 fn escapes_and_digits_have_a_meaning(rt: HostRuntime) -> Result<(), Fail> {
-    let rows = each_line(rt.alloc(), ESCAPES, Kind::MeaningOf)?;
-    assert_eq!(rt; rows.as_str(), "1 rows");
-    let rows = each_line(rt.alloc(), DIGITS, Kind::BytesMeant)?;
-    assert_eq!(rt; rows.as_str(), "1 rows");
-    Ok(())
+    each_line(rt.alloc(), ESCAPES, 1, &Kind::MeaningOf)?;
+    each_line(rt.alloc(), DIGITS, 1, &Kind::BytesMeant)
 }

@@ -7,23 +7,23 @@ use defmt_values::Statement;
 use std::alloc::Global;
 use std::fmt::Write;
 use std::test::Fail;
-use test_rows::put_digits;
+use test_rows::{put_digits, put_str};
 
 /// What stands between the brackets.
 pub fn inside_of(text: &str) -> Result<&str, Fail> {
     let Some(rest) = text.strip_prefix('<') else {
-        return Err("no bracket".into());
+        return Err(Fail::new("no bracket"));
     };
     match rest.strip_suffix('>') {
         Some(inside) => Ok(inside),
-        None => Err("no bracket".into()),
+        None => Err(Fail::new("no bracket")),
     }
 }
 
 /// Puts the digits of bytes, `nothing` where there are none.
 pub fn put_digits_or_nothing(out: &mut String, bytes: &[u8]) -> Result<(), Fail> {
     if bytes.is_empty() {
-        return Ok(out.push_str("nothing")?);
+        return put_str(out, "nothing");
     }
     put_digits(out, bytes)
 }
@@ -31,7 +31,7 @@ pub fn put_digits_or_nothing(out: &mut String, bytes: &[u8]) -> Result<(), Fail>
 /// The script of a text.
 pub fn script_of(alloc: Global, text: &str) -> Result<Script, Fail> {
     if text.len() > 100_000 {
-        return Err("long".into());
+        return Err(Fail::new("long"));
     }
     Ok(read(alloc, text.as_bytes())?)
 }

@@ -5,4 +5,4 @@ mod digits;
 mod rows;
 
 pub use digits::{bytes_of, put_digits};
-pub use rows::{Question, each_block, each_line, each_row};
+pub use rows::{Question, each_block, each_line, each_row, expect, put_str};

@@ -2,7 +2,7 @@
 ghost use Rattle.std.specs.Prelude.{OnOk};
 ghost use Rattle.defmt_values.specs.Fits.{IsLogged};
 
-use crate::rows::{Kind, each_block, each_line};
+use crate::rows::Kind;
 use crate::shared::{script_of, table_of};
 use defmt_eager::{EagerFault, is_wide, line, text_of};
 use defmt_grammar::Text;
@@ -13,6 +13,7 @@ use dl_io::Bytes;
 use std::alloc::Global;
 use std::fmt::Write;
 use std::test::Fail;
+use test_rows::{each_block, each_line, expect, put_str};
 
 const TEXTS: &str = r#"{=u8:#04x} {0=u8:b}, 10 = 0x0a 1010
 {0=0..4} {0=8..12:#b}, 0x0a05 = 5 0b1010
@@ -91,7 +92,7 @@ fn told(text: &Result<Text, EagerFault>) -> &str {
 }
 
 fn put_told(text: &Result<Text, EagerFault>, out: &mut String) -> Result<(), Fail> {
-    Ok(out.push_str(told(text))?)
+    put_str(out, told(text))
 }
 
 // Puts the line of a statement, with a stamp of these arguments where the table has a timestamp's entry.
@@ -198,28 +199,22 @@ fn put_bare_line(alloc: Global, count: u16, out: &mut String) -> Result<(), Fail
 
 #[test]
 fn values_print_under_their_hints_and_lists_between_brackets(rt: HostRuntime) -> Result<(), Fail> {
-    let rows = each_line(rt.alloc(), TEXTS, Kind::EagerShown)?;
-    assert_eq!(rt; rows.as_str(), "15 rows");
-    Ok(())
+    each_line(rt.alloc(), TEXTS, 15, &Kind::EagerShown)
 }
 
 #[test]
 fn lines_take_hints_inwards_and_stamps_in_front_of_levels_alone(
     rt: HostRuntime,
 ) -> Result<(), Fail> {
-    let rows = each_block(rt.alloc(), LINES, Kind::LineIn)?;
-    assert_eq!(rt; rows.as_str(), "5 rows");
-    Ok(())
+    each_block(rt.alloc(), LINES, 5, &Kind::LineIn)
 }
 
 #[test]
 fn texts_of_too_many_bytes_are_wide_and_a_stamp_refuses_a_line_that_does_not_show_it(
     rt: HostRuntime,
 ) -> Result<(), Fail> {
-    let rows = each_line(rt.alloc(), WIDE, Kind::LengthFor)?;
-    assert_eq!(rt; rows.as_str(), "3 rows");
+    each_line(rt.alloc(), WIDE, 3, &Kind::LengthFor)?;
     let mut line = String::new(rt.alloc());
     put_bare_line(rt.alloc(), 256, &mut line)?;
-    assert_eq!(rt; line.as_str(), "wide");
-    Ok(())
+    expect(line.as_str(), "wide")
 }

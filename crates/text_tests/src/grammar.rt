@@ -1,10 +1,11 @@
 // Format strings: their refusals, spellings, pieces and slots.
-use crate::rows::{Kind, each_line};
+use crate::rows::Kind;
 use crate::shared::pieces_of;
 use defmt_grammar::{Cause, GrammarFault, Mode, Piece, Pieces, Slot, Text, print};
 use std::alloc::Global;
 use std::fmt::Write;
 use std::test::Fail;
+use test_rows::{each_line, expect, put_str};
 
 const REFUSALS: &str = "\
 strict { = cause 1 at 0
@@ -135,7 +136,7 @@ const USES: &str = "\
 x{{y{=u16:#06X}{0=u16}}} = 2 0 0 0";
 
 fn put_print(alloc: Global, pieces: &Pieces, out: &mut String) -> Result<(), Fail> {
-    Ok(out.push_str(print(alloc, pieces)?.as_str())?)
+    put_str(out, print(alloc, pieces)?.as_str())
 }
 
 // Puts the canonical spelling of a text's pieces, or where it is refused.
@@ -143,7 +144,7 @@ fn put_spelling_in(alloc: Global, text: &str, mode: Mode, out: &mut String) -> R
     match pieces_of(alloc, text, mode) {
         Ok(pieces) => put_print(alloc, &pieces, out),
         Err(GrammarFault::Refused { cause, at }) => Ok(write!(out, "cause {cause} at {at}")?),
-        Err(GrammarFault::Memory) => Ok(out.push_str("memory")?),
+        Err(GrammarFault::Memory) => put_str(out, "memory"),
     }
 }
 
@@ -156,7 +157,7 @@ pub fn put_spelling(alloc: Global, input: &str, out: &mut String) -> Result<(), 
     };
     put_spelling_in(alloc, text, mode, out)?;
     if out.is_empty() {
-        out.push_str("nothing")?;
+        put_str(out, "nothing")?;
     }
     Ok(())
 }
@@ -182,7 +183,7 @@ fn put_piece(piece: &Piece, out: &mut String) -> Result<(), Fail> {
 fn put_list(pieces: &[Piece], out: &mut String) -> Result<(), Fail> {
     let mut gap = "";
     for piece in pieces {
-        out.push_str(gap)?;
+        put_str(out, gap)?;
         put_piece(piece, out)?;
         gap = ", ";
     }
@@ -226,24 +227,17 @@ pub fn put_uses(alloc: Global, text: &str, out: &mut String) -> Result<(), Fail>
 fn the_first_fault_counts_with_its_place_and_the_canonical_spelling_is_printed(
     rt: HostRuntime,
 ) -> Result<(), Fail> {
-    let rows = each_line(rt.alloc(), REFUSALS, Kind::SpellingOf)?;
-    assert_eq!(rt; rows.as_str(), "51 rows");
-    let rows = each_line(rt.alloc(), SPELLINGS, Kind::SpellingOf)?;
-    assert_eq!(rt; rows.as_str(), "33 rows");
-    Ok(())
+    each_line(rt.alloc(), REFUSALS, 51, &Kind::SpellingOf)?;
+    each_line(rt.alloc(), SPELLINGS, 33, &Kind::SpellingOf)
 }
 
 #[test]
 fn pieces_tell_literals_and_parameters_and_each_position_its_slot_and_uses(
     rt: HostRuntime,
 ) -> Result<(), Fail> {
-    let rows = each_line(rt.alloc(), PIECES, Kind::PiecesText)?;
-    assert_eq!(rt; rows.as_str(), "1 rows");
-    let rows = each_line(rt.alloc(), SLOTS, Kind::SlotsText)?;
-    assert_eq!(rt; rows.as_str(), "31 rows");
-    let rows = each_line(rt.alloc(), USES, Kind::UsesText)?;
-    assert_eq!(rt; rows.as_str(), "2 rows");
-    Ok(())
+    each_line(rt.alloc(), PIECES, 1, &Kind::PiecesText)?;
+    each_line(rt.alloc(), SLOTS, 31, &Kind::SlotsText)?;
+    each_line(rt.alloc(), USES, 2, &Kind::UsesText)
 }
 
 // Puts what a text tells of itself while it grows.
@@ -260,8 +254,7 @@ fn put_grown(alloc: Global, out: &mut String) -> Result<(), Fail> {
 fn a_text_grows_and_gives_its_string_back(rt: HostRuntime) -> Result<(), Fail> {
     let mut told = String::new(rt.alloc());
     put_grown(rt.alloc(), &mut told)?;
-    assert_eq!(rt; told.as_str(), "true, then 4 bytes, éab");
-    Ok(())
+    expect(told.as_str(), "true, then 4 bytes, éab")
 }
 
 #[test]

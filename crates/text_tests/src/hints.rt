@@ -1,5 +1,5 @@
 // Values under their hints: a format string and its arguments as a script spells them, and the text.
-use crate::rows::{self, each_line};
+use crate::rows;
 use crate::shared::{put_visible, script_of};
 use defmt_grammar::{Base, Hint, Kind, Memory, Param, Piece, Text};
 use defmt_hints::{show_bool, show_bytes, show_char, show_int, show_str, show_uint};
@@ -9,6 +9,7 @@ use defmt_values::{Args, Value, is_signed, size_bits};
 use std::alloc::Global;
 use std::fmt::Write;
 use std::test::Fail;
+use test_rows::each_line;
 
 const NUMBERS: &str = "\
 {=u128} 340282366920938463463374607431768211455 = 340282366920938463463374607431768211455
@@ -160,18 +161,13 @@ pub fn put_filled(alloc: Global, input: &str, out: &mut String) -> Result<(), Fa
 fn numbers_follow_their_hint_in_their_own_width_and_every_width_is_filled(
     rt: HostRuntime,
 ) -> Result<(), Fail> {
-    let rows = each_line(rt.alloc(), NUMBERS, rows::Kind::HintShown)?;
-    assert_eq!(rt; rows.as_str(), "27 rows");
-    let rows = each_line(rt.alloc(), WIDTHS, rows::Kind::Filled)?;
-    assert_eq!(rt; rows.as_str(), "2 rows");
-    Ok(())
+    each_line(rt.alloc(), NUMBERS, 27, &rows::Kind::HintShown)?;
+    each_line(rt.alloc(), WIDTHS, 2, &rows::Kind::Filled)
 }
 
 #[test]
 fn texts_are_quoted_for_debugging_alone_and_bytes_a_list_or_a_byte_text(
     rt: HostRuntime,
 ) -> Result<(), Fail> {
-    let rows = each_line(rt.alloc(), TEXTS, rows::Kind::HintShown)?;
-    assert_eq!(rt; rows.as_str(), "21 rows");
-    Ok(())
+    each_line(rt.alloc(), TEXTS, 21, &rows::Kind::HintShown)
 }

@@ -1,5 +1,5 @@
 // Tables, what their texts stand for, and symbol names.
-use crate::rows::{self, each_block, each_line};
+use crate::rows;
 use crate::shared::{entry_of, pieces_of, put, put_visible, table_of};
 use defmt_grammar::{Kind, Mode, Param, Piece, Text};
 use defmt_intern::{
@@ -9,7 +9,7 @@ use defmt_intern::{
 use std::alloc::Global;
 use std::fmt::Write;
 use std::test::Fail;
-use test_rows::bytes_of;
+use test_rows::{bytes_of, each_block, each_line, expect, put_str};
 
 const ENTRIES: &str = "\
 - defmt_info a*5
@@ -89,7 +89,7 @@ fn put_entry(alloc: Global, table: &mut Table, line: &str, out: &mut String) -> 
     match put(alloc, table, line)? {
         Ok(index) => write!(out, "at {index}")?,
         Err(TableFault::Refused { cause }) => write!(out, "cause {cause}")?,
-        Err(TableFault::Memory) => out.push_str("memory")?,
+        Err(TableFault::Memory) => put_str(out, "memory")?,
     }
     Ok(write!(out, ", stamp {:?}\n", table.stamp())?)
 }
@@ -132,17 +132,20 @@ fn kind_text(param: &Param) -> &'static str {
 // Puts the literals of some pieces, and the kinds of the parameters.
 fn put_shape(pieces: &[Piece], out: &mut String) -> Result<(), Fail> {
     for piece in pieces {
-        out.push_str(match piece {
-            Piece::Literal(text) => text.as_str(),
-            Piece::Param(param) => kind_text(param),
-        })?;
+        put_str(
+            out,
+            match piece {
+                Piece::Literal(text) => text.as_str(),
+                Piece::Param(param) => kind_text(param),
+            },
+        )?;
     }
     Ok(())
 }
 
 fn put_forms(forms: &Forms, out: &mut String) -> Result<(), Fail> {
     for pieces in forms.as_slice() {
-        out.push_str("|")?;
+        put_str(out, "|")?;
         put_shape(pieces.as_slice(), out)?;
     }
     Ok(())
@@ -151,9 +154,9 @@ fn put_forms(forms: &Forms, out: &mut String) -> Result<(), Fail> {
 // Puts what a text stands for, with `|` in front of each variant.
 fn put_body(parsed: Option<&Parsed>, out: &mut String) -> Result<(), Fail> {
     match parsed {
-        None => Ok(out.push_str("nothing")?),
-        Some(Parsed::Unsupported) => Ok(out.push_str("unsupported")?),
-        Some(Parsed::Raw) => Ok(out.push_str("raw")?),
+        None => put_str(out, "nothing"),
+        Some(Parsed::Unsupported) => put_str(out, "unsupported"),
+        Some(Parsed::Raw) => put_str(out, "raw"),
         Some(Parsed::One(pieces)) => put_shape(pieces.as_slice(), out),
         Some(Parsed::Variants(forms)) => put_forms(forms, out),
     }
@@ -273,7 +276,7 @@ fn fault_text(fault: NameFault) -> &'static str {
 fn put_read(alloc: Global, name: &[u8], out: &mut String) -> Result<(), Fail> {
     match read_name(alloc, name) {
         Ok(entry) => put_read_entry(&entry, out),
-        Err(fault) => Ok(out.push_str(fault_text(fault))?),
+        Err(fault) => put_str(out, fault_text(fault)),
     }
 }
 
@@ -289,20 +292,15 @@ pub fn put_name_text(alloc: Global, input: &str, out: &mut String) -> Result<(),
 fn entries_are_put_behind_the_greatest_index_and_refusals_leave_the_table(
     rt: HostRuntime,
 ) -> Result<(), Fail> {
-    let rows = each_block(rt.alloc(), ENTRIES, rows::Kind::Answers)?;
-    assert_eq!(rt; rows.as_str(), "1 rows");
-    Ok(())
+    each_block(rt.alloc(), ENTRIES, 1, &rows::Kind::Answers)
 }
 
 #[test]
 fn texts_are_parsed_by_their_tags_and_variants_listed_up_to_255(
     rt: HostRuntime,
 ) -> Result<(), Fail> {
-    let rows = each_line(rt.alloc(), PARSED, rows::Kind::ParsedText)?;
-    assert_eq!(rt; rows.as_str(), "10 rows");
-    let rows = each_line(rt.alloc(), VARIANTS, rows::Kind::CountOfVariants)?;
-    assert_eq!(rt; rows.as_str(), "3 rows");
-    Ok(())
+    each_line(rt.alloc(), PARSED, 10, &rows::Kind::ParsedText)?;
+    each_line(rt.alloc(), VARIANTS, 3, &rows::Kind::CountOfVariants)
 }
 
 #[test]
@@ -311,20 +309,16 @@ fn variants_are_pushed_and_a_copy_has_the_same_entries_in_order(
 ) -> Result<(), Fail> {
     let mut form = String::new(rt.alloc());
     put_pushed(rt.alloc(), &mut form)?;
-    assert_eq!(rt; form.as_str(), "|b <uint>");
+    expect(form.as_str(), "|b <uint>")?;
     let mut copy = String::new(rt.alloc());
     put_copied(rt.alloc(), COPIED, &mut copy)?;
-    assert_eq!(rt; copy.as_str(), IN_THE_COPY);
-    Ok(())
+    expect(copy.as_str(), IN_THE_COPY)
 }
 
 #[test]
 fn names_are_compact_json_and_read_or_refused_and_the_last_of_equal_keys_counts(
     rt: HostRuntime,
 ) -> Result<(), Fail> {
-    let rows = each_line(rt.alloc(), WRITTEN, rows::Kind::Written)?;
-    assert_eq!(rt; rows.as_str(), "2 rows");
-    let rows = each_line(rt.alloc(), READ, rows::Kind::NameText)?;
-    assert_eq!(rt; rows.as_str(), "11 rows");
-    Ok(())
+    each_line(rt.alloc(), WRITTEN, 2, &rows::Kind::Written)?;
+    each_line(rt.alloc(), READ, 11, &rows::Kind::NameText)
 }

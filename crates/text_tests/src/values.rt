@@ -1,5 +1,5 @@
 // What fits a small table, and each cause for which a statement doesn't.
-use crate::rows::{Kind, each_block, each_line};
+use crate::rows::Kind;
 use crate::shared::{script_of, table_of, text_of};
 use defmt_intern::Table;
 use defmt_script::Script;
@@ -8,7 +8,7 @@ use dl_io::Bytes;
 use std::alloc::Global;
 use std::fmt::Write;
 use std::test::Fail;
-use test_rows::bytes_of;
+use test_rows::{bytes_of, each_block, each_line, put_str};
 
 // The strings behind the first one.
 const FURTHER: &str = "\
@@ -156,7 +156,7 @@ fn args_of(alloc: Global, spelled: &str) -> Result<Args, Fail> {
 
 fn put_verdict(verdict: Result<(), u8>, out: &mut String) -> Result<(), Fail> {
     match verdict {
-        Ok(()) => Ok(out.push_str("fits")?),
+        Ok(()) => put_str(out, "fits"),
         Err(cause) => Ok(write!(out, "cause {cause}")?),
     }
 }
@@ -199,20 +199,14 @@ pub fn put_verdict_in(alloc: Global, text: &str, out: &mut String) -> Result<(),
 
 #[test]
 fn values_are_tested_by_their_slots_and_nested_values_fit(rt: HostRuntime) -> Result<(), Fail> {
-    let rows = each_line(rt.alloc(), SLOTS, Kind::VerdictOf)?;
-    assert_eq!(rt; rows.as_str(), "20 rows");
-    let rows = each_block(rt.alloc(), NESTED, Kind::VerdictIn)?;
-    assert_eq!(rt; rows.as_str(), "1 rows");
-    Ok(())
+    each_line(rt.alloc(), SLOTS, 20, &Kind::VerdictOf)?;
+    each_block(rt.alloc(), NESTED, 1, &Kind::VerdictIn)
 }
 
 #[test]
 fn counts_kinds_and_entries_are_refused_from_left_to_right_and_lists_fit_up_to_their_limits(
     rt: HostRuntime,
 ) -> Result<(), Fail> {
-    let rows = each_line(rt.alloc(), CAUSES, Kind::VerdictOf)?;
-    assert_eq!(rt; rows.as_str(), "15 rows");
-    let rows = each_line(rt.alloc(), LISTS, Kind::VerdictOf)?;
-    assert_eq!(rt; rows.as_str(), "10 rows");
-    Ok(())
+    each_line(rt.alloc(), CAUSES, 15, &Kind::VerdictOf)?;
+    each_line(rt.alloc(), LISTS, 10, &Kind::VerdictOf)
 }

@@ -1,10 +1,11 @@
 // Codes: what messages are written as, and what pieces stand for.
-use crate::rows::{Kind, each_line};
+use crate::rows::Kind;
 use crate::runs::{bytes_of, put_words};
 use rzcobs_core::{bound, decode, encode};
 use std::alloc::Global;
 use std::fmt::Write;
 use std::test::Fail;
+use test_rows::{each_line, expect, put_str};
 
 // A message, and its code.
 const CODES: &str = "\
@@ -54,7 +55,7 @@ const BOUNDS: &str = "\
 
 fn put_code(message: &[u8], out: &mut String) -> Result<(), Fail> {
     if message.len() > 2000 {
-        return Err("long".into());
+        return Err(Fail::new("long"));
     }
     let mut code = [9u8; 2286];
     let size = encode(message, &mut code);
@@ -63,18 +64,18 @@ fn put_code(message: &[u8], out: &mut String) -> Result<(), Fail> {
 
 fn put_piece(alloc: Global, piece: &[u8], out: &mut String) -> Result<(), Fail> {
     if piece.len() > 65536 {
-        return Err("long".into());
+        return Err(Fail::new("long"));
     }
     let mut room = vec![in alloc; 9u8; 7 * piece.len()]?;
     match decode(piece, &mut room) {
         Ok(size) => put_words(out, &room[..size]),
-        Err(_) => Ok(out.push_str("malformed")?),
+        Err(_) => put_str(out, "malformed"),
     }
 }
 
 fn put_back(alloc: Global, message: &[u8], out: &mut String) -> Result<(), Fail> {
     if message.len() > 2000 {
-        return Err("long".into());
+        return Err(Fail::new("long"));
     }
     let mut code = [9u8; 2286];
     let size = encode(message, &mut code);
@@ -103,20 +104,14 @@ pub fn put_bound_of(count: &str, out: &mut String) -> Result<(), Fail> {
 
 #[test]
 fn messages_have_their_codes_within_the_bound(rt: HostRuntime) -> Result<(), Fail> {
-    let rows = each_line(rt.alloc(), CODES, Kind::Encoded)?;
-    assert_eq!(rt; rows.as_str(), "8 rows");
-    let rows = each_line(rt.alloc(), BOUNDS, Kind::BoundOf)?;
-    assert_eq!(rt; rows.as_str(), "5 rows");
-    Ok(())
+    each_line(rt.alloc(), CODES, 8, &Kind::Encoded)?;
+    each_line(rt.alloc(), BOUNDS, 5, &Kind::BoundOf)
 }
 
 #[test]
 fn pieces_stand_for_bytes_or_are_malformed(rt: HostRuntime) -> Result<(), Fail> {
-    let rows = each_line(rt.alloc(), PIECES, Kind::Decoded)?;
-    assert_eq!(rt; rows.as_str(), "15 rows");
-    let rows = each_line(rt.alloc(), EDGES, Kind::BackAgain)?;
-    assert_eq!(rt; rows.as_str(), "6 rows");
-    Ok(())
+    each_line(rt.alloc(), PIECES, 15, &Kind::Decoded)?;
+    each_line(rt.alloc(), EDGES, 6, &Kind::BackAgain)
 }
 
 #[test]
@@ -125,6 +120,5 @@ fn what_lies_behind_the_code_is_left(rt: HostRuntime) -> Result<(), Fail> {
     assert_eq!(rt; encode(&[1, 0, 3], &mut out), 3);
     let mut words = String::new(rt.alloc());
     put_words(&mut words, &out)?;
-    assert_eq!(rt; words.as_str(), "01 03 7a 09*9");
-    Ok(())
+    expect(words.as_str(), "01 03 7a 09*9")
 }

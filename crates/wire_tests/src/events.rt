@@ -1,5 +1,5 @@
 // The events of streams: lines, faults, and fronts and tails that are cut off.
-use crate::rows::{Kind, each_block, each_line};
+use crate::rows::Kind;
 use crate::runs::{bytes_of, put_count};
 use crate::strings::{end_line, script_of, table_of};
 use defmt_decode::{Event, Host};
@@ -8,6 +8,7 @@ use defmt_intern::Table;
 use std::alloc::Global;
 use std::fmt::Write;
 use std::test::Fail;
+use test_rows::{each_block, each_line, put_str};
 
 const HELLO: &str = "s hello defmt_info hello";
 
@@ -119,7 +120,7 @@ fn put_event(out: &mut String, event: &Event) -> Result<(), Fail> {
 
 fn put_behind(out: &mut String, start: usize, event: &Event) -> Result<(), Fail> {
     if out.len() > start {
-        out.push_str("; ")?;
+        put_str(out, "; ")?;
     }
     put_event(out, event)
 }
@@ -151,7 +152,7 @@ fn put_all(host: &mut Host, bytes: &[u8], start: usize, out: &mut String) -> Res
 fn put_end(out: &mut String, start: usize, event: Option<Event>) -> Result<(), Fail> {
     match event {
         Some(event) => put_behind(out, start, &event),
-        None if out.len() == start => Ok(out.push_str("nothing")?),
+        None if out.len() == start => put_str(out, "nothing"),
         None => Ok(()),
     }
 }
@@ -178,11 +179,11 @@ fn put_both(alloc: Global, table: &Table, place: &str, out: &mut String) -> Resu
     let place = place.parse::<usize>()?;
     let stream = [0u8, 1, 0x7e, 0, 0, 1, 0x7e, 0];
     if place > stream.len() {
-        return Err("no place".into());
+        return Err(Fail::new("no place"));
     }
     let (front, behind) = stream.split_at(place);
     put_stream(alloc, table, front, out)?;
-    out.push_str(" | ")?;
+    put_str(out, " | ")?;
     put_stream(alloc, table, behind, out)
 }
 
@@ -207,7 +208,7 @@ fn put_told_of_each(
 
 pub fn put_told_by_script(alloc: Global, block: &str, out: &mut String) -> Result<(), Fail> {
     let Some((strings, rows)) = block.split_once("\nhear ") else {
-        return Err("no stream".into());
+        return Err(Fail::new("no stream"));
     };
     let script = script_of(alloc, strings)?;
     put_told_of_each(alloc, script.table(), rows, out)
@@ -215,7 +216,7 @@ pub fn put_told_by_script(alloc: Global, block: &str, out: &mut String) -> Resul
 
 pub fn put_told_by_table(alloc: Global, block: &str, out: &mut String) -> Result<(), Fail> {
     let Some((strings, rows)) = block.split_once("\nhear ") else {
-        return Err("no stream".into());
+        return Err(Fail::new("no stream"));
     };
     let table = table_of(alloc, strings)?;
     put_told_of_each(alloc, &table, rows, out)
@@ -230,7 +231,7 @@ fn put_taken(out: &mut String, taken: usize, event: Option<Event>) -> Result<(),
     put_count(out, taken)?;
     let start = out.len();
     put_end(out, start, event)?;
-    Ok(out.push_str("; ")?)
+    put_str(out, "; ")
 }
 
 fn put_call_of(alloc: Global, host: &mut Host, words: &str, out: &mut String) -> Result<(), Fail> {
@@ -259,25 +260,17 @@ pub fn put_calls_of(alloc: Global, stream: &str, out: &mut String) -> Result<(),
 
 #[test]
 fn parts_and_faults_are_told_in_their_order(rt: HostRuntime) -> Result<(), Fail> {
-    let rows = each_line(rt.alloc(), STREAMS, Kind::ToldOfWords)?;
-    assert_eq!(rt; rows.as_str(), "10 rows");
-    Ok(())
+    each_line(rt.alloc(), STREAMS, 10, &Kind::ToldOfWords)
 }
 
 #[test]
 fn streams_are_heard_by_calls_and_cut_at_any_place(rt: HostRuntime) -> Result<(), Fail> {
-    let rows = each_line(rt.alloc(), CUTS, Kind::ToldOfBoth)?;
-    assert_eq!(rt; rows.as_str(), "9 rows");
-    let rows = each_line(rt.alloc(), CALLS, Kind::EventCallsOf)?;
-    assert_eq!(rt; rows.as_str(), "1 rows");
-    Ok(())
+    each_line(rt.alloc(), CUTS, 9, &Kind::ToldOfBoth)?;
+    each_line(rt.alloc(), CALLS, 1, &Kind::EventCallsOf)
 }
 
 #[test]
 fn strings_of_scripts_and_others_have_lines_and_faults(rt: HostRuntime) -> Result<(), Fail> {
-    let rows = each_block(rt.alloc(), BY_SCRIPTS, Kind::ToldByScript)?;
-    assert_eq!(rt; rows.as_str(), "8 rows");
-    let rows = each_block(rt.alloc(), BY_TABLES, Kind::ToldByTable)?;
-    assert_eq!(rt; rows.as_str(), "2 rows");
-    Ok(())
+    each_block(rt.alloc(), BY_SCRIPTS, 8, &Kind::ToldByScript)?;
+    each_block(rt.alloc(), BY_TABLES, 2, &Kind::ToldByTable)
 }

@@ -1,10 +1,12 @@
 #![tactic(auto)]
 
-//! The tests of the wire: codes, the parts of streams, messages and events, as rows of texts.
+//! The tests of the wire: codes, the parts of streams, messages, events and the hearing of recordings, as rows of texts.
 #[cfg(test)]
 mod codes;
 #[cfg(test)]
 mod events;
+#[cfg(test)]
+mod hearing;
 #[cfg(test)]
 mod messages;
 #[cfg(test)]

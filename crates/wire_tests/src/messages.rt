@@ -1,5 +1,5 @@
 // Messages and frames of the statements of scripts, what messages are read as, and each cause for which bytes are none.
-use crate::rows::{Kind, each_block, each_line};
+use crate::rows::Kind;
 use crate::runs::{bytes_of, put_words};
 use crate::strings::{end_line, script_of, table_of};
 use defmt_encode::{Heard, ReadCause, frame, is_long, message, read_message};
@@ -11,6 +11,7 @@ use defmt_values::{Args, Statement, Value};
 use std::alloc::Global;
 use std::fmt::Write;
 use std::test::Fail;
+use test_rows::{each_block, each_line, put_str};
 
 // A script with a statement; its message, its frame, and the index, the arguments and the stamp that are read from the message where they give it again.
 const SENT: &str = r#"s hello defmt_info hello
@@ -160,12 +161,12 @@ const LONG: &str = "\
 // The frame of a message.
 fn put_frame(message: &[u8], out: &mut String) -> Result<(), Fail> {
     if message.len() > 2000 {
-        return Err("long".into());
+        return Err(Fail::new("long"));
     }
     let mut framed = [9u8; 2288];
     let count = frame(message, &mut framed);
     if count > 2288 {
-        return Err("beyond the buffer".into());
+        return Err(Fail::new("beyond the buffer"));
     }
     put_words(out, &framed[..count])
 }
@@ -174,7 +175,7 @@ fn put_stamp(out: &mut String, stamp: &Args) -> Result<(), Fail> {
     for value in stamp.as_slice() {
         match value {
             Value::Uint(stamp) => write!(out, " at {stamp}")?,
-            _ => out.push_str(" at another")?,
+            _ => put_str(out, " at another")?,
         }
     }
     Ok(())
@@ -187,7 +188,7 @@ fn put_text(out: &mut String, text: &Text) -> Result<(), Fail> {
     if text.len() > 0 {
         out.push(' ')?;
     }
-    Ok(out.push_str(text.as_str())?)
+    put_str(out, text.as_str())
 }
 
 fn put_args(
@@ -217,7 +218,7 @@ fn put_spelled(
 fn put_cause(out: &mut String, cause: ReadCause) -> Result<(), Fail> {
     match cause {
         ReadCause::Bad { cause } => Ok(write!(out, "cause {cause}")?),
-        ReadCause::Memory => Ok(out.push_str("memory")?),
+        ReadCause::Memory => put_str(out, "memory"),
     }
 }
 
@@ -262,7 +263,7 @@ fn put_read_each(
 
 pub fn put_read_by_script(alloc: Global, block: &str, out: &mut String) -> Result<(), Fail> {
     let Some((strings, rows)) = block.split_once("\nread ") else {
-        return Err("no message".into());
+        return Err(Fail::new("no message"));
     };
     let script = script_of(alloc, strings)?;
     put_read_each(alloc, script.names(), script.table(), rows, out)
@@ -270,7 +271,7 @@ pub fn put_read_by_script(alloc: Global, block: &str, out: &mut String) -> Resul
 
 pub fn put_read_by_table(alloc: Global, block: &str, out: &mut String) -> Result<(), Fail> {
     let Some((strings, rows)) = block.split_once("\nread ") else {
-        return Err("no message".into());
+        return Err(Fail::new("no message"));
     };
     let table = table_of(alloc, strings)?;
     put_read_each(alloc, &Names::new(alloc), &table, rows, out)
@@ -294,7 +295,7 @@ fn put_same(
     let mut buffer = [0u8; 2000];
     let count = match message(script.table(), first_stamp(script), &heard.stm, &mut buffer) {
         Ok(count) if count <= 2000 => count,
-        _ => return Err("long".into()),
+        _ => return Err(Fail::new("long")),
     };
     let back = &buffer[..count];
     if back != bytes {
@@ -333,14 +334,14 @@ fn put_statement(
     let mut bytes = [0u8; 2000];
     match message(script.table(), first_stamp(script), stm, &mut bytes) {
         Ok(count) if count <= 2000 => put_carried(alloc, script, &bytes[..count], out),
-        _ => Err("long".into()),
+        _ => Err(Fail::new("long")),
     }
 }
 
 fn put_first(alloc: Global, script: &Script, out: &mut String) -> Result<(), Fail> {
     match script.statement(0, 0) {
         Some(stm) => put_statement(alloc, script, stm, out),
-        None => Err("no statement".into()),
+        None => Err(Fail::new("no statement")),
     }
 }
 
@@ -397,18 +398,12 @@ pub fn put_written_of_letters(alloc: Global, count: &str, out: &mut String) -> R
 
 #[test]
 fn statements_have_messages_and_frames_and_are_read_again(rt: HostRuntime) -> Result<(), Fail> {
-    let rows = each_block(rt.alloc(), SENT, Kind::Sent)?;
-    assert_eq!(rt; rows.as_str(), "7 rows");
-    let rows = each_line(rt.alloc(), LONG, Kind::WrittenOfLetters)?;
-    assert_eq!(rt; rows.as_str(), "2 rows");
-    Ok(())
+    each_block(rt.alloc(), SENT, 7, &Kind::Sent)?;
+    each_line(rt.alloc(), LONG, 2, &Kind::WrittenOfLetters)
 }
 
 #[test]
 fn messages_are_read_or_refused_with_their_causes(rt: HostRuntime) -> Result<(), Fail> {
-    let rows = each_block(rt.alloc(), READ, Kind::ReadByScript)?;
-    assert_eq!(rt; rows.as_str(), "8 rows");
-    let rows = each_block(rt.alloc(), READ_BY_TABLES, Kind::ReadByTable)?;
-    assert_eq!(rt; rows.as_str(), "2 rows");
-    Ok(())
+    each_block(rt.alloc(), READ, 8, &Kind::ReadByScript)?;
+    each_block(rt.alloc(), READ_BY_TABLES, 2, &Kind::ReadByTable)
 }

@@ -2,13 +2,14 @@
 ghost use Rattle.std.specs.Prelude.{length};
 ghost use Rattle.wire_tests.specs.declared.parts.Part.TheVariants.{Front, Piece, Long, Tail};
 
-use crate::rows::{Kind, each_line};
+use crate::rows::Kind;
 use crate::runs::{bytes_of, put_count, put_words};
 use defmt_framing::{Framer, Teller, decode_piece};
 use dl_io::Memory;
 use std::alloc::Global;
 use std::fmt::Write;
 use std::test::Fail;
+use test_rows::{each_line, expect, put_str};
 
 // A part, with how many bytes it has.
 #[derive(Clone, Copy)]
@@ -72,9 +73,9 @@ fn put_part(out: &mut String, part: Option<Part>) -> Result<(), Fail> {
     match part {
         Some(Part::Front(bytes)) => Ok(write!(out, "front {bytes}")?),
         Some(Part::Piece(bytes)) => Ok(write!(out, "piece {bytes}")?),
-        Some(Part::Long) => Ok(out.push_str("long")?),
+        Some(Part::Long) => put_str(out, "long"),
         Some(Part::Tail(bytes)) => Ok(write!(out, "tail {bytes}")?),
-        None => Ok(out.push_str("nothing")?),
+        None => put_str(out, "nothing"),
     }
 }
 
@@ -84,7 +85,7 @@ fn put_told(out: &mut String, start: usize, part: Option<Part>) -> Result<(), Fa
         return Ok(());
     }
     if out.len() > start {
-        out.push_str(", ")?;
+        put_str(out, ", ")?;
     }
     put_part(out, part)
 }
@@ -144,7 +145,7 @@ fn put_cut(alloc: Global, stream: &[u8], whole: &str, out: &mut String) -> Resul
             return put_in_two(alloc, first, second, out);
         }
     }
-    Ok(out.push_str(whole)?)
+    put_str(out, whole)
 }
 
 fn put_cuts(alloc: Global, stream: &[u8], out: &mut String) -> Result<(), Fail> {
@@ -163,7 +164,7 @@ fn put_call(framer: &mut Framer, bytes: &[u8], out: &mut String) -> Result<(), F
     let (taken, part) = framer.feed(&mut Sizes, bytes)?;
     put_count(out, taken)?;
     put_part(out, part)?;
-    Ok(out.push_str(", ")?)
+    put_str(out, ", ")
 }
 
 fn put_call_of(
@@ -196,13 +197,13 @@ pub fn put_calls_of(alloc: Global, stream: &str, out: &mut String) -> Result<(),
 
 fn put_message(piece: &[u8], out: &mut String) -> Result<(), Fail> {
     if piece.len() > 2 {
-        return Err("long".into());
+        return Err(Fail::new("long"));
     }
     let mut room = [9u8; 14];
     match decode_piece(piece, &mut room) {
         Some(count) if count <= 14 => put_words(out, &room[..count]),
-        Some(_) => Err("beyond the buffer".into()),
-        None => Ok(out.push_str("none")?),
+        Some(_) => Err(Fail::new("beyond the buffer")),
+        None => put_str(out, "none"),
     }
 }
 
@@ -213,19 +214,14 @@ pub fn put_piece_of(alloc: Global, words: &str, out: &mut String) -> Result<(), 
 
 #[test]
 fn each_part_is_told_in_its_place(rt: HostRuntime) -> Result<(), Fail> {
-    let rows = each_line(rt.alloc(), STREAMS, Kind::PartsOf)?;
-    assert_eq!(rt; rows.as_str(), "7 rows");
-    let rows = each_line(rt.alloc(), PIECES, Kind::PieceOf)?;
-    assert_eq!(rt; rows.as_str(), "2 rows");
-    Ok(())
+    each_line(rt.alloc(), STREAMS, 7, &Kind::PartsOf)?;
+    each_line(rt.alloc(), PIECES, 2, &Kind::PieceOf)
 }
 
 #[test]
 fn calls_and_every_cut_in_two_tell_the_same(rt: HostRuntime) -> Result<(), Fail> {
-    let rows = each_line(rt.alloc(), CALLS, Kind::PartCallsOf)?;
-    assert_eq!(rt; rows.as_str(), "1 rows");
+    each_line(rt.alloc(), CALLS, 1, &Kind::PartCallsOf)?;
     let mut told = String::new(rt.alloc());
     put_parts_at_each_cut(rt.alloc(), "07 08 00 01 00 00 02 03 04 00 09", &mut told)?;
-    assert_eq!(rt; told.as_str(), "front 2, piece 1, piece 3, tail 1");
-    Ok(())
+    expect(told.as_str(), "front 2, piece 1, piece 3, tail 1")
 }

@@ -1,5 +1,5 @@
 // The rows of the tests, by what is asked of their inputs.
-use crate::{codes, events, messages, parts};
+use crate::{codes, events, hearing, messages, parts};
 use std::alloc::Global;
 use std::test::Fail;
 use test_rows::Question;
@@ -23,6 +23,8 @@ pub enum Kind {
     PartsOf,
     PartCallsOf,
     PieceOf,
+    Heard,
+    Repeated,
 }
 
 impl Question for Kind {
@@ -44,16 +46,8 @@ impl Question for Kind {
             Self::PartsOf => parts::put_parts_of(alloc, input, out),
             Self::PartCallsOf => parts::put_calls_of(alloc, input, out),
             Self::PieceOf => parts::put_piece_of(alloc, input, out),
+            Self::Heard => hearing::put_heard(alloc, input, out),
+            Self::Repeated => hearing::put_repeated(alloc, input, out),
         }
     }
-}
-
-/// Asks for the answers of lines, as `test_rows::each_line` does.
-pub fn each_line(alloc: Global, lines: &str, kind: Kind) -> Result<String, Fail> {
-    test_rows::each_line(alloc, lines, &kind)
-}
-
-/// Asks for the answers of blocks, as `test_rows::each_block` does.
-pub fn each_block(alloc: Global, blocks: &str, kind: Kind) -> Result<String, Fail> {
-    test_rows::each_block(alloc, blocks, &kind)
 }

@@ -2,6 +2,7 @@
 use std::alloc::Global;
 use std::fmt::Write;
 use std::test::Fail;
+use test_rows::put_str;
 
 pub fn bytes_of(alloc: Global, words: &str) -> Result<Vec<u8>, Fail> {
     let mut bytes = Vec::new(alloc);
@@ -37,7 +38,7 @@ pub fn put_words(out: &mut String, bytes: &[u8]) -> Result<(), Fail> {
     }
     put_run(out, start, last, count)?;
     if out.len() == start {
-        out.push_str("nothing")?;
+        put_str(out, "nothing")?;
     }
     Ok(())
 }

@@ -7,7 +7,7 @@ use std::test::Fail;
 
 pub fn script_of(alloc: Global, text: &str) -> Result<Script, Fail> {
     if text.len() > 100_000 {
-        return Err("long".into());
+        return Err(Fail::new("long"));
     }
     Ok(read(alloc, text.as_bytes())?)
 }

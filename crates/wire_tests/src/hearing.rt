@@ -1,15 +1,14 @@
 ghost use Rattle.std.specs.Prelude.{[], ◌∷◌, true, false, None};
 
 // Recordings that a listener hears, which has a letter for each part.
-use crate::rows::{Kind, each_line};
-use crate::sessions::{parted, sink_of, source_of};
+use crate::rows::Kind;
 use defmt_framing::{Framer, Teller};
 use defmt_listen::{ListenFault, Listener, listen};
-use dl_io::{Bytes, Failed, Memory, RepeatSource, Source};
+use dl_io::{Bytes, Failed, MemSink, MemSource, Memory, RepeatSource, Source};
 use std::alloc::Global;
 use std::fmt::Write;
 use std::test::Fail;
-use test_rows::bytes_of;
+use test_rows::{bytes_of, each_line, put_str};
 
 // The digits of a recording, of a read and of a write that fail, and the answer and the lines: a letter and a point for its newline.
 const HEARD: &str = "\
@@ -147,14 +146,14 @@ fn fault_of(fault: ListenFault) -> &'static str {
 fn put_answer(answer: Result<u64, ListenFault>, out: &mut String) -> Result<(), Fail> {
     match answer {
         Ok(count) => Ok(write!(out, "{count} faults, ")?),
-        Err(fault) => Ok(out.push_str(fault_of(fault))?),
+        Err(fault) => put_str(out, fault_of(fault)),
     }
 }
 
 // Puts the lines that were written, with a point for each newline.
 fn put_letters(written: &[u8], out: &mut String) -> Result<(), Fail> {
     if written.is_empty() {
-        out.push_str("nothing")?;
+        put_str(out, "nothing")?;
     }
     for byte in written {
         out.push(if *byte == b'\n' {
@@ -166,10 +165,24 @@ fn put_letters(written: &[u8], out: &mut String) -> Result<(), Fail> {
     Ok(())
 }
 
+// A source of these bytes, which fails at the reads with these numbers.
+fn source_of(alloc: Global, digits: &str, fails: &str) -> Result<MemSource, Fail> {
+    let given = Bytes::from_vec(bytes_of(alloc, digits)?);
+    Ok(MemSource::new(given, Bytes::from_vec(bytes_of(alloc, fails)?)))
+}
+
+// A sink with room, which fails at the writes with these numbers.
+fn sink_of(alloc: Global, fails: &str) -> Result<MemSink, Fail> {
+    let fails = Bytes::from_vec(bytes_of(alloc, fails)?);
+    let mut held = Bytes::new(alloc);
+    held.reserve(1_048_576)?;
+    Ok(MemSink::new(held, fails))
+}
+
 fn put_heard_of<S: Source>(
     alloc: Global,
     source: &mut S,
-    fails: &[u8],
+    fails: &str,
     out: &mut String,
 ) -> Result<(), Fail> {
     let mut sink = sink_of(alloc, fails)?;
@@ -181,34 +194,28 @@ fn put_heard_of<S: Source>(
     put_letters(sink.held(), out)
 }
 
-pub(crate) fn put_heard(alloc: Global, row: &str, out: &mut String) -> Result<(), Fail> {
-    let (digits, fails) = parted(row, '/');
-    let (reads, writes) = parted(fails, '/');
-    let (bytes, reads) = (bytes_of(alloc, digits)?, bytes_of(alloc, reads)?);
-    let mut source = source_of(alloc, &bytes, b"", &reads)?;
-    put_heard_of(alloc, &mut source, &bytes_of(alloc, writes)?, out)
+pub fn put_heard(alloc: Global, row: &str, out: &mut String) -> Result<(), Fail> {
+    let (digits, fails) = row.split_once('/').unwrap_or((row, ""));
+    let (reads, writes) = fails.split_once('/').unwrap_or((fails, ""));
+    let mut source = source_of(alloc, digits, reads)?;
+    put_heard_of(alloc, &mut source, writes, out)
 }
 
-/// A source that gives this byte so often.
-pub(crate) fn repeat_of(byte: &str, count: &str) -> Result<RepeatSource, Fail> {
-    Ok(RepeatSource::new(byte.parse()?, count.parse()?))
+// A source that gives a byte so often.
+fn repeat_of(row: &str) -> Result<Asked, Fail> {
+    let (byte, count) = row.split_once(' ').unwrap_or((row, ""));
+    let source = RepeatSource::new(byte.parse::<u8>()?, count.parse::<u64>()?);
+    Ok(Asked { source, most: 0 })
 }
 
-pub(crate) fn put_repeated(alloc: Global, row: &str, out: &mut String) -> Result<(), Fail> {
-    let (byte, count) = parted(row, ' ');
-    let mut source = Asked {
-        source: repeat_of(byte, count)?,
-        most: 0,
-    };
-    put_heard_of(alloc, &mut source, b"", out)?;
+pub fn put_repeated(alloc: Global, row: &str, out: &mut String) -> Result<(), Fail> {
+    let mut source = repeat_of(row)?;
+    put_heard_of(alloc, &mut source, "", out)?;
     Ok(write!(out, ", {} at most", source.most)?)
 }
 
 #[test]
 fn a_recording_is_heard_in_parts_up_to_a_fault_or_its_limit(rt: HostRuntime) -> Result<(), Fail> {
-    let rows = each_line(&rt, rt.alloc(), HEARD, Kind::Heard)?;
-    assert_eq!(rt; rows.as_str(), "3 rows");
-    let rows = each_line(&rt, rt.alloc(), REPEATED, Kind::Repeated)?;
-    assert_eq!(rt; rows.as_str(), "2 rows");
-    Ok(())
+    each_line(rt.alloc(), HEARD, 3, &Kind::Heard)?;
+    each_line(rt.alloc(), REPEATED, 2, &Kind::Repeated)
 }
