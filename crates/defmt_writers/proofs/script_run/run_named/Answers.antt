@@ -12,7 +12,7 @@ use Rattle.defmt_writers.proofs.script_run.run_named.Goals as goal
 pub work-drain-requires-send-T : goal.work-drain-requires-send-T
 work-drain-requires-send-T g c κs within =
     let b = c.type_bounds in
-    param_send 9 _ (arg_send _ no _ (logging_send _ _ _ g.K.Naming g.H.Up.UpEnd g.C.Clock b.send-K b.send-H-Up b.send-C))
+    param_send 2 _ (arg_send _ no _ (logging_send _ _ _ g.K.Naming g.H.Up.UpEnd g.C.Clock b.send-K b.send-H-Up b.send-C))
 
 pub returns-clause-script : goal.returns-clause-script
 returns-clause-script g c = IfOk-weaker c.settle.result _ _ (λ run is. is ∙ c.close-tape.ensures.script) c.settle.ensures.script
