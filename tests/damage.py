@@ -79,7 +79,8 @@ class Device:
         with open(self.elf, "wb") as file:
             file.write(elf.replace(b"float {=u32}", b"float {=f32}").replace(wrong + b"rite", wrong + b"rong"))
         read_back = self.table.events(self.recording)
-        count([(cause, line) for _, cause, line in read_back] == [(0, frame.line) for frame in self.frames], f"{name}: the second reading doesn't read the frames that it makes")
+        is_same = [(cause, line) for _, cause, line in read_back] == [(0, frame.line) for frame in self.frames]
+        count(is_same, f"{name}: the second reading doesn't read the frames that it makes")
         count(answer(["record"], script) == (0, self.recording, b""), f"{name}: what is recorded isn't the frames of the statements")
         lines = "".join(frame.line + "\n" for frame in self.frames).encode()
         count(answer(["print"], script) == (0, lines, b""), f"{name}: what is printed isn't the lines of the statements")
@@ -248,7 +249,8 @@ def change_message(chance, stream, device):
     stream.replace(begin, end, formats.frame_of(bytes(message)))
 
 
-DAMAGES = [change_bits, change_bytes, cut_out, cut_front, cut_end, put_in_zeros, take_out_zeros, repeat, move, put_in_bytes, put_in_long, put_in_limit, change_message, change_message]
+DAMAGES = [change_bits, change_bytes, cut_out, cut_front, cut_end, put_in_zeros, take_out_zeros, repeat, move]
+DAMAGES += [put_in_bytes, put_in_long, put_in_limit, change_message, change_message]
 
 
 def damaged(number):
@@ -378,8 +380,9 @@ for number in range(times):
     device, stream, damages = damaged(number)
     compare(f"recording {number} ({', '.join(damages)})", device, stream)
 
-print(f"{times} damaged recordings: {counts['frames']} whole frames, {sum(counts['cause', it] for it in range(1, 15))} damaged pieces, {counts['cause', 15]} fronts and tails")
-print("pieces by cause: " + ", ".join(f"{formats.CAUSES[it]} {counts['cause', it]}" for it in range(1, 15)))
+pieces = [counts["cause", it] for it in range(1, 15)]
+print(f"{times} damaged recordings: {counts['frames']} whole frames, {sum(pieces)} damaged pieces, {counts['cause', 15]} fronts and tails")
+print("pieces by cause: " + ", ".join(f"{name} {it}" for name, it in zip(formats.CAUSES[1:], pieces)))
 try_wrong_programs()
 print(f"{counts['passed']} passed, {counts['failed']} failed")
 sys.exit(1 if counts["failed"] else 0)

@@ -39,12 +39,16 @@ def answer(words, given):
 # ---- changes of bytes and of text
 
 BYTES = (0, 1, 0x0A, 0x20, 0x7F, 0x80, 0xC3, 0xFE, 0xFF)
-NUMBERS = (b"0", b"1", b"7", b"8", b"00", b"15", b"16", b"127", b"128", b"255", b"256", b"4096", b"65535", b"65536", b"4294967296", b"281474976710656", b"281474976710657", b"9" * 40)
+NUMBERS = (
+    b"0", b"1", b"7", b"8", b"00", b"15", b"16", b"127", b"128", b"255", b"256", b"4096", b"65535", b"65536", b"4294967296", b"281474976710656",
+    b"281474976710657", b"9" * 40,
+)  # fmt: skip
 WORDS = (
-    b"{", b"}", b"{{", b"}}", b"{=u8}", b"{=", b"{=?}", b"{0=?:x}", b"{=[?]}", b"{=[?; 3]}", b"{=[u8; 2]:a}", b"{=0..4}", b"{3=istr:?}", b"{=f32}", b":#010x", b":us", b"|", b"..",
-    b"(", b")", b"[", b"]", b"()", b"[()]", b"opt:1(", b"num(7)", b"point[(1 2)]", b"@", b"@volts", b"#", b"#0aff", b"0x", b"0xfF", b"-", b"-1", b"'", b"'a'", b'"', b'"\\u{10ffff}"', b"\\u{d800}", b"\\", b"\\n",
-    b"s ", b"w ", b"w 0 ", b"ring 16", b"mode skip", b"mode trim", b"mode block", b"reader late", b"stamp 0 1", b"defmt_info", b"defmt_println", b"defmt_str", b"true", b" ", b"  ", b"\n", b"\r\n", b"\r", b"\t", b"\0",
-    b"\xc3\xa9", b"\xed\xa0\x80", b"\xf4\x90\x80\x80", b"\xff", b"\xe2\x80\xa8",
+    b"{", b"}", b"{{", b"}}", b"{=u8}", b"{=", b"{=?}", b"{0=?:x}", b"{=[?]}", b"{=[?; 3]}", b"{=[u8; 2]:a}", b"{=0..4}", b"{3=istr:?}", b"{=f32}",
+    b":#010x", b":us", b"|", b"..", b"(", b")", b"[", b"]", b"()", b"[()]", b"opt:1(", b"num(7)", b"point[(1 2)]", b"@", b"@volts", b"#", b"#0aff",
+    b"0x", b"0xfF", b"-", b"-1", b"'", b"'a'", b'"', b'"\\u{10ffff}"', b"\\u{d800}", b"\\", b"\\n", b"s ", b"w ", b"w 0 ", b"ring 16", b"mode skip",
+    b"mode trim", b"mode block", b"reader late", b"stamp 0 1", b"defmt_info", b"defmt_println", b"defmt_str", b"true", b" ", b"  ", b"\n", b"\r\n",
+    b"\r", b"\t", b"\0", b"\xc3\xa9", b"\xed\xa0\x80", b"\xf4\x90\x80\x80", b"\xff", b"\xe2\x80\xa8",
 )  # fmt: skip
 
 
@@ -180,7 +184,8 @@ def try_script(chance):
 def table_file(symbols, bits):
     """An ELF file of this class with symbols of .defmt, as pairs of a name and a value; that of 32 bits as docs/FORMATS.md has it."""
     strings, rows = b"\0", [(0, 0, 0, 0)]
-    for name, value, info, section in [(b"_defmt_version_ = 4", 1, 16, 0xFFF1), (b"_defmt_encoding_ = rzcobs", 1, 16, 0xFFF1)] + [(name, value, 16, 1) for name, value in symbols]:
+    markers = [(b"_defmt_version_ = 4", 1, 16, 0xFFF1), (b"_defmt_encoding_ = rzcobs", 1, 16, 0xFFF1)]
+    for name, value, info, section in markers + [(name, value, 16, 1) for name, value in symbols]:
         rows.append((len(strings), value, info, section))
         strings += name + b"\0"
     if bits == 32:
@@ -218,8 +223,9 @@ def symbols_of(strings, has_stamps):
 
 
 JSON_WORDS = (
-    b'"tag"', b'"data":', b'"package":"p"', b'"tag":"defmt_timestamp"', b'"tag":"defmt_write"', b'"tag":"defmt_other"', b'"disambiguator":7', b"null", b"true", b"1e999", b"-0", b"[", b"]", b"{", b"}", b"[" * 127, b"[" * 128, b"]" * 127,
-    b'"', b"\\", b"\\u0000", b"\\ud800", b"\\ud83d\\ude00", b"\\u00e9", b"\\n", b",", b":", b" ", b"x" * 4096, b"x" * 4097, b"{=?}", b"{=[?; 65535]}", b"|" * 300,
+    b'"tag"', b'"data":', b'"package":"p"', b'"tag":"defmt_timestamp"', b'"tag":"defmt_write"', b'"tag":"defmt_other"', b'"disambiguator":7', b"null",
+    b"true", b"1e999", b"-0", b"[", b"]", b"{", b"}", b"[" * 127, b"[" * 128, b"]" * 127, b'"', b"\\", b"\\u0000", b"\\ud800", b"\\ud83d\\ude00",
+    b"\\u00e9", b"\\n", b",", b":", b" ", b"x" * 4096, b"x" * 4097, b"{=?}", b"{=[?; 65535]}", b"|" * 300,
 )  # fmt: skip
 
 
@@ -367,7 +373,8 @@ for number in range(times):
     name, one = chance.choices((("script", try_script), ("table", try_table), ("recording", try_recording)), (4, 3, 3))[0]
     is_good, words, given, came = one(chance)
     counts[name, came[0]] += 1
-    count(is_good, "" if is_good else f"input {number}, a {name}, to {' '.join(words)}: status {came[0]}, said {came[2][:200]}, wrote {came[1][:200]}; the input is {given[:3000].hex()}")
+    about = f"input {number}, a {name}, to {' '.join(words)}: status {came[0]}, said {came[2][:200]}, wrote {came[1][:200]}"
+    count(is_good, "" if is_good else f"{about}; the input is {given[:3000].hex()}")
 
 for name in ("script", "table", "recording"):
     statuses = sorted((status for kind, status in (it for it in counts if isinstance(it, tuple)) if kind == name), key=str)
