@@ -1,0 +1,4 @@
+use Rattle.defmt_run.proofs.running.write.Goals as goal
+
+pub returns-in-Ok-clause-written : goal.returns-in-Ok-clause-written
+returns-in-Ok-clause-written g c = c.in-Ok.ensures.ok
