@@ -135,12 +135,7 @@ fn put_sent(
 
 // Logs a statement of the writer 1 and three of the writer 0, as far as they have them, drops a frame of a table where there
 // is one, and closes the logger. Puts the tape and what was sent.
-fn log_by_pens<
-    E: Names,
-    K: Naming,
-    C: Clock + Drop,
-    W: Wait,
->(
+fn log_by_pens<E: Names, K: Naming, C: Clock + Drop, W: Wait>(
     rt: &W,
     alloc: Global,
     blanks: Blanks,
@@ -180,16 +175,7 @@ fn log_script<W: Wait>(
         return Err(Fail::new("no ring"));
     };
     let stamp = stamp_of(&script);
-    log_by_pens::<Brand, Brand, _, _>(
-        rt,
-        alloc,
-        Blanks::new(),
-        script,
-        stamp,
-        ring,
-        table,
-        out,
-    )
+    log_by_pens::<Brand, Brand, _, _>(rt, alloc, Blanks::new(), script, stamp, ring, table, out)
 }
 
 pub(crate) fn put_logged<W: Wait>(

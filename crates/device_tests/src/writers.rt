@@ -305,13 +305,7 @@ pub(crate) fn put_open<R: Threads + Wait + Sync>(
 }
 
 // Logs the statements of the writer 0 on this thread alone. What was sent is then captured or the rest.
-fn serve_alone<
-    H: Channel,
-    E: Names,
-    K: Naming,
-    C: Clock + Drop,
-    W: Wait,
->(
+fn serve_alone<H: Channel, E: Names, K: Naming, C: Clock + Drop, W: Wait>(
     rt: &W,
     alloc: Global,
     blanks: Blanks,
