@@ -270,7 +270,8 @@ pub(crate) fn put_meeting<R: Threads + Wait + Sync>(
 ) -> Result<(), Fail> {
     let script = script_of(alloc, text)?;
     let gate = Hold::new(2, 0, 2, 0);
-    put_run::<WordRing, _, R>(rt, alloc, script, &gate, &Told::Met(&gate.passed), out)
+    let told = Told::Met(&gate.passed);
+    put_run::<WordRing, _, R>(rt, alloc, script, &gate, &told, out)
 }
 
 pub(crate) fn put_queued<R: Threads + Wait + Sync>(
@@ -291,7 +292,8 @@ pub(crate) fn put_in_time<R: Threads + Wait + Sync>(
 ) -> Result<(), Fail> {
     let script = script_of(alloc, text)?;
     let gate = Hold::new(1, 3, 1, 12);
-    put_run::<WordRing, _, R>(rt, alloc, script, &gate, &Told::Reached(&gate.passed), out)
+    let told = Told::Reached(&gate.passed);
+    put_run::<WordRing, _, R>(rt, alloc, script, &gate, &told, out)
 }
 
 pub(crate) fn put_open<R: Threads + Wait + Sync>(
