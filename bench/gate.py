@@ -1,7 +1,8 @@
 #!/usr/bin/env python3
 """Tells what the merge gate costs: processor seconds by crate and kind, the dearest edit of each crate, and the longest chain of proofs.
 
-    bench/gate.py [--into FILE] [--edits] [--reference] [--docs] [-- COMMAND..]    runs the command at the repository's top, by default `rt ci --anew`
+    bench/gate.py [--into FILE] [--edits] [--reference] [--docs] [-- COMMAND..]    runs the command at the repository's top, by default `rt ci --anew`;
+                                                                     of a kit whose `rt ci` has no --anew, give `-- rt ci`, which is always from nothing
     bench/gate.py [--into FILE] [--edits] --watch PID                watches an `rt ci` of this checkout that runs already
 
 The table goes to FILE, or else behind what the command writes, and with --edits the seconds of each edit behind it. --docs puts the table into
@@ -30,7 +31,7 @@ PROOF, TESTS, BEFORE, EDITS, BUILD, REST = "Proof", "Tests", "Check before edits
 KINDS = (PROOF, TESTS, BEFORE, EDITS)
 # The most that we allow: minutes for the whole gate, and seconds for the others.
 MOST_MINUTES, MOST_SECONDS, MOST_OF_EDIT = 160, {PROOF: 260, TESTS: 400}, 60
-GATE = ["rt", "ci", "--anew"]
+GATE, OLDER_GATE = ["rt", "ci", "--anew"], ["rt", "ci"]
 TICKS = os.sysconf("SC_CLK_TCK")
 EACH = 0.5
 COMPILERS = re.compile(r"clang|ld\.lld|llvm-|rattle-link")
@@ -43,11 +44,26 @@ def task_of(words, folder, above):
         behind = lambda word: words[words.index(word) + 1] if word in words else ""
         crate, base = behind("--crate-name"), os.path.basename(behind("--incremental"))
         if os.path.basename(folder).startswith("rt-edit-"):
+            if base.startswith("rt-edits-"):
+                return of_shared_work(crate, base, folder)
             return (crate, BEFORE, None) if base == "seed" else (crate, EDITS, int(base) if base.isdigit() else None)
         return crate, TESTS if "--test" in words else BUILD if "--crate-checked" in words else PROOF, None
     if COMPILERS.match(program) or any("/rt-run-" in it for it in words):
         return above[0], BUILD, None
     return above
+
+
+# The folders of a crate's edits that are tried over one another's work, by the folder of that work, in their order.
+TRIED = defaultdict(list)
+
+
+def of_shared_work(crate, work, folder):
+    """An older kit tries a crate's edits over one another's work: the first proves the rest of the crate too, and behind the last it is proved without edits."""
+    tried = TRIED[work]
+    if folder not in tried:
+        tried.append(folder)
+    number = tried.index(folder)
+    return (crate, BEFORE, number) if number in (0, len(edits_of(crate))) else (crate, EDITS, number)
 
 
 class Process:
@@ -170,6 +186,9 @@ def by_edit(sums):
     for (crate, kind, number), seconds in sums.items():
         if kind == EDITS:
             by_number[crate][number] += seconds
+        # (what such an edit takes beyond the check of the rest isn't seen)
+        elif kind == BEFORE and number == 0:
+            by_number[crate][0] += 0
     named = {}
     for crate, edits in by_number.items():
         names = edits_of(crate)
@@ -283,7 +302,7 @@ def main():
     parser.add_argument("--watch", metavar="PID", type=int)
     parser.add_argument("command", nargs="*", default=GATE)
     asked = parser.parse_args()
-    if asked.docs and (asked.watch or asked.command != GATE):
+    if asked.docs and (asked.watch or asked.command not in (GATE, OLDER_GATE)):
         parser.error("only the whole gate from its begin goes into the documents")
     if asked.reference and asked.watch:
         parser.error("a run that is watched has no reference")
