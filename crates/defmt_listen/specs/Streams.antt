@@ -16,6 +16,16 @@ pub record Output : Type 0 where
   pub faults : ℕ
   pub faults_after : ℕ
 
+-- what a source is that has these members, before a call and after it
+abbrev pub input_of : {S : Type 0} → (S → Option (List ℕ)) → (S → ℕ) → S → S → Input
+input_of left faults before after =
+    record { left = left before; left_after = left after; faults = faults before; faults_after = faults after }
+
+-- what a sink is that has these members, before a call and after it
+abbrev pub output_of : {K : Type 0} → (K → Option (List ℕ)) → (K → ℕ) → K → K → Output
+output_of held faults before after =
+    record { held = held before; held_after = held after; faults = faults before; faults_after = faults after }
+
 -- all of a text was written
 abbrev pub Wrote : Output → List ℕ → Type 0
 Wrote output text = Appends output.held output.held_after text

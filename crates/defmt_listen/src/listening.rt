@@ -3,6 +3,7 @@ ghost use Rattle.std.specs.Prelude.{◌≡◌, ◌≤◌, ◌<◌, ◌+◌, [], 
 ghost use Rattle.std.specs.Io.KnownBytes.{Consumes, IsAtEnd};
 ghost use Rattle.defmt_framing.specs.Framing.{Stands};
 ghost use Rattle.defmt_listen.specs.Heard.{HeardAll, Breaks, ReadsNo, recording_limit};
+ghost use Rattle.defmt_listen.specs.Streams.{input_of, output_of};
 
 use crate::fault::ListenFault;
 use crate::listener::Listener;
@@ -29,13 +30,9 @@ pub fn listen<S: Source, K: Sink, L: Listener + Drop>(
 ) -> Result<u64, ListenFault>
     requires { Stands (L.framing listener) [] }
     ensures heard { IfOk result (λ count. HeardAll (record { tells = L.tells listener; line = L.line; is_fault = L.is_fault })
-        (record { left = S.left src.old; left_after = S.left src.new; faults = S.faults src.old; faults_after = S.faults src.new })
-        (record { held = K.held out.old; held_after = K.held out.new; faults = K.faults out.old; faults_after = K.faults out.new })
-        count) }
+        (input_of S.left S.faults src.old src.new) (output_of K.held K.faults out.old out.new) count) }
     ensures breaks { IfErr result (λ fault. Breaks (record { tells = L.tells listener; line = L.line; is_fault = L.is_fault })
-        (record { left = S.left src.old; left_after = S.left src.new; faults = S.faults src.old; faults_after = S.faults src.new })
-        (record { held = K.held out.old; held_after = K.held out.new; faults = K.faults out.old; faults_after = K.faults out.new })
-        fault) }
+        (input_of S.left S.faults src.old src.new) (output_of K.held K.faults out.old out.new) fault) }
     ensures source_count { S.faults src.old ≤ S.faults src.new }
     ensures sink_count { K.faults out.old ≤ K.faults out.new }
 {
@@ -73,9 +70,7 @@ fn next_part<S: Source>(src: &mut S, buf: &mut [u8], taken: usize) -> Result<usi
     ensures within { IfOk result (λ count. (count ≤ length buf.new) × (taken + count ≤ recording_limit)) }
     ensures bytes { IfOk result (λ count. Consumes (S.left src.old) (S.left src.new) (take count buf.new)) }
     ensures end { IfOk result (λ count. count ≡ 0 → IsAtEnd (S.left src.new)) }
-    ensures refused { IfErr result (λ fault. ReadsNo
-        (record { left = S.left src.old; left_after = S.left src.new; faults = S.faults src.old; faults_after = S.faults src.new })
-        taken fault) }
+    ensures refused { IfErr result (λ fault. ReadsNo (input_of S.left S.faults src.old src.new) taken fault) }
     ensures later { S.faults src.old ≤ S.faults src.new }
 {
     let most = buf.len().min(RECORDING_LIMIT - taken).max(1);

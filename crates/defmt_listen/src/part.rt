@@ -4,6 +4,7 @@ ghost use Rattle.std.specs.Io.KnownBytes.{Appends};
 ghost use Rattle.dl_io.specs.Outside.{Rose};
 ghost use Rattle.defmt_framing.specs.Framing.{Stands};
 ghost use Rattle.defmt_listen.specs.Heard.{HeardPart, HeardSome, BreaksPart};
+ghost use Rattle.defmt_listen.specs.Streams.{output_of};
 
 use crate::fault::ListenFault;
 use crate::listener::Listener;
@@ -32,14 +33,12 @@ pub fn hear_part<K: Sink, L: Listener>(
     requires few { report.old.faults + length bytes.now < 2 ^ 64 }
     ensures heard { OnOk result ((stream : List ℕ) → Stands (L.framing listener.old) stream → HeardPart
         (record { tells = L.tells listener.old; line = L.line; is_fault = L.is_fault }) (L.framing listener.new)
-        (record { held = K.held out.old; held_after = K.held out.new; faults = K.faults out.old; faults_after = K.faults out.new })
-        stream bytes.now report.old.faults report.new.faults) }
+        (output_of K.held K.faults out.old out.new) stream bytes.now report.old.faults report.new.faults) }
     ensures empty { OnOk result (report.new.lines.items ≡ []) }
     ensures few { OnOk result (report.new.faults ≤ report.old.faults + length bytes.now) }
     ensures some { OnErr result ((stream : List ℕ) → Stands (L.framing listener.old) stream → HeardSome
         (record { tells = L.tells listener.old; line = L.line; is_fault = L.is_fault })
-        (record { held = K.held out.old; held_after = K.held out.new; faults = K.faults out.old; faults_after = K.faults out.new })
-        stream bytes.now) }
+        (output_of K.held K.faults out.old out.new) stream bytes.now) }
     ensures fault { IfErr result (λ fault. BreaksPart (Rose (K.faults out.old) (K.faults out.new)) fault) }
     ensures same { OnOk result (L.tells listener.new ≡ L.tells listener.old) }
     ensures later { K.faults out.old ≤ K.faults out.new }

@@ -3,7 +3,9 @@ pub mod HeardParts
 pub mod Lines
 pub mod Marks
 pub mod Numbered
+pub mod Recordings
 pub mod RunMade
 pub mod Sizes
 pub mod Stamped
 pub mod Tables
+pub mod ToldInputs

@@ -1,15 +1,14 @@
 -- What a run comes to.
-use Rattle.std.proofs.Common.{◌≡◌, ◌++◌, ℕ, List, [], Ok, Err, refl, sym, ap, subst, ◌∙◌}
+use Rattle.std.proofs.Common.{◌≡◌, ◌++◌, ℕ, List, [], refl, sym, ap, subst, ◌∙◌}
 use Rattle.std.specs.Prelude.{IfOk, Result}
 use Rattle.defmt_decode.specs.Event.{events_of}
 use Rattle.defmt_decode.specs.declared.event.Event.{Event}
 use Rattle.defmt_logger.specs.declared.mark.Mark.{Mark}
-use Rattle.defmt_run.specs.Printed.{Makes, Tells}
-use Rattle.defmt_run.specs.Told.{Ran, LinesIn, Told, told_of}
-use Rattle.defmt_run.specs.declared.task.Task.{Task}
-use Rattle.defmt_run.specs.declared.task.RunOutput.TheVariants.{Counts, Stream}
-use Rattle.defmt_run.specs.declared.task.Task.TheVariants.{Run}
+use Rattle.defmt_run.specs.Making.{Makes, RanHeard, RanUnheard}
+use Rattle.defmt_run.specs.Told.{Ran, LinesIn, Told, told, told_of}
+use Rattle.defmt_run.specs.declared.making.Making.{Making}
 use Rattle.defmt_script.specs.Script.{Script}
+use Rattle.defmt_words.specs.declared.job.ScriptJob.{ScriptJob}
 use Rattle.defmt_writers.specs.Runs.{IsRun}
 use Rattle.rtt_ring.specs.Account.{Account}
 use Rattle.rtt_ring.specs.declared.settled.RingKind.TheVariants.{Word}
@@ -28,16 +27,22 @@ module _ (s : Script) (tape : List Mark) (account : Account) (captured rest : Li
     looks = run.looked;
   }
 
-  -- as it does for lines too
-  pub told_heard : {E : Type 0} (heard : Result (List Event) E) → IfOk heard (λ (events : List Event). events ≡ events_of s.table account.sent)
-      → IfOk heard (λ (events : List Event). LinesIn s.settings.mode s tape events) → IfOk heard (λ (events : List Event). Tells (Run Counts) s (told_of tape account events looks))
-  told_heard (Ok events) is lines = (account, logged events, record { events = is; lines = lines })
-  told_heard (Err fault) is lines = tt
+  pub heard : (events : List Event) → events ≡ events_of s.table account.sent → LinesIn s.settings.mode s tape events → RanHeard s (told_of tape account events looks)
+  heard events is lines = (account, logged events, record { events = is; lines = lines })
 
-  pub told_none : (events : List Event) → events ≡ [] → Tells (Run Stream) s (told_of tape account events looks)
-  told_none events none = (account, logged events, none)
+  pub unheard : (events : List Event) → events ≡ [] → RanUnheard s (told_of tape account events looks)
+  unheard events none = (account, logged events, none)
 
 -- by other names
-pub made_as : (task : Task) (s : Script) (told other : Told) (output written : List ℕ) → told ≡ other → output ≡ written → Makes task s other written → Makes task s told output
-made_as task s told other output written told_is output_is makes =
-    subst (λ (t : Told). Makes task s t output) (sym told_is) (subst (λ (l : List ℕ). Makes task s other l) (sym output_is) makes)
+pub so_told : (P : Told → Type 0) (line : Told → List ℕ) (given other : Told) (output written : List ℕ) → given ≡ other → output ≡ written → written ≡ line other → P other
+    → P given × (output ≡ line given)
+so_told P line given other output written told_is output_is is so = (subst P (sym told_is) so, output_is ∙ is ∙ ap line (sym told_is))
+
+pub make_as : {E : Type 0} (job other : ScriptJob) (s script : Script) (made : Result Making E) → job ≡ other → s ≡ script
+    → IfOk made (λ (m : Making). Makes other s (told m.outcome) m.output.items) → IfOk made (λ (m : Making). Makes job script (told m.outcome) m.output.items)
+make_as job other s script made job_is script_is makes =
+    subst (λ (j : ScriptJob). IfOk made (λ (m : Making). Makes j script (told m.outcome) m.output.items)) (sym job_is)
+    (subst (λ (x : Script). IfOk made (λ (m : Making). Makes other x (told m.outcome) m.output.items)) script_is makes)
+
+pub make_so : (job other : ScriptJob) (s : Script) (made : Making) → job ≡ other → Makes other s (told made.outcome) made.output.items → Makes job s (told made.outcome) made.output.items
+make_so job other s made is makes = subst (λ (j : ScriptJob). Makes j s (told made.outcome) made.output.items) (sym is) makes

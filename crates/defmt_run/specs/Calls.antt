@@ -9,6 +9,11 @@ pub record Files : Type 0 where
   pub faults : ℕ
   pub faults_after : ℕ
 
+-- what a shelf is that has these members, before a call and after it
+abbrev pub files_of : {F : Type 0} → (F → Option (List ℕ → Option (List ℕ))) → (F → ℕ) → F → F → Files
+files_of files faults before after =
+    record { files = files before; faults = faults before; faults_after = faults after }
+
 -- the source wasn't touched
 pub record IsUnread (input : Input) : Type 0 where
   pub left : Keeps input.left input.left_after

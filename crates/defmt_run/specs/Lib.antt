@@ -1,9 +1,9 @@
 pub mod Output
 pub mod Told
 pub mod Printed
-pub mod Work
 pub mod Calls
 pub mod Status
+pub mod Making
 pub mod Running
 pub mod Decoding
 pub mod Session

@@ -1,9 +1,8 @@
--- What is to be done with a script, and what is written then.
-use Rattle.std.specs.Prelude.{◌≡◌, ◌+◌, ◌<◌, ◌==◌, ℕ, Bool, true, false, List, [], ◌∷◌, ◌++◌, codes, length, Option, Some, None, flat_map, count_by, sum_by, slice_get, if◌then◌else◌}
+-- What is written of a script and of its run.
+use Rattle.std.specs.Prelude.{◌+◌, ◌<◌, ◌==◌, ℕ, Bool, true, false, List, [], ◌∷◌, ◌++◌, codes, length, Option, Some, None, flat_map, count_by, sum_by, slice_get, if◌then◌else◌}
 use Rattle.std.specs.Fmt.{decimal}
 use Rattle.std.specs.List.{AllByRecursion}
-use Rattle.elf_section.specs.Written.{written}
-use Rattle.elf_table.specs.Listed.{symbols_in}
+use Rattle.defmt_decode.specs.declared.event.Event.{Event}
 use Rattle.defmt_eager.specs.Line.{eager_line, IsWide}
 use Rattle.defmt_intern.specs.Stamp.{stamp_of}
 use Rattle.defmt_encode.specs.Carry.{message_of, stamp_args}
@@ -12,25 +11,19 @@ use Rattle.defmt_intern.specs.Table.{Map}
 use Rattle.defmt_intern.specs.declared.entry.Entry.{Entry}
 use Rattle.defmt_intern.specs.declared.entry.Tag.{Tag}
 use Rattle.defmt_intern.specs.declared.entry.Tag.TheVariants as tags
-use Rattle.defmt_logger.specs.Tape.{mark_line, stream_of}
+use Rattle.defmt_logger.specs.Tape.{mark_line}
 use Rattle.defmt_logger.specs.declared.mark.Mark.{Mark}
 use Rattle.defmt_run.specs.Output.{ended, event_line, loss_lines}
-use Rattle.defmt_run.specs.Told.{IsHeard, IsUntold, Ran, Told}
 use Rattle.defmt_run.specs.declared.summary.Level.{Level}
 use Rattle.defmt_run.specs.declared.summary.Level.TheVariants as levels
-use Rattle.defmt_run.specs.declared.task.RunOutput.TheVariants as of_run
-use Rattle.defmt_run.specs.declared.task.ScriptOutput.{ScriptOutput}
-use Rattle.defmt_run.specs.declared.task.ScriptOutput.TheVariants as of_script
-use Rattle.defmt_run.specs.declared.task.Task.{Task}
-use Rattle.defmt_run.specs.declared.task.Task.TheVariants.{Run, Show}
 use Rattle.defmt_script.specs.Lawful.{stamp_in}
 use Rattle.defmt_script.specs.Script.{Script}
 use Rattle.defmt_values.specs.Entries.{look}
 use Rattle.defmt_values.specs.Fits.{Fits, FitsStamp, IsLogged}
 use Rattle.defmt_values.specs.declared.value.Statement.{Statement}
+use Rattle.defmt_words.specs.declared.job.RunOptions.{RunOptions}
 use Rattle.rtt_modes.specs.declared.fate.Fate.{Fate}
 use Rattle.rtt_modes.specs.declared.fate.Fate.TheVariants.{Whole, Dropped, Cut}
-use Rattle.rtt_ring.specs.Account.{Account}
 
 -- ---- `print`: the statements, numbered from 0 by writer and then by place, with the stamps of their numbers
 
@@ -70,6 +63,12 @@ writer_lines s tape writer = flat_map (writer_line s writer) tape
 -- those of the writers 0 to 7 in order
 abbrev pub group_lines : Script → List Mark → List ℕ
 group_lines s tape = flat_map (writer_lines s tape) (0 ∷ 1 ∷ 2 ∷ 3 ∷ 4 ∷ 5 ∷ 6 ∷ 7 ∷ [])
+
+-- ---- `run`: the lines of the events, or those in groups, and then a report of each frame that wasn't sent whole
+
+abbrev pub run_lines : RunOptions → Script → List Mark → List Event → List ℕ
+run_lines options s tape events =
+    (if options.group then group_lines s tape else flat_map event_line events) ++ loss_lines tape
 
 -- ---- `gen`: counts over the tape
 
@@ -125,34 +124,6 @@ summary s tape =
     ++ level_line s tape (codes "error ") levels.Error
     ++ writer_count_line tape 0 ++ writer_count_line tape 1 ++ writer_count_line tape 2 ++ writer_count_line tape 3
     ++ count_line (codes "bytes ") (sum_by (message_size s) tape)
-
--- ---- all of them
-
--- of a script that isn't run: the file of its table, or the lines of its statements
-abbrev pub shown : ScriptOutput → Script → List ℕ
-shown of_script.Table s = written (symbols_in s.table)
-shown of_script.Lines s = statement_lines s
-
--- Of a run: the lines of the events, or those of the frames that were sent whole in groups, and then a report of each frame that
--- wasn't; what was sent; or the counts.
-abbrev pub printed : Task → Script → Told → List ℕ
-printed (Run (of_run.Lines group)) s told =
-    (if group then group_lines s told.tape else flat_map event_line told.events) ++ loss_lines told.tape
-printed (Run of_run.Stream) s told = stream_of s told.tape
-printed (Run of_run.Counts) s told = summary s told.tape
-printed (Show output) s told = shown output s
-
--- what is told of the run: nothing where there is none, and no events where none are printed
-abbrev pub Tells : Task → Script → Told → Type 0
-Tells (Run (of_run.Lines group)) s told = (account : Account) × Ran s account told × IsHeard s account told
-Tells (Run of_run.Stream) s told = (account : Account) × Ran s account told × (told.events ≡ [])
-Tells (Run of_run.Counts) s told = (account : Account) × Ran s account told × IsHeard s account told
-Tells (Show output) s told = IsUntold told
-
--- what a task comes to before it is written
-pub record Makes (task : Task) (s : Script) (told : Told) (output : List ℕ) : Type 0 where
-  pub tells : Tells task s told
-  pub is : output ≡ printed task s told
 
 -- ---- for private clauses
 

@@ -1,16 +1,18 @@
--- A task on a script, which the source gives or which is generated.
+-- A job on a script, which the source gives or which is generated.
 use Rattle.std.specs.Prelude.{◌≡◌, ◌⊎◌, ◌+◌, ◌<◌, ◌≤◌, ℕ, List, length, Result, Ok, Err}
 use Rattle.std.specs.Io.KnownBytes.{Consumes, IsAtEnd}
 use Rattle.dl_io.specs.Outside.{Rose, Took}
 use Rattle.defmt_listen.specs.Streams.{Input, Output, Wrote, WroteFront}
 use Rattle.defmt_script.specs.Reads.{Reads}
 use Rattle.defmt_script.specs.Script.{Refusal, Script as Read}
-use Rattle.defmt_run.specs.Calls.{IsUnwritten}
-use Rattle.defmt_run.specs.Printed.{Tells, printed}
+use Rattle.defmt_generate.specs.Generated.{generated}
+use Rattle.defmt_run.specs.Calls.{IsUnread, IsUnwritten}
+use Rattle.defmt_run.specs.Making.{Makes}
 use Rattle.defmt_run.specs.Told.{IsUntold, Told}
 use Rattle.defmt_run.specs.declared.outcome.Fault.{Fault}
 use Rattle.defmt_run.specs.declared.outcome.Fault.TheVariants.{Fine, Memory, Source, Sink, Script, Long}
-use Rattle.defmt_run.specs.declared.task.Task.{Task}
+use Rattle.defmt_words.specs.declared.job.ScriptJob.{ScriptJob}
+use Rattle.defmt_words.specs.declared.job.ScriptJob.TheVariants.{Generate}
 
 -- the most bytes of a script
 abbrev pub script_limit : ℕ
@@ -59,23 +61,33 @@ Stops text Memory = Unit {0}
 Stops text (Script line cause inner) = Reads text (Err (record { line = line; cause = cause; inner = inner }))
 Stops text fault = ⊥
 
+-- ---- where the script of a job comes from
+
+-- the source, or a generated text, for which the source isn't touched
+abbrev pub Comes : ScriptJob → Input → Read → Type 0
+Comes (Generate count) input s = IsSpelled (generated count) s × IsUnread input
+Comes job input s = Gave input s
+
+-- Why there is none. A generated text is a script, so there only memory may be wanting.
+abbrev pub ComesNot : ScriptJob → Input → Fault → Type 0
+ComesNot (Generate count) input fault = (fault ≡ Memory) × IsUnread input
+ComesNot job input fault = Withholds input fault
+
+-- a script came, and the job made this of it
+pub record Made (job : ScriptJob) (input : Input) (told : Told) (output : List ℕ) : Type 0 where
+  pub script : Read
+  pub comes : Comes job input script
+  pub makes : Makes job script told output
+
 -- ---- what stands at each fault
 
--- Where all was done, or the sink failed, there is a script, this is told of its run, and what is to be written was written, or a
--- front of it. At each other fault there is a cause, nothing was written, and nothing is told.
-abbrev pub Runs : Task → (Read → Type 0) → (Fault → Type 0) → Output → Fault → Told → Type 0
-Runs task Comes Withheld output Fine told = (s : Read) × Comes s × Tells task s told × Wrote output (printed task s told)
-Runs task Comes Withheld output Sink told =
-    (s : Read) × Comes s × Tells task s told × WroteFront output (printed task s told) × Rose output.faults output.faults_after
-Runs task Comes Withheld output fault told = Withheld fault × IsUnwritten output × IsUntold told
-
--- on the script that the source gives
-abbrev pub RunsSource : Task → Input → Output → Fault → Told → Type 0
-RunsSource task input output fault told = Runs task (Gave input) (Withholds input) output fault told
-
--- on a text
-abbrev pub RunsText : Task → List ℕ → Output → Fault → Told → Type 0
-RunsText task text output fault told = Runs task (IsSpelled text) (Stops text) output fault told
+-- Where all was done, or the sink failed, there is a script, this is told of its run, and what was made of it was written, or a
+-- front of that. At each other fault there is a cause, nothing was written, and nothing is told.
+abbrev pub Runs : ScriptJob → Input → Output → Fault → Told → Type 0
+Runs job input output Fine told = (text : List ℕ) × Made job input told text × Wrote output text
+Runs job input output Sink told =
+    (text : List ℕ) × Made job input told text × WroteFront output text × Rose output.faults output.faults_after
+Runs job input output fault told = ComesNot job input fault × IsUnwritten output × IsUntold told
 
 -- ---- what told inputs come to, where nothing fails and memory is there
 

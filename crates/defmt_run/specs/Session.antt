@@ -1,34 +1,76 @@
 -- What a session does, by what the words ask for and the fault that it answers.
-use Rattle.std.specs.Prelude.{◌≡◌, ◌⊎◌, Option, Some, None}
-use Rattle.defmt_generate.specs.Generated.{generated}
-use Rattle.defmt_listen.specs.Streams.{Input, Output}
+use Rattle.std.specs.Prelude.{◌≡◌, ◌⊎◌, ℕ, List, Option, Some, None}
+use Rattle.dl_io.specs.Outside.{Rose}
+use Rattle.defmt_listen.specs.Streams.{Input, IsRest, Output}
 use Rattle.defmt_run.specs.Calls.{Files, IsUnread, IsUntouched, IsUnwritten}
-use Rattle.defmt_run.specs.Decoding.{Decodes}
-use Rattle.defmt_run.specs.Running.{RunsSource, RunsText}
+use Rattle.defmt_run.specs.Decoding.{Decodes, DecodingComesTo}
+use Rattle.defmt_run.specs.Running.{Runs, RunningComesTo}
 use Rattle.defmt_run.specs.Told.{IsUntold, Told}
-use Rattle.defmt_run.specs.Work.{Work, on_source, on_generated, on_recording}
 use Rattle.defmt_run.specs.declared.outcome.Fault.{Fault}
-use Rattle.defmt_run.specs.declared.outcome.Fault.TheVariants.{Memory, Words, Source, Sink, Shelf}
-use Rattle.defmt_run.specs.declared.task.RunOutput.TheVariants.{Counts}
-use Rattle.defmt_run.specs.declared.task.Task.TheVariants.{Run}
+use Rattle.defmt_run.specs.declared.outcome.Fault.TheVariants.{Fine, Memory, Words, Source, Sink, Shelf}
+use Rattle.defmt_words.specs.declared.job.Job.{Job}
+use Rattle.defmt_words.specs.declared.job.Job.TheVariants.{Script, Decode}
+use Rattle.defmt_words.specs.declared.job.ScriptJob.TheVariants.{Generate}
 
 -- words that ask for nothing, or want of memory before they are known
 abbrev pub IsRefused : Fault → Type 0
 IsRefused fault = (fault ≡ Words) ⊎ (fault ≡ Memory)
 
--- What stands at each fault. Words that ask for nothing leave all as it was. A task on a script leaves the shelf, and one on a
--- generated script the source too. The decoding of a recording tells nothing of a run.
-abbrev pub Answers : Option Work → Input → Files → Output → Fault → Told → Type 0
-Answers None input files output fault told = IsRefused fault × IsUnread input × IsUntouched files × IsUnwritten output × IsUntold told
-Answers (Some (on_source task)) input files output fault told = RunsSource task input output fault told × IsUntouched files
-Answers (Some (on_generated count)) input files output fault told =
-    RunsText (Run Counts) (generated count) output fault told × IsUnread input × IsUntouched files
-Answers (Some (on_recording name)) input files output fault told = Decodes name input files output fault × IsUntold told
+-- What stands at each fault. Words that ask for nothing leave all as it was. A job on a script leaves the shelf. The decoding of
+-- a recording tells nothing of a run.
+abbrev pub Answers : Option Job → Input → Files → Output → Fault → Told → Type 0
+Answers None input shelf output fault told =
+    IsRefused fault × IsUnread input × IsUntouched shelf × IsUnwritten output × IsUntold told
+Answers (Some (Script job)) input shelf output fault told = Runs job input output fault told × IsUntouched shelf
+Answers (Some (Decode table)) input shelf output fault told = Decodes table input shelf output fault × IsUntold told
 
--- this is so of the fault, or memory was wanting, or the outside failed and its count rose
-abbrev pub OrFails : Type 0 → Type 0 → Type 0 → (Fault → Type 0) → Fault → Type 0
-OrFails source sink shelf Is Memory = Unit {0}
-OrFails source sink shelf Is Source = source
-OrFails source sink shelf Is Sink = sink
-OrFails source sink shelf Is Shelf = shelf ⊎ Is Shelf
-OrFails source sink shelf Is fault = Is fault
+-- ---- what inputs come to, where nothing fails and memory is there
+
+-- what the source gives, and the files of the shelf
+pub record Inputs : Type 0 where
+  pub text : List ℕ
+  pub files : List ℕ → Option (List ℕ)
+
+-- A row a job.
+abbrev pub ComesTo : Job → Inputs → Fault → Type 0
+ComesTo (Script (Generate count)) inputs fault = fault ≡ Fine
+ComesTo (Script job) inputs fault = RunningComesTo inputs.text fault
+ComesTo (Decode table) inputs fault = DecodingComesTo (inputs.files table) inputs.text fault
+
+-- these are the files, where they are told
+abbrev pub AreFiles : Option (List ℕ → Option (List ℕ)) → (List ℕ → Option (List ℕ)) → Type 0
+AreFiles None files = Unit {0}
+AreFiles (Some told) files = files ≡ told
+
+-- the inputs are as source and shelf tell them, where they do
+pub record AreAsTold (left : Option (List ℕ)) (told : Option (List ℕ → Option (List ℕ))) (inputs : Inputs) : Type 0 where
+  pub text : IsRest left inputs.text
+  pub files : AreFiles told inputs.files
+
+-- some inputs that are as told come to this
+abbrev pub MayComeTo : Job → Option (List ℕ) → Option (List ℕ → Option (List ℕ)) → Fault → Type 0
+MayComeTo job left told fault = (inputs : Inputs) × AreAsTold left told inputs × ComesTo job inputs fault
+
+-- all inputs that are as told come to this
+abbrev pub MustComeTo : Job → Option (List ℕ) → Option (List ℕ → Option (List ℕ)) → Fault → Type 0
+MustComeTo job left told fault = (inputs : Inputs) → AreAsTold left told inputs → ComesTo job inputs fault
+
+-- ---- where something fails, or memory is wanting
+
+-- only a generated script isn't read from the source
+abbrev pub ReadsSource : Job → Type 0
+ReadsSource (Script (Generate count)) = ⊥
+ReadsSource job = Unit {0}
+
+-- only the table of a recording is on the shelf
+abbrev pub AsksShelf : Job → Type 0
+AsksShelf (Script job) = ⊥
+AsksShelf (Decode table) = Unit {0}
+
+-- This is so of the fault, or memory was wanting, or what the job uses of the outside failed and its count rose.
+abbrev pub OrFails : Job → Input → Files → Output → (Fault → Type 0) → Fault → Type 0
+OrFails job input shelf output Is Memory = Unit {0}
+OrFails job input shelf output Is Source = ReadsSource job × Rose input.faults input.faults_after
+OrFails job input shelf output Is Sink = Rose output.faults output.faults_after
+OrFails job input shelf output Is Shelf = (AsksShelf job × Rose shelf.faults shelf.faults_after) ⊎ Is Shelf
+OrFails job input shelf output Is fault = Is fault

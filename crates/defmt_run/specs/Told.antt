@@ -9,6 +9,7 @@ use Rattle.defmt_lines.specs.declared.settings.RingMode.TheVariants.{Block, Skip
 use Rattle.defmt_logger.specs.Kept.{LooksIn}
 use Rattle.defmt_logger.specs.Tape.{IsLawful, lines_of, marks_of, stream_of}
 use Rattle.defmt_logger.specs.declared.mark.Mark.{Mark}
+use Rattle.defmt_run.specs.declared.outcome.Outcome.{Outcome}
 use Rattle.defmt_script.specs.Script.{Script}
 use Rattle.defmt_writers.specs.Runs.{ReachedIn}
 use Rattle.rtt_ring.specs.Account.{Account}
@@ -20,6 +21,15 @@ pub record Told : Type 0 where
   pub settled : Option Account
   pub events : List Event
   pub looks : ℕ
+
+-- what an outcome tells
+abbrev pub told : Outcome → Told
+told outcome = record {
+  tape = outcome.tape.marks;
+  settled = outcome.settled;
+  events = outcome.events;
+  looks = outcome.looks;
+}
 
 -- a run with this tape, account, events and count of looks
 abbrev pub told_of : List Mark → Account → List Event → ℕ → Told

@@ -2,6 +2,8 @@
 ghost use Rattle.std.specs.Prelude.{◌≡◌, ◌≤◌, ◌<◌, [], length, IfOk, IfErr};
 ghost use Rattle.defmt_framing.specs.Framing.{Stands};
 ghost use Rattle.elf_table.specs.Names.{NamesTable};
+ghost use Rattle.defmt_listen.specs.Streams.{input_of, output_of};
+ghost use Rattle.defmt_run.specs.Calls.{files_of};
 ghost use Rattle.defmt_run.specs.Decoding.{Decodes, Hears, IsFile, Loaded, RefusesFile, RefusesName, RefusesTable, table_limit};
 
 use crate::ear::Ear;
@@ -24,10 +26,8 @@ pub fn decode<S: Source, F: Shelf, K: Sink>(
     out: &mut K,
 ) -> Fault
     ensures decodes { Decodes name.now
-        (record { left = S.left src.old; left_after = S.left src.new; faults = S.faults src.old; faults_after = S.faults src.new })
-        (record { files = F.files shelf.old; faults = F.faults shelf.old; faults_after = F.faults shelf.new })
-        (record { held = K.held out.old; held_after = K.held out.new; faults = K.faults out.old; faults_after = K.faults out.new })
-        result }
+        (input_of S.left S.faults src.old src.new) (files_of F.files F.faults shelf.old shelf.new)
+        (output_of K.held K.faults out.old out.new) result }
     ensures source_count { S.faults src.old ≤ S.faults src.new }
     ensures sink_count { K.faults out.old ≤ K.faults out.new }
     ensures shelf_count { F.faults shelf.old ≤ F.faults shelf.new }
@@ -41,11 +41,11 @@ pub fn decode<S: Source, F: Shelf, K: Sink>(
 
 // A host of the table that the file of this name names.
 fn load<F: Shelf>(alloc: Global, name: &str, shelf: &mut F) -> Result<Host, Fault>
-    ensures loaded { IfOk result (λ host. Loaded
-        (record { files = F.files shelf.old; faults = F.faults shelf.old; faults_after = F.faults shelf.new }) name.now host.table) }
+    ensures loaded { IfOk result (λ host. Loaded (files_of F.files F.faults shelf.old shelf.new)
+        name.now host.table) }
     ensures stands { IfOk result (λ host. Stands host.framing []) }
     ensures refused { IfErr result (λ fault. RefusesTable
-        (record { files = F.files shelf.old; faults = F.faults shelf.old; faults_after = F.faults shelf.new }) name.now fault) }
+        (files_of F.files F.faults shelf.old shelf.new) name.now fault) }
     ensures later { F.faults shelf.old ≤ F.faults shelf.new }
     ensures files { F.files shelf.new ≡ F.files shelf.old }
 {
@@ -63,7 +63,7 @@ fn fetch<F: Shelf>(alloc: Global, name: &str, shelf: &mut F) -> Result<Bytes, Fa
     ensures fetched { IfOk result (λ file. IsFile (F.files shelf.old) name.now file.items) }
     ensures within { IfOk result (λ file. length file.items ≤ table_limit) }
     ensures refused { IfErr result (λ fault. RefusesName
-        (record { files = F.files shelf.old; faults = F.faults shelf.old; faults_after = F.faults shelf.new }) name.now fault) }
+        (files_of F.files F.faults shelf.old shelf.new) name.now fault) }
     ensures later { F.faults shelf.old ≤ F.faults shelf.new }
     ensures files { F.files shelf.new ≡ F.files shelf.old }
 {
@@ -101,10 +101,8 @@ fn table_of(alloc: Global, file: &[u8]) -> Result<Table, Fault>
 // Hears the recording, and writes the lines of its events.
 fn hear<S: Source, K: Sink>(alloc: Global, src: &mut S, out: &mut K, host: Host) -> Fault
     requires { Stands host.framing [] }
-    ensures hears { Hears host.table.entries
-        (record { left = S.left src.old; left_after = S.left src.new; faults = S.faults src.old; faults_after = S.faults src.new })
-        (record { held = K.held out.old; held_after = K.held out.new; faults = K.faults out.old; faults_after = K.faults out.new })
-        result }
+    ensures hears { Hears host.table.entries (input_of S.left S.faults src.old src.new)
+        (output_of K.held K.faults out.old out.new) result }
     ensures source_count { S.faults src.old ≤ S.faults src.new }
     ensures sink_count { K.faults out.old ≤ K.faults out.new }
 {

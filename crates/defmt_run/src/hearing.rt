@@ -17,9 +17,12 @@ use std::alloc::Global;
 
 /// The events of what a run sent. In blocking and skip mode they are the lines of the frames that were sent whole.
 pub fn hear(alloc: Global, run: &Run) -> Result<Events, Memory>
-    requires { IsRun run.now.script run.now.tape.marks run.now.settled run.now.captured.items run.now.rest.items run.now.looks }
-    ensures events { IfOk result (λ events. events ≡ events_of run.now.script.table run.now.settled.sent) }
-    ensures lines { IfOk result (λ events. LinesIn run.now.script.settings.mode run.now.script run.now.tape.marks events) }
+    requires { IsRun run.now.script run.now.tape.marks run.now.settled
+        run.now.captured.items run.now.rest.items run.now.looks }
+    ensures events { IfOk result (λ events.
+        events ≡ events_of run.now.script.table run.now.settled.sent) }
+    ensures lines { IfOk result (λ events.
+        LinesIn run.now.script.settings.mode run.now.script run.now.tape.marks events) }
 {
     let script = &run.script;
     script.lawful();
@@ -47,7 +50,8 @@ fn events_of(alloc: Global, table: Table, front: &[u8], rest: &[u8]) -> Result<E
 // Feeds all bytes, and appends the events.
 fn feed(host: &mut Host, bytes: &[u8], events: &mut Events) -> Result<(), Memory>
     ensures heard { OnOk result ((stream : List ℕ) → Stands host.old.framing stream
-        → Heard (tells host.old.table.entries) host.new.framing stream bytes.now events.old events.new) }
+        → Heard (tells host.old.table.entries) host.new.framing stream bytes.now
+        events.old events.new) }
     ensures table { host.new.table ≡ host.old.table }
 {
     let mut rest = bytes;

@@ -19,7 +19,6 @@ mod running;
 mod soundness;
 mod statements;
 mod summary;
-mod task;
 mod top;
 
 pub use defmt_decode::{Event, Events};

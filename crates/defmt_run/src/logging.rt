@@ -22,7 +22,8 @@ pub fn log<G: Gate + Sync, R: Threads + Wait + Sync>(
     gate: &G,
 ) -> Result<Run, Memory>
     ensures script { IfOk result (λ r. r.script ≡ script) }
-    ensures run { IfOk result (λ r. IsRun r.script r.tape.marks r.settled r.captured.items r.rest.items r.looks) }
+    ensures run { IfOk result (λ r.
+        IsRun r.script r.tape.marks r.settled r.captured.items r.rest.items r.looks) }
     ensures ring { IfOk result (λ r. r.settled.ring ≡ Word) }
 {
     let (base, step) = stamps(&script);
@@ -48,7 +49,8 @@ fn log_by<C: Clock + Send + Drop, G: Gate + Sync, R: Threads + Wait + Sync>(
     requires within { (base ≤ 281474976710656) × (step ≤ 281474976710656) }
     requires even { RunsEvenly base step (C.ready clock) (C.gives clock) }
     ensures script { IfOk result (λ r. r.script ≡ script) }
-    ensures run { IfOk result (λ r. IsRun script r.tape.marks r.settled r.captured.items r.rest.items r.looks) }
+    ensures run { IfOk result (λ r.
+        IsRun script r.tape.marks r.settled r.captured.items r.rest.items r.looks) }
     ensures ring { IfOk result (λ r. r.settled.ring ≡ Word) }
 {
     let stamp = Stamp::new(base, step, clock);

@@ -1,6 +1,6 @@
 ghost use Rattle.std.specs.Prelude.{[], ◌≡◌, ◌++◌, IfOk, OnOk};
 ghost use Rattle.defmt_run.specs.Status.{status_of, said};
-ghost use Rattle.defmt_run.specs.Told.{IsUntold};
+ghost use Rattle.defmt_run.specs.Told.{IsUntold, told};
 
 use defmt_decode::Events;
 use defmt_grammar::Text;
@@ -93,7 +93,7 @@ impl Outcome {
     pub(crate) fn silent(alloc: Global, fault: Fault) -> Self
         ensures fault { result.fault ≡ fault }
         ensures status { result.status ≡ status_of fault }
-        ensures untold { IsUntold (record { tape = result.tape.marks; settled = result.settled; events = result.events; looks = result.looks }) }
+        ensures untold { IsUntold (told result) }
     {
         Outcome {
             status: fault.status(),

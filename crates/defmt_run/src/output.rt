@@ -37,7 +37,8 @@ fn add_ended(text: &[u8], out: &mut Bytes) -> Result<(), Memory>
 }
 
 fn add_fault(alloc: Global, cause: u8, out: &mut Bytes) -> Result<(), Memory>
-    ensures { OnOk result (out.new.items ≡ out.old.items ++ (codes "-- E" ++ decimal cause ++ codes " " ++ fault_name cause)) }
+    ensures { OnOk result (out.new.items ≡ out.old.items
+        ++ (codes "-- E" ++ decimal cause ++ codes " " ++ fault_name cause)) }
 {
     add_count(alloc, b"-- E", u64::from(cause), out)?;
     out.push(b' ')?;
@@ -105,7 +106,8 @@ fn add_report(
     room: u32,
     out: &mut Bytes,
 ) -> Result<(), Memory>
-    ensures { OnOk result (out.new.items ≡ out.old.items ++ ended (loss_text done.now mark.now.writer mark.now.place need room)) }
+    ensures { OnOk result (out.new.items ≡ out.old.items
+        ++ ended (loss_text done.now mark.now.writer mark.now.place need room)) }
 {
     out.extend_from_slice(done)?;
     add_pair(
@@ -136,7 +138,8 @@ fn add_pair(
     other: u64,
     out: &mut Bytes,
 ) -> Result<(), Memory>
-    ensures { OnOk result (out.new.items ≡ out.old.items ++ ((front.now ++ decimal count) ++ (middle.now ++ decimal other))) }
+    ensures { OnOk result (out.new.items ≡ out.old.items
+        ++ ((front.now ++ decimal count) ++ (middle.now ++ decimal other))) }
 {
     add_count(alloc, front, count, out)?;
     add_count(alloc, middle, other, out)

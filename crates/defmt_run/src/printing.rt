@@ -1,13 +1,14 @@
 // What `run` prints.
-ghost use Rattle.std.specs.Prelude.{◌≡◌, ◌++◌, IfOk, OnOk, flat_map, if◌then◌else◌};
+ghost use Rattle.std.specs.Prelude.{◌≡◌, ◌++◌, IfOk, OnOk, flat_map};
 ghost use Rattle.defmt_run.specs.Output.{event_line, loss_lines};
-ghost use Rattle.defmt_run.specs.Printed.{ArePlaced, IsPlaced, group_lines, writer_line, writer_lines};
+ghost use Rattle.defmt_run.specs.Printed.{ArePlaced, IsPlaced, group_lines, run_lines, writer_line, writer_lines};
 
 use crate::output::{add_line, add_loss};
 use crate::statements::add_mark_line;
 use defmt_decode::Events;
 use defmt_logger::{Mark, Tape};
 use defmt_script::Script;
+use defmt_words::RunOptions;
 use dl_io::{Bytes, Memory};
 use rtt_modes::Fate;
 use std::alloc::Global;
@@ -17,17 +18,17 @@ const WRITERS: [u8; 8] = [0, 1, 2, 3, 4, 5, 6, 7];
 /// The lines of a run, the events' or those of the tape in groups by writer, and then the reports of what was lost.
 pub fn run_lines(
     alloc: Global,
-    group: bool,
+    options: &RunOptions,
     script: &Script,
     tape: &Tape,
     events: &Events,
 ) -> Result<Bytes, Memory>
     requires { ArePlaced script.now tape.now.marks }
     ensures { IfOk result (λ out. out.items
-        ≡ (if group then group_lines script.now tape.now.marks else flat_map event_line events.now) ++ loss_lines tape.now.marks) }
+        ≡ run_lines options.now script.now tape.now.marks events.now) }
 {
     let mut out = Bytes::new(alloc);
-    if group {
+    if options.group {
         add_groups(alloc, script, tape.as_slice(), &mut out)?;
     } else {
         add_events(alloc, events, &mut out)?;
@@ -73,7 +74,8 @@ fn add_writer(
     out: &mut Bytes,
 ) -> Result<(), Memory>
     requires { ArePlaced script.now tape.now }
-    ensures { OnOk result (out.new.items ≡ out.old.items ++ writer_lines script.now tape.now writer) }
+    ensures { OnOk result (out.new.items ≡ out.old.items
+        ++ writer_lines script.now tape.now writer) }
 {
     for mark in tape {
         add_of_writer(alloc, script, writer, mark, out)?;
@@ -90,7 +92,8 @@ fn add_of_writer(
     out: &mut Bytes,
 ) -> Result<(), Memory>
     requires { IsPlaced script.now mark.now }
-    ensures { OnOk result (out.new.items ≡ out.old.items ++ writer_line script.now writer mark.now) }
+    ensures { OnOk result (out.new.items ≡ out.old.items
+        ++ writer_line script.now writer mark.now) }
 {
     if mark.writer != writer {
         return Ok(());

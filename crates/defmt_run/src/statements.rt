@@ -46,9 +46,11 @@ fn add_writer(
 ) -> Result<u32, Memory>
     requires writer { writer < length script.now.writers }
     requires few { number + length (slice_index_or script.now.writers writer []) ≤ 4096 }
-    ensures count { IfOk result (λ after. after ≡ number + length (slice_index_or script.now.writers writer [])) }
+    ensures count { IfOk result (λ after.
+        after ≡ number + length (slice_index_or script.now.writers writer [])) }
     ensures bytes { OnOk result (out.new.items ≡ out.old.items
-        ++ numbered (numbered_line script.now) number (slice_index_or script.now.writers writer [])) }
+        ++ numbered (numbered_line script.now) number
+        (slice_index_or script.now.writers writer [])) }
 {
     script.lawful();
     let count = script.count(writer);
@@ -72,7 +74,8 @@ fn add_statement(
 ) -> Result<(), Memory>
     requires sound { IsSound script.now.table script.now.settings.stamp statement.now }
     requires few { number ≤ 4096 }
-    ensures { OnOk result (out.new.items ≡ out.old.items ++ numbered_line script.now number statement.now) }
+    ensures { OnOk result (out.new.items ≡ out.old.items
+        ++ numbered_line script.now number statement.now) }
 {
     script.lawful();
     stamps_fit();
@@ -123,7 +126,8 @@ fn add_line(
 ) -> Result<(), Memory>
     requires { Prints table.now.entries stamp statement.now }
     ensures { OnOk result (out.new.items ≡ out.old.items
-        ++ ended (eager_line table.now.entries (stamp_args stamp) statement.now.index statement.now.args)) }
+        ++ ended (eager_line table.now.entries (stamp_args stamp)
+        statement.now.index statement.now.args)) }
 {
     put_stamp(stamp, args)?;
     match line(alloc, table, args, statement) {

@@ -68,7 +68,8 @@ fn add_level(
     level: Level,
     out: &mut Bytes,
 ) -> Result<(), Memory>
-    ensures { OnOk result (out.new.items ≡ out.old.items ++ level_line script.now marks.now front.now level) }
+    ensures { OnOk result (out.new.items ≡ out.old.items
+        ++ level_line script.now marks.now front.now level) }
 {
     let count = marks
         .iter()

@@ -1,9 +1,17 @@
 -- What some words ask for. The program's name is any text.
-use Rattle.std.proofs.Common.{◌≡◌, ◌==◌, ℕ, List, [], ◌∷◌, ◌++◌, true, false, refl, codes}
+use Rattle.std.proofs.Common.{◌≡◌, ◌==◌, ℕ, Bool, List, [], ◌∷◌, ◌++◌, true, false, refl, codes}
 use Rattle.std.specs.Prelude.{Some, None, option_map}
 use Rattle.clap.specs.Words.{Text}
 use Rattle.clap.proofs.OnLiterals.{clap_on_literals}
-use Rattle.defmt_words.specs.Words.{job, count_in, refusals, rows, running, recording, table_file, printing, decoding, generating}
+use Rattle.defmt_words.specs.declared.job.Job.{Job}
+use Rattle.defmt_words.specs.declared.job.Job.TheVariants.{Script, Decode}
+use Rattle.defmt_words.specs.declared.job.ScriptJob.TheVariants.{Run, Record, Table, Print, Generate}
+use Rattle.defmt_words.specs.Numbers.{decimal_in}
+use Rattle.defmt_words.specs.Words.{job, refusals, rows}
+
+-- the run of a script, its lines grouped or not
+abbrev running : Bool → Job
+running group = Script (Run (record { group = group }))
 
 module _ (name : Text) where
   plain : job (name ∷ codes "run" ∷ []) ≡ Some (running false)
@@ -18,15 +26,15 @@ module _ (name : Text) where
   unfolding clap_on_literals refusals rows
   group_first = refl
 
-  decodes : job (name ∷ codes "decode" ∷ codes "--table=t.elf" ∷ []) ≡ Some (decoding (codes "t.elf"))
+  decodes : job (name ∷ codes "decode" ∷ codes "--table=t.elf" ∷ []) ≡ Some (Decode (codes "t.elf"))
   unfolding clap_on_literals refusals rows
   decodes = refl
 
-  decodes_apart : job (name ∷ codes "decode" ∷ codes "--table" ∷ codes "t.elf" ∷ []) ≡ Some (decoding (codes "t.elf"))
+  decodes_apart : job (name ∷ codes "decode" ∷ codes "--table" ∷ codes "t.elf" ∷ []) ≡ Some (Decode (codes "t.elf"))
   unfolding clap_on_literals refusals rows
   decodes_apart = refl
 
-  generates : job (name ∷ codes "gen" ∷ codes "4096" ∷ []) ≡ Some (generating 4096)
+  generates : job (name ∷ codes "gen" ∷ codes "4096" ∷ []) ≡ Some (Script (Generate 4096))
   unfolding clap_on_literals refusals rows
   generates = refl
 
@@ -82,7 +90,7 @@ module _ (name : Text) where
   unfolding clap_on_literals refusals rows
   no_value = refl
 
-  empty_value : job (name ∷ codes "decode" ∷ codes "--table=" ∷ []) ≡ Some (decoding [])
+  empty_value : job (name ∷ codes "decode" ∷ codes "--table=" ∷ []) ≡ Some (Decode [])
   unfolding clap_on_literals refusals rows
   empty_value = refl
 
@@ -94,15 +102,15 @@ module _ (name : Text) where
   unfolding clap_on_literals refusals rows
   group_value = refl
 
-  records : job (name ∷ codes "record" ∷ []) ≡ Some recording
+  records : job (name ∷ codes "record" ∷ []) ≡ Some (Script Record)
   unfolding clap_on_literals refusals rows
   records = refl
 
-  tables : job (name ∷ codes "table" ∷ []) ≡ Some table_file
+  tables : job (name ∷ codes "table" ∷ []) ≡ Some (Script Table)
   unfolding clap_on_literals refusals rows
   tables = refl
 
-  prints : job (name ∷ codes "print" ∷ []) ≡ Some printing
+  prints : job (name ∷ codes "print" ∷ []) ≡ Some (Script Print)
   unfolding clap_on_literals refusals rows
   prints = refl
 
@@ -115,14 +123,14 @@ module _ (name : Text) where
   no_table = refl
 
   -- the table may have any name
-  any_table : (file : Text) → job (name ∷ codes "decode" ∷ (codes "--table=" ++ file) ∷ []) ≡ Some (decoding file)
+  any_table : (file : Text) → job (name ∷ codes "decode" ∷ (codes "--table=" ++ file) ∷ []) ≡ Some (Decode file)
   unfolding clap_on_literals refusals rows
   any_table file = refl
 
   -- and the number is any word that does not begin with a dash
-  any_number : (d : ℕ) (ds : List ℕ) → (d == 45) ≡ false → job (name ∷ codes "gen" ∷ (d ∷ ds) ∷ []) ≡ option_map generating (count_in (d ∷ ds))
+  any_number : (d : ℕ) (ds : List ℕ) → (d == 45) ≡ false → job (name ∷ codes "gen" ∷ (d ∷ ds) ∷ []) ≡ option_map (λ count. Script (Generate count)) (decimal_in 1 4096 (d ∷ ds))
   unfolding clap_on_literals refusals rows
-  any_number d ds h = simp h
+  any_number d ds h = rw (h, h) refl
 
 no_words : job [] ≡ None
 unfolding clap_on_literals refusals rows

@@ -1,17 +1,13 @@
 -- What `clap` tells of the words, folded into the crate's own definitions.
-use Rattle.std.proofs.Common.{◌≡◌, ◌∙◌, ℕ, true, false, List, [], ◌∷◌, refl, ap, subst, inl, inr, codes, rules}
-use Rattle.std.specs.Prelude.{Result, Ok, Err, Option, Some, None}
-use Rattle.std.specs.Borrow.{Bor}
-use Rattle.clap.specs.Words.{App, Text, Kinds, FailsBy, HasKind, HasMatchesOf, fault_of, is_simple, is_simple_and_free, found_of, kind_of, rows_of, first_value, first_of}
+use Rattle.std.proofs.Common.{◌≡◌, true, false, List, [], ◌∷◌, refl, ap, subst, inl, inr, rules}
+use Rattle.std.specs.Prelude.{Result, Ok, Err, Some, None}
+use Rattle.clap.specs.Words.{App, Text, Kinds, FailsBy, HasKind, HasMatchesOf, fault_of, is_simple, is_simple_and_free, found_of, kind_of, rows_of}
 use Rattle.clap.specs.Walk.{is_empty}
 use Rattle.clap.specs.declared.error.Error.{Error}
 use Rattle.clap.specs.declared.error.ErrorKind.TheVariants.{OutOfMemory}
 use Rattle.clap.specs.declared.parser.matches.ArgMatches.{ArgMatches}
-use Rattle.clap.specs.declared.parser.matches.Found.{Found}
 use Rattle.clap.proofs.OnLiterals.{clap_on_literals}
-use Rattle.clap.proofs.WalkLemmas.{first_value-rows}
-use Rattle.defmt_words.specs.View.{text_in}
-use Rattle.defmt_words.specs.Words.{command_line, found, refusals, rows, chosen, picked}
+use Rattle.defmt_words.specs.Words.{command_line, found, refusals, rows}
 
 is_free : is_simple_and_free command_line ≡ true
 unfolding clap_on_literals
@@ -55,14 +51,3 @@ pub found_none : (app : App) (words : List Text) (e : Error) → app ≡ command
     → (is_simple_and_free app ≡ true → FailsBy {T = ArgMatches} (fault_of app words) (Err e)) → None ≡ found words
 found_none app words e line other kinds =
     rw (is_refused (refusals words) (refused_of (refusals words) e other (refused_by app words (Err e) line kinds))) refl
-
--- what is picked by the texts that `get_str` gave
-pub chosen_is : (f : Found) (command number file group : Option (Bor (List ℕ)))
-    → text_in command ≡ first_value f (codes "command") → text_in number ≡ first_value f (codes "number")
-    → text_in file ≡ first_value f (codes "table") → text_in group ≡ first_value f (codes "group")
-    → picked (text_in command) (text_in number) (text_in file) (text_in group) ≡ chosen (rows_of f)
-chosen_is f command number file group ec en ef eg =
-    ap (λ (x : Option Text). picked x (text_in number) (text_in file) (text_in group)) (ec ∙ first_value-rows f (codes "command"))
-    ∙ ap (λ (x : Option Text). picked (first_of (codes "command") (rows_of f)) x (text_in file) (text_in group)) (en ∙ first_value-rows f (codes "number"))
-    ∙ ap (λ (x : Option Text). picked (first_of (codes "command") (rows_of f)) (first_of (codes "number") (rows_of f)) x (text_in group)) (ef ∙ first_value-rows f (codes "table"))
-    ∙ ap (λ (x : Option Text). picked (first_of (codes "command") (rows_of f)) (first_of (codes "number") (rows_of f)) (first_of (codes "table") (rows_of f)) x) (eg ∙ first_value-rows f (codes "group"))

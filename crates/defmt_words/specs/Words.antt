@@ -1,37 +1,50 @@
 -- What the words of the program ask for.
-use Rattle.std.specs.Prelude.{◌+◌, ◌-◌, ◌*◌, ◌==◌, ◌&&◌, ℕ, Bool, true, false, not, List, [], ◌∷◌, length, Option, Some, None, if◌then◌else◌, nat_lt, nat_le, codes, option_map, option_and_then, slice_index}
+use Rattle.std.specs.Prelude.{Bool, true, false, not, List, [], ◌∷◌, Option, Some, None, is_some, if◌then◌else◌, codes, option_map, option_and_then}
 use Rattle.std.specs.Option.{option_map_or}
-use Rattle.std.specs.Str.{bytes_eq, all_ascii_digits}
+use Rattle.std.specs.Str.{bytes_eq}
 use Rattle.clap.specs.Words.{App, Row, Rule, Text, first_of, fault_of, matches_of, new_app, new_rule, with_rule, Kinds}
 use Rattle.clap.specs.Walk.{is_empty}
 use Rattle.clap.specs.declared.builder.ArgAction.TheVariants.{SetTrue}
+use Rattle.defmt_words.specs.declared.job.Job.{Job}
+use Rattle.defmt_words.specs.declared.job.Job.TheVariants.{Script, Decode}
+use Rattle.defmt_words.specs.declared.job.ScriptJob.TheVariants.{Run, Record, Table, Print, Generate}
+use Rattle.defmt_words.specs.declared.job.RunOptions.{RunOptions}
+use Rattle.defmt_words.specs.declared.job.Kind.{Kind}
+use Rattle.defmt_words.specs.declared.job.Kind.TheVariants.{Place, Value, Flag}
+use Rattle.defmt_words.specs.Numbers.{decimal_in}
 
--- a run, with its lines in groups or not; a recording, a table's file or the lines of a script;
--- a decoding by the table in the file of this name; a run of so many generated statements
-pub data Job : Type 0 where
-  running : Bool → Job
-  recording : Job
-  table_file : Job
-  printing : Job
-  decoding : Text → Job
-  generating : ℕ → Job
+-- A parameter: its name, how it stands in the words, the commands that take it, and those that need it.
+pub record Parameter : Type 0 where
+  pub name : Text
+  pub kind : Kind
+  pub taken : List Text
+  pub needed : List Text
 
--- The command line, as `clap` sees it: the positionals `command` (required) and `number`, the option `--table` with a value,
--- and the flag `--group`.
+-- A row a parameter.
+abbrev pub parameters : List Parameter
+parameters =
+    record { name = codes "number"; kind = Place; taken = codes "gen" ∷ []; needed = codes "gen" ∷ [] }
+    ∷ record { name = codes "table"; kind = Value; taken = codes "decode" ∷ []; needed = codes "decode" ∷ [] }
+    ∷ record { name = codes "group"; kind = Flag; taken = codes "run" ∷ []; needed = [] }
+    ∷ []
+
+-- ---- the command line, as `clap` sees it: the command, which is required, and then the parameters
+
+-- a word by its place, `--name` with a value, or `--name`
+abbrev pub rule_by : Kind → Text → Rule
+rule_by Place name = new_rule name
+rule_by Value name = record (new_rule name) { long = Some name }
+rule_by Flag name = record (new_rule name) { long = Some name; action = Some SetTrue }
+
+abbrev pub with_rules : App → List Parameter → App
+with_rules app [] = app
+with_rules app (parameter ∷ more) = with_rules (with_rule app (rule_by parameter.kind parameter.name)) more
+
 abbrev pub command_rule : Rule
 command_rule = record (new_rule (codes "command")) { required = true }
 
-abbrev pub number_rule : Rule
-number_rule = new_rule (codes "number")
-
-abbrev pub table_rule : Rule
-table_rule = record (new_rule (codes "table")) { long = Some (codes "table") }
-
-abbrev pub group_rule : Rule
-group_rule = record (new_rule (codes "group")) { long = Some (codes "group"); action = Some SetTrue }
-
 abbrev pub command_line : App
-command_line = with_rule (with_rule (with_rule (with_rule (new_app (codes "defmtl")) command_rule) number_rule) table_rule) group_rule
+command_line = with_rules (with_rule (new_app (codes "defmtl")) command_rule) parameters
 
 -- the kinds of error for which `clap` refuses the words (help and version too): none where it takes them
 unfoldable pub refusals : List Text → Kinds
@@ -45,55 +58,59 @@ rows words = matches_of command_line words
 abbrev pub found : List Text → Option (List Row)
 found words = if is_empty (refusals words) then Some (rows words) else None
 
--- the number that decimal digits stand for, behind those of `n`
-abbrev pub read_on : ℕ → List ℕ → ℕ
-read_on n [] = n
-read_on n (c ∷ cs) = read_on (10 * n + (c - 48)) cs
+-- ---- which parameters go with a command
 
--- a decimal number from 1 to 4,096, without sign or leading zero
-abbrev pub count_in : Text → Option ℕ
-count_in text = if nat_lt 0 (length text) && (all_ascii_digits text && (not (slice_index text 0 == 48) && nat_le (read_on 0 text) 4096))
-    then Some (read_on 0 text) else None
+-- whether a flag is there, to which `clap` then gives this value
+abbrev pub is_set : Text → List Row → Bool
+is_set name rows = option_map_or (λ text. bytes_eq text (codes "true")) (first_of name rows) false
 
--- Each command with its number, its table and whether `--group` is there: the number goes with `gen` alone and the table with
--- `decode` alone, and both are needed there; `--group` goes with `run` alone.
-abbrev pub run_by : Option Text → Option Text → Bool → Option Job
-run_by None None group = Some (running group)
-run_by _ _ _ = None
+abbrev pub is_there : Kind → Text → List Row → Bool
+is_there Place name rows = is_some (first_of name rows)
+is_there Value name rows = is_some (first_of name rows)
+is_there Flag name rows = is_set name rows
 
-abbrev pub bare : Job → Option Text → Option Text → Bool → Option Job
-bare job None None false = Some job
-bare job _ _ _ = None
+abbrev pub is_among : Text → List Text → Bool
+is_among word [] = false
+is_among word (w ∷ ws) = if bytes_eq word w then true else is_among word ws
 
-abbrev pub decode_by : Option Text → Option Text → Bool → Option Job
-decode_by None (Some file) false = Some (decoding file)
-decode_by _ _ _ = None
+-- the command takes a parameter that is there, and doesn't need one that isn't
+abbrev pub goes : Text → List Row → Parameter → Bool
+goes command rows parameter = if is_there parameter.kind parameter.name rows
+    then is_among command parameter.taken else not (is_among command parameter.needed)
 
-abbrev pub generate_by : Option Text → Option Text → Bool → Option Job
-generate_by (Some text) None false = option_map generating (count_in text)
-generate_by _ _ _ = None
+abbrev pub all_go : Text → List Row → List Parameter → Bool
+all_go command rows [] = true
+all_go command rows (parameter ∷ more) = if goes command rows parameter then all_go command rows more else false
 
-abbrev pub choice : Text → Option Text → Option Text → Bool → Option Job
-choice name number file group =
-    if bytes_eq name (codes "run") then run_by number file group
-    else if bytes_eq name (codes "record") then bare recording number file group
-    else if bytes_eq name (codes "table") then bare table_file number file group
-    else if bytes_eq name (codes "print") then bare printing number file group
-    else if bytes_eq name (codes "decode") then decode_by number file group
-    else if bytes_eq name (codes "gen") then generate_by number file group
+-- ---- the job of a command, by parameters that go with it
+
+abbrev pub run_options : List Row → RunOptions
+run_options rows = record { group = is_set (codes "group") rows }
+
+abbrev pub decode_by : List Row → Option Job
+decode_by rows = option_map (λ table. Decode table) (first_of (codes "table") rows)
+
+abbrev pub generate_by : List Row → Option Job
+generate_by rows =
+    option_map (λ count. Script (Generate count)) (option_and_then (decimal_in 1 4096) (first_of (codes "number") rows))
+
+-- A row a command.
+abbrev pub choice : Text → List Row → Option Job
+choice command rows =
+    if bytes_eq command (codes "run") then Some (Script (Run (run_options rows)))
+    else if bytes_eq command (codes "record") then Some (Script Record)
+    else if bytes_eq command (codes "table") then Some (Script Table)
+    else if bytes_eq command (codes "print") then Some (Script Print)
+    else if bytes_eq command (codes "decode") then decode_by rows
+    else if bytes_eq command (codes "gen") then generate_by rows
     else None
 
--- the value that `clap` gives a flag that is there
-abbrev pub is_true_text : Option Text → Bool
-is_true_text value = option_map_or (λ text. bytes_eq text (codes "true")) value false
-
--- what the values of the command, the number, `--table` and `--group` ask for
-abbrev pub picked : Option Text → Option Text → Option Text → Option Text → Option Job
-picked name number file group = option_and_then (λ text. choice text number file (is_true_text group)) name
-
 abbrev pub chosen : List Row → Option Job
-chosen rows = picked (first_of (codes "command") rows) (first_of (codes "number") rows) (first_of (codes "table") rows) (first_of (codes "group") rows)
+chosen rows =
+    option_and_then (λ command. if all_go command rows parameters then choice command rows else None)
+    (first_of (codes "command") rows)
 
--- what the words ask for, of which the first is the program's name: nothing where `clap` refuses them or a command's values don't go with it
+-- What the words ask for, of which the first is the program's name: nothing where `clap` refuses them, or where the parameters
+-- don't go with the command.
 abbrev pub job : List Text → Option Job
 job words = option_and_then chosen (found words)

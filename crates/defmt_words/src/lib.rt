@@ -3,10 +3,10 @@
 
 mod command_line;
 mod job;
-mod laws;
 mod number;
+mod parameters;
 mod reading;
 
-pub use job::Job;
-pub use laws::counts_fit;
+pub use job::{Job, RunOptions, ScriptJob};
+pub use number::{Count, Within};
 pub use reading::job_of;

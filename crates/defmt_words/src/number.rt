@@ -1,21 +1,65 @@
-ghost use Rattle.std.specs.Prelude.{◌≡◌};
-ghost use Rattle.defmt_words.specs.Words.{count_in};
+//! Numbers in words.
 
-// The most statements that can be asked for.
-const MOST: u32 = 4096;
+ghost use Rattle.std.specs.Prelude.{◌≡◌, ◌≤◌};
+ghost use Rattle.defmt_words.specs.Numbers.{numeral_in, decimal_in};
 
-/// The number that the text spells: decimal, 1 to 4,096, without sign or leading zero.
-pub fn count_of(text: &str) -> Option<u32>
-    ensures { result ≡ count_in text.now }
+use std::marker::Model;
+
+/// A number from `LEAST` to `MOST`. Contracts see the number itself.
+#[derive(Drop)]
+pub struct Within<const LEAST: u32, const MOST: u32> {
+    number: u32,
+}
+
+/// How many statements are generated.
+pub type Count = Within<1, 4096>;
+
+impl<const LEAST: u32, const MOST: u32> Model for Within<LEAST, MOST> {
+    ghost use Rattle.std.specs.Prelude.{ℕ, ◌≤◌};
+
+    ghost Value = { ℕ };
+
+    ghost view = { λ within. within.number };
+
+    ghost invariant = { λ within. (LEAST ≤ within.number) × (within.number ≤ MOST) };
+}
+
+impl<const LEAST: u32, const MOST: u32> Within<LEAST, MOST> {
+    /// The number.
+    pub fn number(&self) -> u32
+        ensures number { result ≡ self.now }
+        ensures least { LEAST ≤ result }
+        ensures most { result ≤ MOST }
+    {
+        self.number
+    }
+}
+
+// The number that decimal digits spell, where 32 bits hold it.
+fn numeral_of(text: &str) -> Option<u32>
+    ensures { result ≡ numeral_in text.now }
 {
     let [first, ..] = text.as_bytes() else {
         return None;
     };
-    if *first == b'0' || *first == b'+' {
+    if *first == b'+' {
         return None;
     }
     match text.parse::<u32>() {
-        Ok(count) if count <= MOST => Some(count),
+        Ok(number) => Some(number),
+        Err(_) => None,
+    }
+}
+
+/// The number that the text spells: decimal, without sign or leading zero, from `LEAST` to `MOST`.
+pub fn decimal_of<const LEAST: u32, const MOST: u32>(text: &str) -> Option<Within<LEAST, MOST>>
+    ensures { result ≡ decimal_in LEAST MOST text.now }
+{
+    if text.len() > 1 && text.as_bytes()[0] == b'0' {
+        return None;
+    }
+    match numeral_of(text) {
+        Some(number) if LEAST <= number && number <= MOST => Some(Within { number }),
         _ => None,
     }
 }

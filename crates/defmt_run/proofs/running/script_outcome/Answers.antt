@@ -1,0 +1,24 @@
+use Rattle.std.proofs.Common.{refl, subst, sym}
+use Rattle.defmt_listen.specs.Streams.{Input, Output, input_of, output_of}
+use Rattle.defmt_run.proofs.Deciding.{keeps, ran, ran_not}
+use Rattle.defmt_run.specs.Calls.{IsUnwritten}
+use Rattle.defmt_run.specs.Running.{Made, Runs}
+use Rattle.defmt_run.specs.Told.{Told, told}
+use Rattle.defmt_run.specs.declared.outcome.Fault.{Fault}
+use Rattle.defmt_run.proofs.running.script_outcome.Goals as goal
+
+pub returns-in-Ok-clause-runs : goal.returns-in-Ok-clause-runs
+returns-in-Ok-clause-runs g c =
+    let input : Input = input_of g.S.Source.left g.S.Source.faults c.args.src.now c.making_of.new.src in
+    let output : Output = output_of g.K.Sink.held g.K.Sink.faults c.args.out.now c.written.new.out in
+    ran c.args.job.now input output c.written.result.fault (told c.written.result) c.in-Ok.making.output.items
+    (subst (λ (t : Told). Made c.args.job.now input t c.in-Ok.making.output.items) (sym c.written.ensures.same) c.in-Ok.ensures.made)
+    c.written.ensures.written
+
+pub returns-in-Err-clause-runs : goal.returns-in-Err-clause-runs
+returns-in-Err-clause-runs g c =
+    let input : Input = input_of g.S.Source.left g.S.Source.faults c.args.src.now c.making_of.new.src in
+    let output : Output = output_of g.K.Sink.held g.K.Sink.faults c.args.out.now c.args.out.now in
+    let unwritten : IsUnwritten output = record { held = keeps (g.K.Sink.held c.args.out.now); faults = refl } in
+    subst (λ (f : Fault). Runs c.args.job.now input output f (told c.silent.result)) (sym c.silent.ensures.fault)
+    (ran_not c.args.job.now input output c.in-Err.fault (told c.silent.result) c.in-Err.ensures.comes_not unwritten c.silent.ensures.untold)
