@@ -4,7 +4,6 @@ use Rattle.std.specs.Prelude.{Option, Some, None, Result, Ok, Err, OnErr, IfErr}
 use Rattle.std.specs.Result.{IsErrAnd}
 use Rattle.std.specs.Io.KnownBytes.{Appends, IsAtEnd}
 use Rattle.std.proofs.Math.Seq.{take-append-add}
-use Rattle.std.proofs.lemmas.Grind.{flat_map-append}
 use Rattle.std.proofs.lemmas.List.{append-nil, take-append-le}
 use Rattle.std.proofs.lemmas.List.Elements.{filter-append}
 use Rattle.dl_io.proofs.Streams.{appends_then}
@@ -12,7 +11,7 @@ use Rattle.defmt_framing.specs.Cut.{has_zero}
 use Rattle.defmt_framing.specs.Told.{Tells, events, begun}
 use Rattle.defmt_framing.proofs.Telling.{begun-zero, begun-run, begun-none, closing, ending, events-is}
 use Rattle.defmt_listen.specs.Streams.{IsRest}
-use Rattle.defmt_listen.specs.Heard.{Reports, lines, faults}
+use Rattle.defmt_listen.specs.Heard.{Reporting, lines_from, state_behind, faults_among}
 
 -- some lists are this list and something behind it
 pub record Goes {A : Type 0} (whole front : List A) : Type 0 where
@@ -50,11 +49,18 @@ module _ {E : Type 0} (t : Tells E) where
   unfolding has_zero
   begun_nothing = begun-none t [] refl
 
-module _ {E : Type 0} (r : Reports E) where
-  pub lines-append : (xs ys : List E) → lines r (xs ++ ys) ≡ lines r xs ++ lines r ys
-  lines-append xs ys = flat_map-append r.line xs ys
+module _ {S E : Type 0} (r : Reporting S E) where
+  pub lines-append : (s : S) (xs ys : List E) → lines_from r s (xs ++ ys) ≡ lines_from r s xs ++ lines_from r (state_behind r s xs) ys
+  lines-append s [] ys = refl
+  lines-append s (x ∷ xs) ys =
+      ap (λ (l : List ℕ). r.line s x ++ l) (lines-append (r.after s x) xs ys)
+      ∙ sym (append_assoc (r.line s x) (lines_from r (r.after s x) xs) (lines_from r (state_behind r (r.after s x) xs) ys))
 
-  pub faults-append : (xs ys : List E) → faults r (xs ++ ys) ≡ faults r xs + faults r ys
+  pub behind-append : (s : S) (xs ys : List E) → state_behind r s (xs ++ ys) ≡ state_behind r (state_behind r s xs) ys
+  behind-append s [] ys = refl
+  behind-append s (x ∷ xs) ys = behind-append (r.after s x) xs ys
+
+  pub faults-append : (xs ys : List E) → faults_among r (xs ++ ys) ≡ faults_among r xs + faults_among r ys
   faults-append xs ys = ap length (filter-append r.is_fault xs ys) ∙ length-append (filter r.is_fault xs) (filter r.is_fault ys)
 
 -- a front of a text was written

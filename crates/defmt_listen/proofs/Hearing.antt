@@ -3,20 +3,21 @@ use Rattle.std.proofs.Common.{◌≡◌, ◌≤◌, ◌<◌, ◌+◌, ℕ, List,
 use Rattle.std.specs.Prelude.{Option, Some, None, option_to_list}
 use Rattle.std.specs.Io.KnownBytes.{Appends}
 use Rattle.dl_io.proofs.Streams.{appends_then, appends_none}
-use Rattle.defmt_framing.specs.Told.{begun}
+use Rattle.defmt_framing.specs.Told.{Tells, begun}
 use Rattle.defmt_framing.specs.Framing.{Framing, Stands, Hears}
 use Rattle.defmt_framing.proofs.Standing.{HearsSo, hears_start, hears_more, hears_all}
-use Rattle.defmt_listen.specs.Heard.{Reports, lines, faults, HeardPart, HeardSome}
-use Rattle.defmt_listen.proofs.Fronts.{Front, then_front, lines-append, faults-append}
+use Rattle.defmt_listen.specs.Heard.{Reporting, lines_from, state_behind, faults_among, HeardPart, HeardSome}
+use Rattle.defmt_listen.proofs.Fronts.{Front, then_front, lines-append, behind-append, faults-append}
 
 -- What is heard so far of a part, what of its lines is written and what is gathered, and how many faults are counted.
-pub record Hearing {E : Type 0} (r : Reports E) (first now : Framing) (bytes rest : List ℕ) (held held_now : Option (List ℕ)) (gathered : List ℕ) (count count_now : ℕ) : Type 0 where
+pub record Hearing {S E : Type 0} (t : Tells E) (r : Reporting S E) (state state_now : S) (first now : Framing) (bytes rest : List ℕ) (held held_now : Option (List ℕ)) (gathered : List ℕ) (count count_now : ℕ) : Type 0 where
   pub told : List E
-  pub hears : HearsSo r.tells first now bytes rest [] told
+  pub hears : HearsSo t first now bytes rest [] told
   pub written : List ℕ
   pub appended : Appends held held_now written
-  pub lines_are : written ++ gathered ≡ lines r told
-  pub counted : count_now ≡ count + faults r told
+  pub lines_are : written ++ gathered ≡ lines_from r state told
+  pub moved : state_now ≡ state_behind r state told
+  pub counted : count_now ≡ count + faults_among r told
   pub fits : count_now + length rest ≤ count + length bytes
 
 -- an event is one fault or none
@@ -24,91 +25,99 @@ one_if : (b : Bool) (E : Type 0) (event : E) → length (cond b (event ∷ []) [
 one_if true E event = omega arith
 one_if false E event = omega arith
 
-pub one_event : {E : Type 0} (r : Reports E) (event : Option E) → faults r (option_to_list event) ≤ 1
+pub one_event : {S E : Type 0} (r : Reporting S E) (event : Option E) → faults_among r (option_to_list event) ≤ 1
 one_event r None = omega arith
-one_event {E} r (Some event) = one_if (r.is_fault event) E event
+one_event {S} {E} r (Some event) = one_if (r.is_fault event) E event
 
 pub some_left : (rest : List ℕ) (empty : Bool) → empty ≡ nat_eq (length rest) 0 → empty ≡ false → 0 < length rest
 some_left [] empty is not_empty = absurd (cc)
 some_left (b ∷ rest) empty is not_empty = omega arith
 
-module _ {E : Type 0} (r : Reports E) (first : Framing) (bytes : List ℕ) (held : Option (List ℕ)) (count : ℕ) where
-  pub start : (gathered : List ℕ) → gathered ≡ [] → Hearing r first first bytes bytes held held gathered count count
+module _ {S E : Type 0} (t : Tells E) (r : Reporting S E) (state : S) (first : Framing) (bytes : List ℕ) (held : Option (List ℕ)) (count : ℕ) where
+  pub start : (gathered : List ℕ) → gathered ≡ [] → Hearing t r state state first first bytes bytes held held gathered count count
   start gathered none = record {
     told = [];
-    hears = hears_start r.tells first bytes [];
+    hears = hears_start t first bytes [];
     written = [];
     appended = appends_none held;
     lines_are = none;
+    moved = refl;
     counted = omega arith;
     fits = omega arith;
   }
 
-  -- one call more, and its line is gathered
-  pub more : (now after : Framing) (rest behind : List ℕ) (held_now : Option (List ℕ)) (gathered gathered_after : List ℕ) (count_now count_after n : ℕ) (event : Option E)
-      → Hearing r first now bytes rest held held_now gathered count count_now
-      → ((stream : List ℕ) → Stands now stream → Hears r.tells after stream (take n rest) event) → behind ≡ drop n rest
-      → gathered_after ≡ gathered ++ lines r (option_to_list event) → count_after ≡ count_now + faults r (option_to_list event)
-      → faults r (option_to_list event) ≤ 1 → 0 < n → 0 < length rest
-      → Hearing r first after bytes behind held held_now gathered_after count count_after
-  more now after rest behind held_now gathered gathered_after count_now count_after n event so one behind_is lines_is count_is few some left = record {
+  -- one call more, and what is printed of its event is gathered
+  pub more : (state_now state_after : S) (now after : Framing) (rest behind : List ℕ) (held_now : Option (List ℕ)) (gathered gathered_after : List ℕ) (count_now count_after n : ℕ) (event : Option E)
+      → Hearing t r state state_now first now bytes rest held held_now gathered count count_now
+      → ((stream : List ℕ) → Stands now stream → Hears t after stream (take n rest) event) → behind ≡ drop n rest
+      → gathered_after ≡ gathered ++ lines_from r state_now (option_to_list event) → state_after ≡ state_behind r state_now (option_to_list event)
+      → count_after ≡ count_now + faults_among r (option_to_list event) → faults_among r (option_to_list event) ≤ 1 → 0 < n → 0 < length rest
+      → Hearing t r state state_after first after bytes behind held held_now gathered_after count count_after
+  more state_now state_after now after rest behind held_now gathered gathered_after count_now count_after n event so one behind_is lines_is state_is count_is few some left = record {
     told = so.told ++ option_to_list event;
-    hears = hears_more r.tells first now after bytes rest behind n event [] so.told (so.told ++ option_to_list event) so.hears one behind_is refl;
+    hears = hears_more t first now after bytes rest behind n event [] so.told (so.told ++ option_to_list event) so.hears one behind_is refl;
     written = so.written;
     appended = so.appended;
-    lines_are = ap (λ (l : List ℕ). so.written ++ l) lines_is ∙ sym (append_assoc so.written gathered (lines r (option_to_list event)))
-        ∙ ap (λ (l : List ℕ). l ++ lines r (option_to_list event)) so.lines_are ∙ sym (lines-append r so.told (option_to_list event));
+    lines_are = ap (λ (l : List ℕ). so.written ++ l) lines_is ∙ sym (append_assoc so.written gathered (lines_from r state_now (option_to_list event)))
+        ∙ ap (λ (l : List ℕ). l ++ lines_from r state_now (option_to_list event)) so.lines_are
+        ∙ ap (λ (s : S). lines_from r state so.told ++ lines_from r s (option_to_list event)) so.moved
+        ∙ sym (lines-append r state so.told (option_to_list event));
+    moved = state_is ∙ ap (λ (s : S). state_behind r s (option_to_list event)) so.moved ∙ sym (behind-append r state so.told (option_to_list event));
     counted = omega (arith, count_is, so.counted, faults-append r so.told (option_to_list event));
     fits = omega (arith, so.fits, count_is, few, some, left, ap length behind_is, length-drop n rest);
   }
 
   -- some of what is gathered is written
-  pub writes : (now : Framing) (rest : List ℕ) (held_now held_after : Option (List ℕ)) (gathered gathered_after text : List ℕ) (count_now : ℕ)
-      → Hearing r first now bytes rest held held_now gathered count count_now → Appends held_now held_after text → text ++ gathered_after ≡ gathered
-      → Hearing r first now bytes rest held held_after gathered_after count count_now
-  writes now rest held_now held_after gathered gathered_after text count_now so more_ is = record {
+  pub writes : (state_now : S) (now : Framing) (rest : List ℕ) (held_now held_after : Option (List ℕ)) (gathered gathered_after text : List ℕ) (count_now : ℕ)
+      → Hearing t r state state_now first now bytes rest held held_now gathered count count_now → Appends held_now held_after text → text ++ gathered_after ≡ gathered
+      → Hearing t r state state_now first now bytes rest held held_after gathered_after count count_now
+  writes state_now now rest held_now held_after gathered gathered_after text count_now so more_ is = record {
     told = so.told;
     hears = so.hears;
     written = so.written ++ text;
     appended = appends_then held held_now held_after so.written text so.appended more_;
+    moved = so.moved;
     lines_are = append_assoc so.written text gathered_after ∙ ap (λ (l : List ℕ). so.written ++ l) is ∙ so.lines_are;
     counted = so.counted;
     fits = so.fits;
   }
 
   -- a front of what is gathered is written
-  pub stops : (now : Framing) (rest : List ℕ) (held_now held_after : Option (List ℕ)) (gathered : List ℕ) (count_now faults_before faults_after : ℕ)
-      → Hearing r first now bytes rest held held_now gathered count count_now → Front held_now held_after gathered
-      → (stream : List ℕ) → Stands first stream → HeardSome r (record { held = held; held_after = held_after; faults = faults_before; faults_after = faults_after }) stream bytes
-  stops now rest held_now held_after gathered count_now faults_before faults_after so front_ stream st =
+  pub stops : (state_now : S) (now : Framing) (rest : List ℕ) (held_now held_after : Option (List ℕ)) (gathered : List ℕ) (count_now faults_before faults_after : ℕ)
+      → Hearing t r state state_now first now bytes rest held held_now gathered count count_now → Front held_now held_after gathered
+      → (stream : List ℕ) → Stands first stream → HeardSome t r state (record { held = held; held_after = held_after; faults = faults_before; faults_after = faults_after }) stream bytes
+  stops state_now now rest held_now held_after gathered count_now faults_before faults_after so front_ stream st =
       let heard = so.hears.heard stream st in
       record {
         front = so.hears.taken;
         rest = rest;
         told = so.told;
         is = so.hears.bytes_are;
-        tells_all = heard.as_told.tells_all ∙ ap (λ (l : List E). begun r.tells stream ++ l) (sym heard.appended);
+        tells_all = heard.as_told.tells_all ∙ ap (λ (l : List E). begun t stream ++ l) (sym heard.appended);
         written = subst (Front held held_after) so.lines_are (then_front held held_now held_after so.written gathered so.appended front_);
       }
 
   -- nothing more is written
-  pub stands_still : (now : Framing) (rest : List ℕ) (held_now : Option (List ℕ)) (gathered : List ℕ) (count_now faults_before faults_after : ℕ)
-      → Hearing r first now bytes rest held held_now gathered count count_now
-      → (stream : List ℕ) → Stands first stream → HeardSome r (record { held = held; held_after = held_now; faults = faults_before; faults_after = faults_after }) stream bytes
-  stands_still now rest held_now gathered count_now faults_before faults_after so stream st =
-      stops now rest held_now held_now gathered count_now faults_before faults_after so (0, omega arith, appends_none held_now) stream st
+  pub stands_still : (state_now : S) (now : Framing) (rest : List ℕ) (held_now : Option (List ℕ)) (gathered : List ℕ) (count_now faults_before faults_after : ℕ)
+      → Hearing t r state state_now first now bytes rest held held_now gathered count count_now
+      → (stream : List ℕ) → Stands first stream → HeardSome t r state (record { held = held; held_after = held_now; faults = faults_before; faults_after = faults_after }) stream bytes
+  stands_still state_now now rest held_now gathered count_now faults_before faults_after so stream st =
+      stops state_now now rest held_now held_now gathered count_now faults_before faults_after so (0, omega arith, appends_none held_now) stream st
 
   -- all is heard, and all is written
-  pub ends : (now : Framing) (rest : List ℕ) (held_now held_after : Option (List ℕ)) (gathered : List ℕ) (count_now faults_before faults_after : ℕ)
-      → Hearing r first now bytes rest held held_now gathered count count_now → length rest ≡ 0 → Appends held_now held_after gathered
+  pub ends : (state_now : S) (now : Framing) (rest : List ℕ) (held_now held_after : Option (List ℕ)) (gathered : List ℕ) (count_now faults_before faults_after : ℕ)
+      → Hearing t r state state_now first now bytes rest held held_now gathered count count_now → length rest ≡ 0 → Appends held_now held_after gathered
       → (stream : List ℕ) → Stands first stream
-      → HeardPart r now (record { held = held; held_after = held_after; faults = faults_before; faults_after = faults_after }) stream bytes count count_now
-  ends now rest held_now held_after gathered count_now faults_before faults_after so none all_ stream st =
-      let heard = hears_all r.tells first now bytes rest [] so.told so.hears none stream st in
+      → HeardPart t r now state state_now (record { held = held; held_after = held_after; faults = faults_before; faults_after = faults_after }) stream bytes count count_now
+  ends state_now now rest held_now held_after gathered count_now faults_before faults_after so none all_ stream st =
+      let heard = hears_all t first now bytes rest [] so.told so.hears none stream st in
       record {
         told = so.told;
-        stands = heard.as_told.stands;
-        tells_all = heard.as_told.tells_all ∙ ap (λ (l : List E). begun r.tells stream ++ l) (sym heard.appended);
+        as_told = record {
+          stands = heard.as_told.stands;
+          tells_all = heard.as_told.tells_all ∙ ap (λ (l : List E). begun t stream ++ l) (sym heard.appended);
+        };
+        moved = so.moved;
         written = subst (Appends held held_after) so.lines_are (appends_then held held_now held_after so.written gathered so.appended all_);
         counted = so.counted;
       }

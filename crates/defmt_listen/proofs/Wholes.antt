@@ -8,19 +8,20 @@ use Rattle.dl_io.proofs.Streams.{appends_then, appends_none, consumes_then, cons
 use Rattle.defmt_framing.specs.Told.{begun, events}
 use Rattle.defmt_framing.specs.Framing.{Framing, Stands}
 use Rattle.defmt_listen.specs.Streams.{Input, Output}
-use Rattle.defmt_listen.specs.Heard.{Reports, lines, faults, recording_limit, HeardAll, HeardBegun, HeardTooMuch, HeardFront, HeardPart, HeardSome, Breaks, BreaksPart, ReadsNo}
+use Rattle.defmt_listen.specs.Heard.{Reports, lines, lines_from, state_behind, faults, faults_among, recording_limit, HeardAll, HeardBegun, HeardTooMuch, HeardFront, HeardPart, HeardSome, Breaks, BreaksPart, ReadsNo}
 use Rattle.defmt_listen.specs.declared.fault.ListenFault.{ListenFault}
 use Rattle.defmt_listen.specs.declared.fault.ListenFault.TheVariants.{Source, Sink, Long, Memory}
-use Rattle.defmt_listen.proofs.Fronts.{Front, then_front, longer_front, lines-append, faults-append, events_go, begun_nothing, rest_of, no_rest}
+use Rattle.defmt_listen.proofs.Fronts.{Front, then_front, longer_front, lines-append, behind-append, faults-append, events_go, begun_nothing, rest_of, no_rest}
 
 -- So many bytes were taken and heard, and what they tell was written and counted.
-pub record Listening {E : Type 0} (r : Reports E) (now : Framing) (left left_now held held_now : Option (List ℕ)) (taken count : ℕ) : Type 0 where
+pub record Listening {S E : Type 0} (r : Reports S E) (state_now : S) (now : Framing) (left left_now held held_now : Option (List ℕ)) (taken count : ℕ) : Type 0 where
   pub bytes : List ℕ
   pub size : length bytes ≡ taken
   pub within : taken ≤ recording_limit
   pub took : Consumes left left_now bytes
   pub stands : Stands now bytes
   pub written : Appends held held_now (lines r (begun r.tells bytes))
+  pub moved : state_now ≡ state_behind r.reporting r.start (begun r.tells bytes)
   pub counted : count ≡ faults r (begun r.tells bytes)
   pub few : count ≤ taken
 
@@ -30,8 +31,13 @@ keeps_none (Some xs) None c bytes took same = absurd took
 keeps_none (Some xs) (Some ys) None bytes took same = absurd same
 keeps_none (Some xs) (Some ys) (Some zs) bytes took same = took ∙ ap (λ (l : List ℕ). bytes ++ l) (sym same)
 
-module _ {E : Type 0} (r : Reports E) (left held : Option (List ℕ)) where
-  pub start : (now : Framing) → Stands now [] → Listening r now left left held held 0 0
+module _ {S E : Type 0} (r : Reports S E) (left held : Option (List ℕ)) where
+  -- the lines of some events, and then those of others from the state behind them
+  join : (state_now : S) (xs ys all : List E) → state_now ≡ state_behind r.reporting r.start xs → all ≡ xs ++ ys → lines r xs ++ lines_from r.reporting state_now ys ≡ lines r all
+  join state_now xs ys all is all_is =
+      ap (λ (s : S). lines r xs ++ lines_from r.reporting s ys) is ∙ sym (lines-append r.reporting r.start xs ys) ∙ ap (lines r) (sym all_is)
+
+  pub start : (now : Framing) → Stands now [] → Listening r r.start now left left held held 0 0
   start now st = record {
     bytes = [];
     size = refl;
@@ -39,46 +45,50 @@ module _ {E : Type 0} (r : Reports E) (left held : Option (List ℕ)) where
     took = consumes_none left;
     stands = st;
     written = subst (λ (l : List E). Appends held held (lines r l)) (sym (begun_nothing r.tells)) (appends_none held);
+    moved = sym (ap (state_behind r.reporting r.start) (begun_nothing r.tells));
     counted = sym (ap (faults r) (begun_nothing r.tells));
     few = omega arith;
   }
 
   -- one part more
-  pub more : (now after : Framing) (left_now left_after held_now held_after : Option (List ℕ)) (taken count count_after faults_before faults_after : ℕ) (part : List ℕ)
-      → Listening r now left left_now held held_now taken count → Consumes left_now left_after part → taken + length part ≤ recording_limit
+  pub more : (state_now state_after : S) (now after : Framing) (left_now left_after held_now held_after : Option (List ℕ)) (taken count count_after faults_before faults_after : ℕ) (part : List ℕ)
+      → Listening r state_now now left left_now held held_now taken count → Consumes left_now left_after part → taken + length part ≤ recording_limit
       → ((stream : List ℕ) → Stands now stream
-      → HeardPart r after (record { held = held_now; held_after = held_after; faults = faults_before; faults_after = faults_after }) stream part count count_after)
+      → HeardPart r.tells r.reporting after state_now state_after (record { held = held_now; held_after = held_after; faults = faults_before; faults_after = faults_after }) stream part count count_after)
       → count_after ≤ count + length part
-      → Listening r after left left_after held held_after (taken + length part) count_after
-  more now after left_now left_after held_now held_after taken count count_after faults_before faults_after part so took fits heard few =
+      → Listening r state_after after left left_after held held_after (taken + length part) count_after
+  more state_now state_after now after left_now left_after held_now held_after taken count count_after faults_before faults_after part so took fits heard few =
       let one = heard so.bytes so.stands in
       record {
         bytes = so.bytes ++ part;
         size = omega (arith, length-append so.bytes part, so.size);
         within = fits;
         took = consumes_then left left_now left_after so.bytes part so.took took;
-        stands = one.stands;
-        written = subst (Appends held held_after) (sym (lines-append r (begun r.tells so.bytes) one.told) ∙ ap (lines r) (sym one.tells_all))
-            (appends_then held held_now held_after (lines r (begun r.tells so.bytes)) (lines r one.told) so.written one.written);
-        counted = one.counted ∙ ap (λ (n : ℕ). n + faults r one.told) so.counted ∙ sym (faults-append r (begun r.tells so.bytes) one.told) ∙ ap (faults r) (sym one.tells_all);
+        stands = one.as_told.stands;
+        written = subst (Appends held held_after) (join state_now (begun r.tells so.bytes) one.told (begun r.tells (so.bytes ++ part)) so.moved one.as_told.tells_all)
+            (appends_then held held_now held_after (lines r (begun r.tells so.bytes)) (lines_from r.reporting state_now one.told) so.written one.written);
+        moved = one.moved ∙ ap (λ (s : S). state_behind r.reporting s one.told) so.moved ∙ sym (behind-append r.reporting r.start (begun r.tells so.bytes) one.told)
+            ∙ ap (state_behind r.reporting r.start) (sym one.as_told.tells_all);
+        counted = one.counted ∙ ap (λ (n : ℕ). n + faults r one.told) so.counted ∙ sym (faults-append r.reporting (begun r.tells so.bytes) one.told) ∙ ap (faults r) (sym one.as_told.tells_all);
         few = omega (arith, so.few, few);
       }
 
   -- the source gave nothing
-  pub no_more : (now : Framing) (left_now left_after held_now : Option (List ℕ)) (taken count : ℕ) (part : List ℕ) → Listening r now left left_now held held_now taken count
-      → Consumes left_now left_after part → length part ≡ 0 → Listening r now left left_after held held_now taken count
-  no_more now left_now left_after held_now taken count part so took none = record {
+  pub no_more : (state_now : S) (now : Framing) (left_now left_after held_now : Option (List ℕ)) (taken count : ℕ) (part : List ℕ) → Listening r state_now now left left_now held held_now taken count
+      → Consumes left_now left_after part → length part ≡ 0 → Listening r state_now now left left_after held held_now taken count
+  no_more state_now now left_now left_after held_now taken count part so took none = record {
     bytes = so.bytes;
     size = so.size;
     within = so.within;
     took = subst (Consumes left left_after) (ap (λ (l : List ℕ). so.bytes ++ l) (nil_from_length part none) ∙ append-nil so.bytes) (consumes_then left left_now left_after so.bytes part so.took took);
     stands = so.stands;
     written = so.written;
+    moved = so.moved;
     counted = so.counted;
     few = so.few;
   }
 
-  module _ (now : Framing) (left_now held_now : Option (List ℕ)) (taken count : ℕ) (so : Listening r now left left_now held held_now taken count)
+  module _ (state_now : S) (now : Framing) (left_now held_now : Option (List ℕ)) (taken count : ℕ) (so : Listening r state_now now left left_now held held_now taken count)
       (left_after : Option (List ℕ)) (source_before source_after sink_before sink_after : ℕ) where
     -- the source fails
     pub source : Keeps left_now left_after
@@ -97,7 +107,7 @@ module _ {E : Type 0} (r : Reports E) (left held : Option (List ℕ)) where
 
     -- a front of a part is heard, and a front of its lines is written
     pub part : (held_after : Option (List ℕ)) (bytes : List ℕ) (before after : ℕ) → Consumes left_now left_after bytes → taken + length bytes ≤ recording_limit
-        → ((stream : List ℕ) → Stands now stream → HeardSome r (record { held = held_now; held_after = held_after; faults = before; faults_after = after }) stream bytes)
+        → ((stream : List ℕ) → Stands now stream → HeardSome r.tells r.reporting state_now (record { held = held_now; held_after = held_after; faults = before; faults_after = after }) stream bytes)
         → HeardFront r (record { left = left; left_after = left_after; faults = source_before; faults_after = source_after }) (record { held = held; held_after = held_after; faults = sink_before; faults_after = sink_after })
     part held_after bytes before after took fits heard =
         let some = heard so.bytes so.stands in
@@ -108,25 +118,28 @@ module _ {E : Type 0} (r : Reports E) (left held : Option (List ℕ)) where
         append_assoc so.bytes bytes rest.0 ∙ ap (λ (l : List ℕ). so.bytes ++ (l ++ rest.0)) some.is ∙ ap (λ (l : List ℕ). so.bytes ++ l) (append_assoc some.front some.rest rest.0)
         ∙ sym (append_assoc so.bytes some.front (some.rest ++ rest.0)) in
         let told : events r.tells whole ≡ (begun r.tells so.bytes ++ some.told) ++ on.more = ap (events r.tells) whole_is ∙ on.is ∙ ap (λ (l : List E). l ++ on.more) some.tells_all in
-        let text : lines r (events r.tells whole) ≡ (lines r (begun r.tells so.bytes) ++ lines r some.told) ++ lines r on.more =
-        ap (lines r) told ∙ lines-append r (begun r.tells so.bytes ++ some.told) on.more ∙ ap (λ (l : List ℕ). l ++ lines r on.more) (lines-append r (begun r.tells so.bytes) some.told) in
+        let heard_lines = lines r (begun r.tells so.bytes) ++ lines_from r.reporting state_now some.told in
+        let more_lines = lines_from r.reporting (state_behind r.reporting r.start (begun r.tells so.bytes ++ some.told)) on.more in
+        let text : lines r (events r.tells whole) ≡ heard_lines ++ more_lines =
+        ap (lines r) told ∙ lines-append r.reporting r.start (begun r.tells so.bytes ++ some.told) on.more
+        ∙ ap (λ (l : List ℕ). l ++ more_lines) (sym (join state_now (begun r.tells so.bytes) some.told (begun r.tells so.bytes ++ some.told) so.moved refl)) in
         record {
           bytes = so.bytes ++ bytes;
           rest = rest.0;
           taken = consumes_then left left_now left_after so.bytes bytes so.took took;
           within = omega (arith, length-append so.bytes bytes, so.size, fits);
           is_rest = rest.1;
-          written = longer_front held held_after (lines r (begun r.tells so.bytes) ++ lines r some.told) (lines r on.more) (lines r (events r.tells whole)) text
-              (then_front held held_now held_after (lines r (begun r.tells so.bytes)) (lines r some.told) so.written some.written);
+          written = longer_front held held_after heard_lines more_lines (lines r (events r.tells whole)) text
+              (then_front held held_now held_after (lines r (begun r.tells so.bytes)) (lines_from r.reporting state_now some.told) so.written some.written);
         }
 
-  module _ (now : Framing) (left_now held_now : Option (List ℕ)) (taken count : ℕ) (so : Listening r now left left_now held held_now taken count) (end : IsAtEnd left_now)
+  module _ (state_now : S) (now : Framing) (left_now held_now : Option (List ℕ)) (taken count : ℕ) (so : Listening r state_now now left left_now held held_now taken count) (end : IsAtEnd left_now)
       (last : Option E) (finishes : (stream : List ℕ) → Stands now stream → events r.tells stream ≡ begun r.tells stream ++ option_to_list last) (source_before source_after sink_before sink_after : ℕ) where
-    all_lines : lines r (events r.tells so.bytes) ≡ lines r (begun r.tells so.bytes) ++ lines r (option_to_list last)
-    all_lines = ap (lines r) (finishes so.bytes so.stands) ∙ lines-append r (begun r.tells so.bytes) (option_to_list last)
+    all_lines : lines r (events r.tells so.bytes) ≡ lines r (begun r.tells so.bytes) ++ lines_from r.reporting state_now (option_to_list last)
+    all_lines = sym (join state_now (begun r.tells so.bytes) (option_to_list last) (events r.tells so.bytes) so.moved (finishes so.bytes so.stands))
 
     -- all is heard and written
-    pub whole : (held_after : Option (List ℕ)) (text : List ℕ) (count_after : ℕ) → text ≡ lines r (option_to_list last) → count_after ≡ count + faults r (option_to_list last) → Appends held_now held_after text
+    pub whole : (held_after : Option (List ℕ)) (text : List ℕ) (count_after : ℕ) → text ≡ lines_from r.reporting state_now (option_to_list last) → count_after ≡ count + faults_among r.reporting (option_to_list last) → Appends held_now held_after text
         → HeardAll r (record { left = left; left_after = left_now; faults = source_before; faults_after = source_after }) (record { held = held; held_after = held_after; faults = sink_before; faults_after = sink_after }) count_after
     whole held_after text count_after text_is count_is all_ = record {
       recording = so.bytes;
@@ -134,12 +147,12 @@ module _ {E : Type 0} (r : Reports E) (left held : Option (List ℕ)) where
       at_end = end;
       within = omega (arith, so.size, so.within);
       written = subst (Appends held held_after) (sym all_lines)
-          (appends_then held held_now held_after (lines r (begun r.tells so.bytes)) (lines r (option_to_list last)) so.written (subst (Appends held_now held_after) text_is all_));
-      counted = count_is ∙ ap (λ (n : ℕ). n + faults r (option_to_list last)) so.counted ∙ sym (faults-append r (begun r.tells so.bytes) (option_to_list last)) ∙ ap (faults r) (sym (finishes so.bytes so.stands));
+          (appends_then held held_now held_after (lines r (begun r.tells so.bytes)) (lines_from r.reporting state_now (option_to_list last)) so.written (subst (Appends held_now held_after) text_is all_));
+      counted = count_is ∙ ap (λ (n : ℕ). n + faults_among r.reporting (option_to_list last)) so.counted ∙ sym (faults-append r.reporting (begun r.tells so.bytes) (option_to_list last)) ∙ ap (faults r) (sym (finishes so.bytes so.stands));
     }
 
     -- a front of the last line is written
-    pub last_front : (held_after : Option (List ℕ)) (text : List ℕ) → text ≡ lines r (option_to_list last) → Front held_now held_after text
+    pub last_front : (held_after : Option (List ℕ)) (text : List ℕ) → text ≡ lines_from r.reporting state_now (option_to_list last) → Front held_now held_after text
         → HeardFront r (record { left = left; left_after = left_now; faults = source_before; faults_after = source_after }) (record { held = held; held_after = held_after; faults = sink_before; faults_after = sink_after })
     last_front held_after text text_is front_ = record {
       bytes = so.bytes;
@@ -148,15 +161,15 @@ module _ {E : Type 0} (r : Reports E) (left held : Option (List ℕ)) where
       within = omega (arith, so.size, so.within);
       is_rest = no_rest left_now end;
       written = subst (λ (l : List ℕ). Front held held_after (lines r (events r.tells l))) (sym (append-nil so.bytes))
-          (subst (Front held held_after) (sym all_lines) (then_front held held_now held_after (lines r (begun r.tells so.bytes)) (lines r (option_to_list last)) so.written (subst (Front held_now held_after) text_is front_)));
+          (subst (Front held held_after) (sym all_lines) (then_front held held_now held_after (lines r (begun r.tells so.bytes)) (lines_from r.reporting state_now (option_to_list last)) so.written (subst (Front held_now held_after) text_is front_)));
     }
 
     -- nothing of the last line is written
     pub no_last : HeardFront r (record { left = left; left_after = left_now; faults = source_before; faults_after = source_after }) (record { held = held; held_after = held_now; faults = sink_before; faults_after = sink_after })
-    no_last = last_front held_now (lines r (option_to_list last)) refl (0, omega arith, appends_none held_now)
+    no_last = last_front held_now (lines_from r.reporting state_now (option_to_list last)) refl (0, omega arith, appends_none held_now)
 
 -- nothing was read
-pub untouched : {E : Type 0} (r : Reports E) (left held : Option (List ℕ)) (source_before source_after sink_before sink_after : ℕ)
+pub untouched : {S E : Type 0} (r : Reports S E) (left held : Option (List ℕ)) (source_before source_after sink_before sink_after : ℕ)
     → HeardFront r (record { left = left; left_after = left; faults = source_before; faults_after = source_after }) (record { held = held; held_after = held; faults = sink_before; faults_after = sink_after })
 untouched r left held source_before source_after sink_before sink_after =
     let rest = rest_of left in
@@ -174,27 +187,27 @@ untouched r left held source_before source_after sink_before sink_after =
 rose_later : (before middle after : ℕ) → before ≤ middle → Rose middle after → Rose before after
 rose_later before middle after later rose = omega arith
 
-pub breaks_memory : {E : Type 0} (r : Reports E) (input : Input) (output : Output) (fault : ListenFault) → fault ≡ Memory → HeardFront r input output → Breaks r input output fault
+pub breaks_memory : {S E : Type 0} (r : Reports S E) (input : Input) (output : Output) (fault : ListenFault) → fault ≡ Memory → HeardFront r input output → Breaks r input output fault
 breaks_memory r input output fault is front = subst (Breaks r input output) (sym is) front
 
-pub breaks_sink : {E : Type 0} (r : Reports E) (input : Input) (output : Output) (middle : ℕ) (fault : ListenFault) → fault ≡ Sink → HeardFront r input output
+pub breaks_sink : {S E : Type 0} (r : Reports S E) (input : Input) (output : Output) (middle : ℕ) (fault : ListenFault) → fault ≡ Sink → HeardFront r input output
     → output.faults ≤ middle → Rose middle output.faults_after → Breaks r input output fault
 breaks_sink r input output middle fault is front later rose = subst (Breaks r input output) (sym is) (front, rose_later output.faults middle output.faults_after later rose)
 
-pub breaks_part : {E : Type 0} (r : Reports E) (input : Input) (output : Output) (middle : ℕ) (fault : ListenFault) → BreaksPart (Rose middle output.faults_after) fault → HeardFront r input output
+pub breaks_part : {S E : Type 0} (r : Reports S E) (input : Input) (output : Output) (middle : ℕ) (fault : ListenFault) → BreaksPart (Rose middle output.faults_after) fault → HeardFront r input output
     → output.faults ≤ middle → Breaks r input output fault
 breaks_part r input output middle Sink why front later = (front, rose_later output.faults middle output.faults_after later why)
 breaks_part r input output middle Memory why front later = front
 breaks_part r input output middle Source why front later = absurd why
 breaks_part r input output middle Long why front later = absurd why
 
-pub breaks_read : {E : Type 0} (r : Reports E) (left left_now left_after held held_now : Option (List ℕ)) (source_before source_middle source_after sink_before sink_after taken count : ℕ) (now : Framing) (fault : ListenFault)
-    → Listening r now left left_now held held_now taken count → source_before ≤ source_middle
+pub breaks_read : {S E : Type 0} (r : Reports S E) (left left_now left_after held held_now : Option (List ℕ)) (source_before source_middle source_after sink_before sink_after taken count : ℕ) (state_now : S) (now : Framing) (fault : ListenFault)
+    → Listening r state_now now left left_now held held_now taken count → source_before ≤ source_middle
     → ReadsNo (record { left = left_now; left_after = left_after; faults = source_middle; faults_after = source_after }) taken fault
     → Breaks r (record { left = left; left_after = left_after; faults = source_before; faults_after = source_after }) (record { held = held; held_after = held_now; faults = sink_before; faults_after = sink_after }) fault
-breaks_read r left left_now left_after held held_now source_before source_middle source_after sink_before sink_after taken count now Source so later why =
-    (source r left held now left_now held_now taken count so left_after source_before source_after sink_before sink_after why.1, rose_later source_before source_middle source_after later why.0)
-breaks_read r left left_now left_after held held_now source_before source_middle source_after sink_before sink_after taken count now Long so later why =
-    long r left held now left_now held_now taken count so left_after source_before source_after sink_before sink_after why.0 why.1
-breaks_read r left left_now left_after held held_now source_before source_middle source_after sink_before sink_after taken count now Sink so later why = absurd why
-breaks_read r left left_now left_after held held_now source_before source_middle source_after sink_before sink_after taken count now Memory so later why = absurd why
+breaks_read r left left_now left_after held held_now source_before source_middle source_after sink_before sink_after taken count state_now now Source so later why =
+    (source r left held state_now now left_now held_now taken count so left_after source_before source_after sink_before sink_after why.1, rose_later source_before source_middle source_after later why.0)
+breaks_read r left left_now left_after held held_now source_before source_middle source_after sink_before sink_after taken count state_now now Long so later why =
+    long r left held state_now now left_now held_now taken count so left_after source_before source_after sink_before sink_after why.0 why.1
+breaks_read r left left_now left_after held held_now source_before source_middle source_after sink_before sink_after taken count state_now now Sink so later why = absurd why
+breaks_read r left left_now left_after held held_now source_before source_middle source_after sink_before sink_after taken count state_now now Memory so later why = absurd why

@@ -1,9 +1,10 @@
 -- What is heard in a recording, and what is written of it.
-use Rattle.std.specs.Prelude.{◌≡◌, ◌≤◌, ◌+◌, ℕ, Bool, List, ◌++◌, length, take, filter, flat_map}
+use Rattle.std.specs.Prelude.{◌≡◌, ◌≤◌, ◌+◌, ℕ, Bool, List, [], ◌∷◌, ◌++◌, length, take, filter}
 use Rattle.std.specs.Io.KnownBytes.{Consumes, IsAtEnd, Keeps}
 use Rattle.dl_io.specs.Outside.{Rose, Took}
+use Rattle.defmt_framing.specs.Calls.{HeardAs}
 use Rattle.defmt_framing.specs.Told.{Tells, events, begun}
-use Rattle.defmt_framing.specs.Framing.{Framing, Stands}
+use Rattle.defmt_framing.specs.Framing.{Framing}
 use Rattle.defmt_listen.specs.Streams.{Input, Output, Wrote, WroteFront, IsRest}
 use Rattle.defmt_listen.specs.declared.fault.ListenFault.{ListenFault}
 use Rattle.defmt_listen.specs.declared.fault.ListenFault.TheVariants.{Source, Sink, Long, Memory}
@@ -12,22 +13,43 @@ use Rattle.defmt_listen.specs.declared.fault.ListenFault.TheVariants.{Source, Si
 abbrev pub recording_limit : ℕ
 recording_limit = 268435456
 
--- what the parts of a recording tell, the output line of each event, and whether it is a fault
-pub record Reports (E : Type 0) : Type 0 where
-  pub tells : Tells E
-  pub line : E → List ℕ
+-- How events are reported one after the other: what is printed of an event in a state, the state behind it, and whether it is
+-- a fault.
+pub record Reporting (S E : Type 0) : Type 0 where
+  pub line : S → E → List ℕ
+  pub after : S → E → S
   pub is_fault : E → Bool
 
--- the lines of some events
-abbrev pub lines : {E : Type 0} → Reports E → List E → List ℕ
-lines reports told = flat_map reports.line told
+-- what is printed of some events from a state on
+abbrev pub lines_from : {S E : Type 0} → Reporting S E → S → List E → List ℕ
+lines_from reporting state [] = []
+lines_from reporting state (event ∷ told) = reporting.line state event ++ lines_from reporting (reporting.after state event) told
+
+-- the state behind them
+abbrev pub state_behind : {S E : Type 0} → Reporting S E → S → List E → S
+state_behind reporting state [] = state
+state_behind reporting state (event ∷ told) = state_behind reporting (reporting.after state event) told
 
 -- how many of them are faults
-abbrev pub faults : {E : Type 0} → Reports E → List E → ℕ
-faults reports told = length (filter reports.is_fault told)
+abbrev pub faults_among : {S E : Type 0} → Reporting S E → List E → ℕ
+faults_among reporting told = length (filter reporting.is_fault told)
+
+-- what the parts of a recording tell, and how it is reported, from which state on
+pub record Reports (S E : Type 0) : Type 0 where
+  pub tells : Tells E
+  pub reporting : Reporting S E
+  pub start : S
+
+-- what is printed of some events
+abbrev pub lines : {S E : Type 0} → Reports S E → List E → List ℕ
+lines reports told = lines_from reports.reporting reports.start told
+
+-- how many of them are faults
+abbrev pub faults : {S E : Type 0} → Reports S E → List E → ℕ
+faults reports told = faults_among reports.reporting told
 
 -- The whole recording was taken, the lines of its events were written, and so many of these are faults.
-pub record HeardAll {E : Type 0} (reports : Reports E) (input : Input) (output : Output) (count : ℕ) : Type 0 where
+pub record HeardAll {S E : Type 0} (reports : Reports S E) (input : Input) (output : Output) (count : ℕ) : Type 0 where
   pub recording : List ℕ
   pub taken : Consumes input.left input.left_after recording
   pub at_end : IsAtEnd input.left_after
@@ -36,14 +58,14 @@ pub record HeardAll {E : Type 0} (reports : Reports E) (input : Input) (output :
   pub counted : count ≡ faults reports (events reports.tells recording)
 
 -- These bytes were taken, and all that is begun in them was written.
-pub record HeardBegun {E : Type 0} (reports : Reports E) (input : Input) (output : Output) : Type 0 where
+pub record HeardBegun {S E : Type 0} (reports : Reports S E) (input : Input) (output : Output) : Type 0 where
   pub bytes : List ℕ
   pub taken : Consumes input.left input.left_after bytes
   pub within : length bytes ≤ recording_limit
   pub written : Wrote output (lines reports (begun reports.tells bytes))
 
 -- One byte more than the limit was taken, and all that is begun in those before it was written.
-pub record HeardTooMuch {E : Type 0} (reports : Reports E) (input : Input) (output : Output) : Type 0 where
+pub record HeardTooMuch {S E : Type 0} (reports : Reports S E) (input : Input) (output : Output) : Type 0 where
   pub bytes : List ℕ
   pub taken : Consumes input.left input.left_after bytes
   pub size : length bytes ≡ recording_limit + 1
@@ -51,7 +73,7 @@ pub record HeardTooMuch {E : Type 0} (reports : Reports E) (input : Input) (outp
 
 -- These bytes were taken, and a front of the lines of a recording was written that begins with them. Where the source tells
 -- what it has left, the recording goes on with that.
-pub record HeardFront {E : Type 0} (reports : Reports E) (input : Input) (output : Output) : Type 0 where
+pub record HeardFront {S E : Type 0} (reports : Reports S E) (input : Input) (output : Output) : Type 0 where
   pub bytes : List ℕ
   pub rest : List ℕ
   pub taken : Consumes input.left input.left_after bytes
@@ -60,30 +82,36 @@ pub record HeardFront {E : Type 0} (reports : Reports E) (input : Input) (output
   pub written : WroteFront output (lines reports (events reports.tells (bytes ++ rest)))
 
 -- what stands at each fault
-abbrev pub Breaks : {E : Type 0} → Reports E → Input → Output → ListenFault → Type 0
+abbrev pub Breaks : {S E : Type 0} → Reports S E → Input → Output → ListenFault → Type 0
 Breaks reports input output Source = HeardBegun reports input output × Rose input.faults input.faults_after
 Breaks reports input output Sink = HeardFront reports input output × Rose output.faults output.faults_after
 Breaks reports input output Long = HeardTooMuch reports input output
 Breaks reports input output Memory = HeardFront reports input output
 
+-- From the stream on these bytes were heard, and the reporter went on behind what they tell.
+pub record Reported {S E : Type 0} (tells : Tells E) (reporting : Reporting S E) (after : Framing) (state state_after : S) (stream bytes : List ℕ) : Type 0 where
+  pub told : List E
+  pub as_told : HeardAs tells after stream bytes told
+  pub moved : state_after ≡ state_behind reporting state told
+
 -- ---- for private clauses
 
 -- From the stream on these bytes were heard, and what they tell was written and counted.
-pub record HeardPart {E : Type 0} (reports : Reports E) (after : Framing) (output : Output) (stream bytes : List ℕ) (count count_after : ℕ) : Type 0 where
+pub record HeardPart {S E : Type 0} (tells : Tells E) (reporting : Reporting S E) (after : Framing) (state state_after : S) (output : Output) (stream bytes : List ℕ) (count count_after : ℕ) : Type 0 where
   pub told : List E
-  pub stands : Stands after (stream ++ bytes)
-  pub tells_all : begun reports.tells (stream ++ bytes) ≡ begun reports.tells stream ++ told
-  pub written : Wrote output (lines reports told)
-  pub counted : count_after ≡ count + faults reports told
+  pub as_told : HeardAs tells after stream bytes told
+  pub moved : state_after ≡ state_behind reporting state told
+  pub written : Wrote output (lines_from reporting state told)
+  pub counted : count_after ≡ count + faults_among reporting told
 
--- From the stream on a front of these bytes was heard, and a front of the lines that it tells was written.
-pub record HeardSome {E : Type 0} (reports : Reports E) (output : Output) (stream bytes : List ℕ) : Type 0 where
+-- From the stream on a front of these bytes was heard, and a front of what is printed of it was written.
+pub record HeardSome {S E : Type 0} (tells : Tells E) (reporting : Reporting S E) (state : S) (output : Output) (stream bytes : List ℕ) : Type 0 where
   pub front : List ℕ
   pub rest : List ℕ
   pub told : List E
   pub is : bytes ≡ front ++ rest
-  pub tells_all : begun reports.tells (stream ++ front) ≡ begun reports.tells stream ++ told
-  pub written : WroteFront output (lines reports told)
+  pub tells_all : begun tells (stream ++ front) ≡ begun tells stream ++ told
+  pub written : WroteFront output (lines_from reporting state told)
 
 -- why not all bytes of a part were heard
 abbrev pub BreaksPart : Type 0 → ListenFault → Type 0

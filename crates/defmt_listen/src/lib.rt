@@ -1,14 +1,20 @@
-//! A recording is heard part by part: what its parts tell is written as it comes.
+//! A recording is heard part by part: what its parts tell is reported as it comes.
 //!
-//! `listen` reads a source to its end, gives the bytes to a `Listener`, and writes the line of each event to a sink. A
-//! listener cuts the stream of frames at its zeros, as a `Framer` of defmt_framing does, and knows what each part tells.
+//! `listen` reads a source to its end, gives the bytes to a `Listener`, and writes what a `Reporter` prints of each event to a
+//! sink. A listener cuts the stream of frames at its zeros, as a `Framer` of defmt_framing does, and knows what each part tells.
+//! A reporter knows what is printed of an event, which may depend on the events before it. `hear_bytes` does the same with bytes
+//! that are at hand, of which nothing is written.
 #![tactic(auto)]
 
+mod bytes;
 mod fault;
 mod listener;
 mod listening;
 mod part;
+mod reporter;
 
+pub use bytes::hear_bytes;
 pub use fault::ListenFault;
 pub use listener::Listener;
 pub use listening::listen;
+pub use reporter::Reporter;

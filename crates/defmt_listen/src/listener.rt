@@ -1,9 +1,8 @@
-ghost use Rattle.std.specs.Prelude.{◌≡◌, ◌≤◌, ◌<◌, ◌++◌, ℕ, Bool, List, length, take, IfOk, OnOk, OnErr, option_to_list};
+ghost use Rattle.std.specs.Prelude.{◌≡◌, ◌≤◌, ◌<◌, ◌++◌, ℕ, List, length, take, IfOk, OnErr, option_to_list};
 ghost use Rattle.defmt_framing.specs.Told.{Tells, events, begun};
 ghost use Rattle.defmt_framing.specs.Framing.{Framing, Stands, Hears};
 
-use dl_io::{Bytes, Memory};
-use std::alloc::Global;
+use dl_io::Memory;
 
 /// Hears a stream of frames, and tells an event of each of its parts.
 ///
@@ -17,12 +16,6 @@ pub trait Listener {
 
     /// What is kept of the bytes that were heard.
     ghost framing: { Self → Framing };
-
-    /// The output line of an event.
-    ghost line: { Self.Event → List ℕ };
-
-    /// Whether an event is a fault of the recording.
-    ghost is_fault: { Self.Event → Bool };
 
     /// Takes bytes up to and with the zero that ends the first part which tells something, and answers how many it took with
     /// that event. Some byte is taken where there is one. On want of memory nothing was taken, and the listener goes on from
@@ -39,13 +32,4 @@ pub trait Listener {
     fn finish(self) -> Option<Self::Event>
         ensures { (stream : List ℕ) → Stands (framing self) stream
             → events (tells self) stream ≡ begun (tells self) stream ++ option_to_list result };
-
-    /// Appends the output line of an event. On want of memory nothing was appended.
-    fn add_line(alloc: Global, event: &Self::Event, out: &mut Bytes) -> Result<(), Memory>
-        ensures appended { OnOk result (out.new.items ≡ out.old.items ++ line event.now) }
-        ensures err { OnErr result (out.new.items ≡ out.old.items) };
-
-    /// Whether an event is a fault of the recording.
-    fn is_fault(event: &Self::Event) -> bool
-        ensures { result ≡ is_fault event.now };
 }

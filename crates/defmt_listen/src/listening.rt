@@ -8,6 +8,7 @@ ghost use Rattle.defmt_listen.specs.Streams.{input_of, output_of};
 use crate::fault::ListenFault;
 use crate::listener::Listener;
 use crate::part::{Report, add_told, hear_part, write_lines};
+use crate::reporter::Reporter;
 use dl_io::{Bytes, Failed, Memory, Sink, Source};
 use std::alloc::Global;
 
@@ -16,27 +17,29 @@ const PART: usize = 65_536;
 
 const RECORDING_LIMIT: usize = 268_435_456;
 
-/// Reads the source to its end as a recording, gives its bytes to the listener, and writes the line of each event to the sink.
-/// Answers how many events are faults.
+/// Reads the source to its end as a recording, gives its bytes to the listener, and writes what the reporter prints of each event
+/// to the sink. Answers how many events are faults.
 ///
 /// At most 65,536 bytes are read at a time, and the lines that they tell are written before the next ones are read. A
 /// recording has at most 268,435,456 bytes. The source, this limit and the sink take turns, and the first fault that is
 /// met is answered.
-pub fn listen<S: Source, K: Sink, L: Listener + Drop>(
+pub fn listen<S: Source, K: Sink, L: Listener + Drop, R: Reporter<L::Event> + Drop>(
     alloc: Global,
     src: &mut S,
     out: &mut K,
     listener: L,
+    reporter: R,
 ) -> Result<u64, ListenFault>
     requires { Stands (L.framing listener) [] }
-    ensures heard { IfOk result (λ count. HeardAll (record { tells = L.tells listener; line = L.line; is_fault = L.is_fault })
+    ensures heard { IfOk result (λ count. HeardAll (record { tells = L.tells listener; reporting = R.reporting; start = reporter })
         (input_of S.left S.faults src.old src.new) (output_of K.held K.faults out.old out.new) count) }
-    ensures breaks { IfErr result (λ fault. Breaks (record { tells = L.tells listener; line = L.line; is_fault = L.is_fault })
+    ensures breaks { IfErr result (λ fault. Breaks (record { tells = L.tells listener; reporting = R.reporting; start = reporter })
         (input_of S.left S.faults src.old src.new) (output_of K.held K.faults out.old out.new) fault) }
     ensures source_count { S.faults src.old ≤ S.faults src.new }
     ensures sink_count { K.faults out.old ≤ K.faults out.new }
 {
     let mut listener = listener;
+    let mut reporter = reporter;
     let mut report = Report {
         alloc,
         lines: Bytes::new(alloc),
@@ -49,10 +52,16 @@ pub fn listen<S: Source, K: Sink, L: Listener + Drop>(
         if count == 0 {
             break;
         }
-        hear_part(&mut listener, out, &mut report, &buf[..count])?;
+        hear_part(
+            &mut listener,
+            &mut reporter,
+            out,
+            &mut report,
+            &buf[..count],
+        )?;
         taken += count;
     }
-    add_told::<L>(&mut report, listener.finish())?;
+    add_told::<L, R>(&mut reporter, &mut report, listener.finish())?;
     write_lines(out, &mut report.lines)?;
     Ok(report.faults)
 }

@@ -1,13 +1,14 @@
 // One part of a recording is heard.
-ghost use Rattle.std.specs.Prelude.{◌≡◌, ◌≤◌, ◌<◌, ◌+◌, ◌^◌, ◌++◌, [], ℕ, List, length, filter, flat_map, take, IfErr, OnOk, OnErr, option_to_list};
+ghost use Rattle.std.specs.Prelude.{◌≡◌, ◌≤◌, ◌<◌, ◌+◌, ◌^◌, ◌++◌, [], ℕ, List, length, take, IfErr, OnOk, OnErr, option_to_list};
 ghost use Rattle.std.specs.Io.KnownBytes.{Appends};
 ghost use Rattle.dl_io.specs.Outside.{Rose};
 ghost use Rattle.defmt_framing.specs.Framing.{Stands};
-ghost use Rattle.defmt_listen.specs.Heard.{HeardPart, HeardSome, BreaksPart};
+ghost use Rattle.defmt_listen.specs.Heard.{HeardPart, HeardSome, BreaksPart, faults_among, lines_from, state_behind};
 ghost use Rattle.defmt_listen.specs.Streams.{output_of};
 
 use crate::fault::ListenFault;
 use crate::listener::Listener;
+use crate::reporter::Reporter;
 use dl_io::{Bytes, Failed, Sink, write_all};
 use std::alloc::Global;
 
@@ -22,9 +23,10 @@ pub struct Report {
     pub faults: u64,
 }
 
-/// Hears all the bytes, and writes the lines of what they tell.
-pub fn hear_part<K: Sink, L: Listener>(
+/// Hears all the bytes, and writes what is printed of what they tell.
+pub fn hear_part<K: Sink, L: Listener, R: Reporter<L::Event>>(
     listener: &mut L,
+    reporter: &mut R,
     out: &mut K,
     report: &mut Report,
     bytes: &[u8],
@@ -32,12 +34,12 @@ pub fn hear_part<K: Sink, L: Listener>(
     requires empty { report.old.lines.items ≡ [] }
     requires few { report.old.faults + length bytes.now < 2 ^ 64 }
     ensures heard { OnOk result ((stream : List ℕ) → Stands (L.framing listener.old) stream → HeardPart
-        (record { tells = L.tells listener.old; line = L.line; is_fault = L.is_fault }) (L.framing listener.new)
+        (L.tells listener.old) R.reporting (L.framing listener.new) reporter.old reporter.new
         (output_of K.held K.faults out.old out.new) stream bytes.now report.old.faults report.new.faults) }
     ensures empty { OnOk result (report.new.lines.items ≡ []) }
     ensures few { OnOk result (report.new.faults ≤ report.old.faults + length bytes.now) }
     ensures some { OnErr result ((stream : List ℕ) → Stands (L.framing listener.old) stream → HeardSome
-        (record { tells = L.tells listener.old; line = L.line; is_fault = L.is_fault })
+        (L.tells listener.old) R.reporting reporter.old
         (output_of K.held K.faults out.old out.new) stream bytes.now) }
     ensures fault { IfErr result (λ fault. BreaksPart (Rose (K.faults out.old) (K.faults out.new)) fault) }
     ensures same { OnOk result (L.tells listener.new ≡ L.tells listener.old) }
@@ -46,7 +48,7 @@ pub fn hear_part<K: Sink, L: Listener>(
     let mut rest = bytes;
     'parts: while !rest.is_empty() {
         let (taken, told) = listener.feed(rest)?;
-        add_told::<L>(report, told)?;
+        add_told::<L, R>(reporter, report, told)?;
         let (_, behind) = rest.split_at(taken);
         rest = behind;
         write_gathered(out, &mut report.lines)?;
@@ -55,16 +57,25 @@ pub fn hear_part<K: Sink, L: Listener>(
     Ok(())
 }
 
-/// Adds what was told, if something was.
-pub fn add_told<L: Listener>(report: &mut Report, told: Option<L::Event>) -> Result<(), ListenFault>
+/// Adds what is printed of what was told, if something was.
+pub fn add_told<L: Listener, R: Reporter<L::Event>>(
+    reporter: &mut R,
+    report: &mut Report,
+    told: Option<L::Event>,
+) -> Result<(), ListenFault>
     requires { report.old.faults + 1 < 2 ^ 64 }
-    ensures lines { OnOk result (report.new.lines.items ≡ report.old.lines.items ++ flat_map L.line (option_to_list told)) }
-    ensures faults { OnOk result (report.new.faults ≡ report.old.faults + length (filter L.is_fault (option_to_list told))) }
+    ensures lines { OnOk result (report.new.lines.items ≡ report.old.lines.items
+        ++ lines_from R.reporting reporter.old (option_to_list told)) }
+    ensures moved { OnOk result (reporter.new
+        ≡ state_behind R.reporting reporter.old (option_to_list told)) }
+    ensures faults { OnOk result (report.new.faults ≡ report.old.faults
+        + faults_among R.reporting (option_to_list told)) }
     ensures memory { IfErr result (λ fault. fault ≡ ListenFault.Memory) }
 {
     if let Some(event) = told {
-        L::add_line(report.alloc, &event, &mut report.lines)?;
-        if L::is_fault(&event) {
+        let bad = reporter.is_fault(&event);
+        reporter.add_line(report.alloc, event, &mut report.lines)?;
+        if bad {
             report.faults += 1;
         }
     }

@@ -1,11 +1,5 @@
 pub mod Deciding
-pub mod HeardParts
-pub mod Lines
-pub mod Marks
-pub mod Numbered
 pub mod Recordings
 pub mod RunMade
-pub mod Sizes
-pub mod Stamped
 pub mod Tables
 pub mod ToldInputs

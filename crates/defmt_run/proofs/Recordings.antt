@@ -14,7 +14,7 @@ use Rattle.defmt_listen.specs.Heard.{HeardAll, faults, recording_limit}
 use Rattle.defmt_decode.specs.Event.{events_of}
 use Rattle.defmt_run.specs.Calls.{Files}
 use Rattle.defmt_run.specs.Decoding.{Decodes, DecodingComesTo, Hears, IsFile, Loaded, ReadingComesTo, RefusesFile, RefusesName, fault_of_count, fault_of_recording, table_limit}
-use Rattle.defmt_run.specs.Output.{reports}
+use Rattle.defmt_print.specs.Output.{reports}
 use Rattle.defmt_run.specs.Session.{AreAsTold, AreFiles, Inputs, MayComeTo, OrFails}
 use Rattle.defmt_run.specs.declared.outcome.Fault.{Fault}
 use Rattle.defmt_run.specs.declared.outcome.Fault.TheVariants.{Fine, Memory, Words, Source, Sink, Elf, Names, Shelf, Long, Events}

@@ -5,7 +5,8 @@ use Rattle.defmt_decode.specs.Event.{events_of}
 use Rattle.defmt_decode.specs.declared.event.Event.{Event}
 use Rattle.defmt_logger.specs.declared.mark.Mark.{Mark}
 use Rattle.defmt_run.specs.Making.{Makes, RanHeard, RanUnheard}
-use Rattle.defmt_run.specs.Told.{Ran, LinesIn, Told, told, told_of}
+use Rattle.defmt_print.specs.Heard.{LinesIn}
+use Rattle.defmt_run.specs.Told.{Ran, Told, told, told_of}
 use Rattle.defmt_run.specs.declared.making.Making.{Making}
 use Rattle.defmt_script.specs.Script.{Script}
 use Rattle.defmt_words.specs.declared.job.ScriptJob.{ScriptJob}

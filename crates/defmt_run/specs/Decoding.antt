@@ -11,7 +11,7 @@ use Rattle.defmt_listen.specs.Streams.{Input, Output}
 use Rattle.defmt_listen.specs.Heard.{HeardAll, HeardBegun, HeardFront, HeardTooMuch, faults, recording_limit}
 use Rattle.defmt_decode.specs.Event.{events_of}
 use Rattle.defmt_run.specs.Calls.{IsUnread, IsUnwritten, Files}
-use Rattle.defmt_run.specs.Output.{reports}
+use Rattle.defmt_print.specs.Output.{reports}
 use Rattle.defmt_run.specs.declared.outcome.Fault.{Fault}
 use Rattle.defmt_run.specs.declared.outcome.Fault.TheVariants.{Fine, Memory, Source, Sink, Elf, Names, Shelf, Long, Events}
 

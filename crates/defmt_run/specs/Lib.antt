@@ -1,6 +1,5 @@
-pub mod Output
 pub mod Told
-pub mod Printed
+pub mod Shown
 pub mod Calls
 pub mod Status
 pub mod Making

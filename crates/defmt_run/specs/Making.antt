@@ -1,7 +1,8 @@
 -- What a job makes of a script, before it is written.
 use Rattle.std.specs.Prelude.{◌≡◌, List, [], ℕ}
 use Rattle.defmt_logger.specs.Tape.{stream_of}
-use Rattle.defmt_run.specs.Printed.{run_lines, statement_lines, summary}
+use Rattle.defmt_print.specs.Printed.{statement_lines, summary}
+use Rattle.defmt_run.specs.Shown.{run_lines}
 use Rattle.defmt_run.specs.Told.{IsHeard, IsUntold, Ran, Told}
 use Rattle.defmt_script.specs.Script.{Script}
 use Rattle.defmt_words.specs.declared.job.ScriptJob.{ScriptJob}

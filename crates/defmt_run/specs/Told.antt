@@ -1,14 +1,12 @@
 -- What a session tells of the run of a script.
-use Rattle.std.specs.Prelude.{◌≡◌, ◌<◌, ℕ, true, List, [], ◌∷◌, ◌++◌, length, Option, Some, None}
+use Rattle.std.specs.Prelude.{◌≡◌, ◌<◌, ℕ, true, List, [], ◌++◌, length, Option, Some, None}
 use Rattle.defmt_decode.specs.declared.event.Event.{Event}
-use Rattle.defmt_decode.specs.declared.event.Event.TheVariants.{Line}
 use Rattle.defmt_decode.specs.Event.{events_of}
 use Rattle.defmt_frames.specs.Frames.{count}
-use Rattle.defmt_lines.specs.declared.settings.RingMode.{RingMode}
-use Rattle.defmt_lines.specs.declared.settings.RingMode.TheVariants.{Block, Skip, Trim}
 use Rattle.defmt_logger.specs.Kept.{LooksIn}
-use Rattle.defmt_logger.specs.Tape.{IsLawful, lines_of, marks_of, stream_of}
+use Rattle.defmt_logger.specs.Tape.{IsLawful, marks_of, stream_of}
 use Rattle.defmt_logger.specs.declared.mark.Mark.{Mark}
+use Rattle.defmt_print.specs.Heard.{LinesIn}
 use Rattle.defmt_run.specs.declared.outcome.Outcome.{Outcome}
 use Rattle.defmt_script.specs.Script.{Script}
 use Rattle.defmt_writers.specs.Runs.{ReachedIn}
@@ -55,18 +53,6 @@ pub record Ran (s : Script) (account : Account) (told : Told) : Type 0 where
   pub reach : ReachedIn s.settings.mode s told.tape (length account.got)
   pub late : s.settings.late ≡ true → account.got ≡ []
   pub looks : LooksIn s.settings.mode (length told.tape) told.looks
-
--- these events are lines with these texts
-abbrev pub AreLines : List Event → List (List ℕ) → Type 0
-AreLines [] [] = Unit {0}
-AreLines (Line index text ∷ events) (line ∷ lines) = (text ≡ line) × AreLines events lines
-AreLines events lines = ⊥
-
--- in blocking and skip mode there is a line for each frame that was sent whole, and nothing else
-abbrev pub LinesIn : RingMode → Script → List Mark → List Event → Type 0
-LinesIn Block s tape events = AreLines events (lines_of s tape)
-LinesIn Skip s tape events = AreLines events (lines_of s tape)
-LinesIn Trim s tape events = Unit {0}
 
 -- the host was fed what was sent
 pub record IsHeard (s : Script) (account : Account) (told : Told) : Type 0 where

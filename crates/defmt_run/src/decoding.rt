@@ -6,11 +6,11 @@ ghost use Rattle.defmt_listen.specs.Streams.{input_of, output_of};
 ghost use Rattle.defmt_run.specs.Calls.{files_of};
 ghost use Rattle.defmt_run.specs.Decoding.{Decodes, Hears, IsFile, Loaded, RefusesFile, RefusesName, RefusesTable, table_limit};
 
-use crate::ear::Ear;
 use crate::outcome::Fault;
 use defmt_decode::Host;
 use defmt_intern::Table;
 use defmt_listen::{ListenFault, listen};
+use defmt_print::{Ear, Printer};
 use dl_io::{Bytes, ReadFault, Shelf, Sink, Source, fetch_all};
 use elf_table::{LoadFault, read_table};
 use std::alloc::Global;
@@ -106,7 +106,7 @@ fn hear<S: Source, K: Sink>(alloc: Global, src: &mut S, out: &mut K, host: Host)
     ensures source_count { S.faults src.old ≤ S.faults src.new }
     ensures sink_count { K.faults out.old ≤ K.faults out.new }
 {
-    match listen(alloc, src, out, Ear { host }) {
+    match listen(alloc, src, out, Ear { host }, Printer) {
         Ok(0) => Fault::Fine,
         Ok(bad) => Fault::Events { bad },
         Err(ListenFault::Source) => Fault::Source,

@@ -8,17 +8,11 @@
 #![tactic(auto)]
 
 mod decoding;
-mod ear;
-mod hearing;
 mod logging;
 mod making;
 mod outcome;
-mod output;
-mod printing;
 mod running;
-mod soundness;
-mod statements;
-mod summary;
+mod showing;
 mod top;
 
 pub use defmt_decode::{Event, Events};

@@ -6,6 +6,7 @@ ghost use Rattle.defmt_writers.specs.Runs.{IsRun};
 ghost use Rattle.rtt_ring.specs.declared.settled.RingKind.TheVariants.{Word};
 
 use defmt_hooks::{Clock, Hook, Stamp};
+use defmt_print::stamps;
 use defmt_script::Script;
 use defmt_writers::{Gate, Run, run_script};
 use dl_io::Memory;
@@ -55,17 +56,4 @@ fn log_by<C: Clock + Send + Drop, G: Gate + Sync, R: Threads + Wait + Sync>(
 {
     let stamp = Stamp::new(base, step, clock);
     run_script::<WordRing, C, G, R>(rt, alloc, script, stamp, gate)
-}
-
-/// The first stamp of a script and the step to the next, both 0 without stamps. Takes no memory.
-pub fn stamps(script: &Script) -> (u64, u64)
-    ensures base { result.0 ≡ first_stamp script.now.settings.stamp }
-    ensures step { result.1 ≡ stamp_step script.now.settings.stamp }
-    ensures within { (result.0 ≤ 281474976710656) × (result.1 ≤ 281474976710656) }
-{
-    script.lawful();
-    match script.stamp() {
-        Some((base, step)) => (base, step),
-        None => (0, 0),
-    }
 }

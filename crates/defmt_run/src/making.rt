@@ -2,16 +2,14 @@
 ghost use Rattle.std.specs.Prelude.{◌≡◌, ◌≤◌, ◌^◌, ◌++◌, IfOk};
 ghost use Rattle.elf_table.specs.Listed.{size_of};
 ghost use Rattle.defmt_run.specs.Making.{IsWordRun, Makes, RanHeard};
-ghost use Rattle.defmt_run.specs.Printed.{summary};
+ghost use Rattle.defmt_print.specs.Printed.{summary};
 ghost use Rattle.defmt_run.specs.Told.{IsUntold, told, told_of};
 
-use crate::hearing::hear;
 use crate::logging::log;
 use crate::outcome::{Fault, Outcome};
-use crate::printing::run_lines;
-use crate::statements::statement_lines;
-use crate::summary::summary;
+use crate::showing::{hear, run_lines};
 use defmt_decode::Events;
+use defmt_print::{statement_lines, summary};
 use defmt_script::Script;
 use defmt_words::{RunOptions, ScriptJob};
 use defmt_writers::{Gate, Run};

@@ -3,7 +3,7 @@ ghost use Rattle.std.specs.Prelude.{[], ◌∷◌, true, false, None};
 // Recordings that a listener hears, which has a letter for each part.
 use crate::rows::Kind;
 use defmt_framing::{Framer, Teller};
-use defmt_listen::{ListenFault, Listener, listen};
+use defmt_listen::{ListenFault, Listener, Reporter, listen};
 use dl_io::{Bytes, Failed, MemSink, MemSource, Memory, RepeatSource, Source};
 use std::alloc::Global;
 use std::fmt::Write;
@@ -88,10 +88,6 @@ impl Listener for Ear {
 
     ghost framing = { λ ear. ear.framer };
 
-    ghost line = { λ mark. mark.letter ∷ 10 ∷ [] };
-
-    ghost is_fault = { λ mark. mark.fault };
-
     fn feed(&mut self, bytes: &[u8]) -> Result<(usize, Option<Mark>), Memory> {
         self.framer.feed(&mut self.letters, bytes)
     }
@@ -99,15 +95,27 @@ impl Listener for Ear {
     fn finish(self) -> Option<Mark> {
         self.framer.finish(&self.letters)
     }
+}
 
-    fn add_line(_alloc: Global, event: &Mark, out: &mut Bytes) -> Result<(), Memory> {
+// Prints the letter of each mark.
+#[derive(Drop)]
+struct Scribe;
+
+impl Reporter<Mark> for Scribe {
+    ghost reporting = { record {
+      line = λ _ mark. mark.letter ∷ 10 ∷ [];
+      after = λ scribe _. scribe;
+      is_fault = λ mark. mark.fault;
+    } };
+
+    fn add_line(&mut self, _alloc: Global, event: Mark, out: &mut Bytes) -> Result<(), Memory> {
         out.reserve(2)?;
         out.push_reserved(event.letter);
         out.push_reserved(b'\n');
         Ok(())
     }
 
-    fn is_fault(event: &Mark) -> bool {
+    fn is_fault(&self, event: &Mark) -> bool {
         event.fault
     }
 }
@@ -190,7 +198,7 @@ fn put_heard_of<S: Source>(
         framer: Framer::new(alloc),
         letters: Letters,
     };
-    put_answer(listen(alloc, source, &mut sink, ear), out)?;
+    put_answer(listen(alloc, source, &mut sink, ear, Scribe), out)?;
     put_letters(sink.held(), out)
 }
 

@@ -3,7 +3,7 @@ use Rattle.std.proofs.lemmas.List.{take_at}
 use Rattle.std.specs.Prelude.{option_to_list}
 use Rattle.defmt_framing.specs.Told.{events, begun}
 use Rattle.defmt_framing.specs.Framing.{Stands}
-use Rattle.defmt_listen.specs.Heard.{Reports, HeardPart, HeardSome, HeardFront, Breaks, lines}
+use Rattle.defmt_listen.specs.Heard.{Reports, HeardPart, HeardSome, HeardFront, Breaks, lines_from}
 use Rattle.defmt_listen.specs.declared.fault.ListenFault.TheVariants.{Memory}
 use Rattle.defmt_listen.proofs.Fronts.{if_err}
 use Rattle.defmt_listen.proofs.Wholes.{Listening, start, more, no_more, part, whole, last_front, no_last, untouched, breaks_memory, breaks_sink, breaks_part, breaks_read}
@@ -11,7 +11,7 @@ use Rattle.defmt_listen.proofs.listening.listen.Goals as goal
 
 pub returns-in_err-buf-clause-breaks : goal.returns-in_err-buf-clause-breaks
 returns-in_err-buf-clause-breaks g c =
-    let r : Reports g.row.L-Event.Denot = record { tells = g.L.Listener.tells c.args.listener; line = g.L.Listener.line; is_fault = g.L.Listener.is_fault } in
+    let r : Reports g.row.R.Denot g.row.L-Event.Denot = record { tells = g.L.Listener.tells c.args.listener; reporting = g.R.Reporter.reporting; start = c.args.reporter } in
     if_err (Breaks r (record { left = g.S.Source.left c.args.src.now; left_after = g.S.Source.left c.args.src.now; faults = g.S.Source.faults c.args.src.now; faults_after = g.S.Source.faults c.args.src.now })
     (record { held = g.K.Sink.held c.args.out.now; held_after = g.K.Sink.held c.args.out.now; faults = g.K.Sink.faults c.args.out.now; faults_after = g.K.Sink.faults c.args.out.now }))
     c.from_residual.result Memory c.from_residual.ensures.1
@@ -19,7 +19,7 @@ returns-in_err-buf-clause-breaks g c =
 
 pub parts-init : goal.parts-init
 parts-init g c = record {
-  listening = start (record { tells = g.L.Listener.tells c.args.listener; line = g.L.Listener.line; is_fault = g.L.Listener.is_fault }) (g.S.Source.left c.args.src.now) (g.K.Sink.held c.args.out.now) (g.L.Listener.framing c.args.listener) c.requires;
+  listening = start (record { tells = g.L.Listener.tells c.args.listener; reporting = g.R.Reporter.reporting; start = c.args.reporter }) (g.S.Source.left c.args.src.now) (g.K.Sink.held c.args.out.now) (g.L.Listener.framing c.args.listener) c.requires;
   empty = c.new.ensures.items;
   room = c.in_ok-buf.ensures;
   same = refl;
@@ -29,28 +29,28 @@ parts-init g c = record {
 
 pub returns-in_err-count-clause-breaks : goal.returns-in_err-count-clause-breaks
 returns-in_err-count-clause-breaks g c =
-    let r : Reports g.row.L-Event.Denot = record { tells = g.L.Listener.tells c.args.listener; line = g.L.Listener.line; is_fault = g.L.Listener.is_fault } in
+    let r : Reports g.row.R.Denot g.row.L-Event.Denot = record { tells = g.L.Listener.tells c.args.listener; reporting = g.R.Reporter.reporting; start = c.args.reporter } in
     if_err (Breaks r (record { left = g.S.Source.left c.args.src.now; left_after = g.S.Source.left c.next_part.new.src; faults = g.S.Source.faults c.args.src.now; faults_after = g.S.Source.faults c.next_part.new.src }) (record { held = g.K.Sink.held c.args.out.now; held_after = g.K.Sink.held c.parts.out; faults = g.K.Sink.faults c.args.out.now; faults_after = g.K.Sink.faults c.parts.out }))
     c.from_residual-in_err-count.result c.in_err-count.field-0.0 c.from_residual-in_err-count.ensures.1
     (breaks_read r (g.S.Source.left c.args.src.now) (g.S.Source.left c.parts.src) (g.S.Source.left c.next_part.new.src) (g.K.Sink.held c.args.out.now) (g.K.Sink.held c.parts.out)
     (g.S.Source.faults c.args.src.now) (g.S.Source.faults c.parts.src) (g.S.Source.faults c.next_part.new.src) (g.K.Sink.faults c.args.out.now) (g.K.Sink.faults c.parts.out)
-    c.parts.taken c.parts.report.faults (g.L.Listener.framing c.parts.listener) c.in_err-count.field-0.0 c.parts.invariant.listening c.parts.invariant.source_later c.in_err-count.ensures.refused)
+    c.parts.taken c.parts.report.faults c.parts.reporter (g.L.Listener.framing c.parts.listener) c.in_err-count.field-0.0 c.parts.invariant.listening c.parts.invariant.source_later c.in_err-count.ensures.refused)
 
 pub returns-in_err-hear_part-clause-breaks : goal.returns-in_err-hear_part-clause-breaks
 returns-in_err-hear_part-clause-breaks g c =
-    let r : Reports g.row.L-Event.Denot = record { tells = g.L.Listener.tells c.args.listener; line = g.L.Listener.line; is_fault = g.L.Listener.is_fault } in
+    let r : Reports g.row.R.Denot g.row.L-Event.Denot = record { tells = g.L.Listener.tells c.args.listener; reporting = g.R.Reporter.reporting; start = c.args.reporter } in
     let bytes : List ℕ = take c.in_ok-count.count c.next_part.new.buf in
     let len : length c.next_part.new.buf ≡ c.parts.buf.len = omega (arith, c.next_part.auto.buf, c.deref_mut.ensures.len) in
     let whole_is : c.deref.result.now ≡ c.next_part.new.buf = c.deref.ensures.value ∙ take_at c.next_part.new.buf (drop (length c.next_part.new.buf) c.parts.buf.items) c.parts.buf.len len in
     let part_is : take c.in_ok-count.count c.deref.result.now ≡ bytes = ap (take c.in_ok-count.count) whole_is in
     let fits : c.parts.taken + length bytes ≤ 268435456 = omega (arith, length-take c.in_ok-count.count c.next_part.new.buf, c.in_ok-count.ensures.within.0, c.in_ok-count.ensures.within.1) in
     let front : HeardFront r (record { left = g.S.Source.left c.args.src.now; left_after = g.S.Source.left c.next_part.new.src; faults = g.S.Source.faults c.args.src.now; faults_after = g.S.Source.faults c.next_part.new.src }) (record { held = g.K.Sink.held c.args.out.now; held_after = g.K.Sink.held c.hear_part.new.out; faults = g.K.Sink.faults c.args.out.now; faults_after = g.K.Sink.faults c.hear_part.new.out }) =
-    part r (g.S.Source.left c.args.src.now) (g.K.Sink.held c.args.out.now) (g.L.Listener.framing c.parts.listener) (g.S.Source.left c.parts.src) (g.K.Sink.held c.parts.out) c.parts.taken c.parts.report.faults c.parts.invariant.listening
+    part r (g.S.Source.left c.args.src.now) (g.K.Sink.held c.args.out.now) c.parts.reporter (g.L.Listener.framing c.parts.listener) (g.S.Source.left c.parts.src) (g.K.Sink.held c.parts.out) c.parts.taken c.parts.report.faults c.parts.invariant.listening
     (g.S.Source.left c.next_part.new.src) (g.S.Source.faults c.args.src.now) (g.S.Source.faults c.next_part.new.src) (g.K.Sink.faults c.args.out.now) (g.K.Sink.faults c.hear_part.new.out)
     (g.K.Sink.held c.hear_part.new.out) bytes (g.K.Sink.faults c.parts.out) (g.K.Sink.faults c.hear_part.new.out) c.in_ok-count.ensures.bytes fits
-    (λ stream st. subst (λ tells. HeardSome (record { tells = tells; line = g.L.Listener.line; is_fault = g.L.Listener.is_fault })
+    (λ stream st. subst (λ tells. HeardSome tells g.R.Reporter.reporting c.parts.reporter
     (record { held = g.K.Sink.held c.parts.out; held_after = g.K.Sink.held c.hear_part.new.out; faults = g.K.Sink.faults c.parts.out; faults_after = g.K.Sink.faults c.hear_part.new.out }) stream bytes)
-    c.parts.invariant.same (subst (λ (l : List ℕ). HeardSome (record { tells = g.L.Listener.tells c.parts.listener; line = g.L.Listener.line; is_fault = g.L.Listener.is_fault })
+    c.parts.invariant.same (subst (λ (l : List ℕ). HeardSome (g.L.Listener.tells c.parts.listener) g.R.Reporter.reporting c.parts.reporter
     (record { held = g.K.Sink.held c.parts.out; held_after = g.K.Sink.held c.hear_part.new.out; faults = g.K.Sink.faults c.parts.out; faults_after = g.K.Sink.faults c.hear_part.new.out }) stream l) part_is (c.in_err-hear_part.ensures.some stream st))) in
     if_err (Breaks r (record { left = g.S.Source.left c.args.src.now; left_after = g.S.Source.left c.next_part.new.src; faults = g.S.Source.faults c.args.src.now; faults_after = g.S.Source.faults c.next_part.new.src }) (record { held = g.K.Sink.held c.args.out.now; held_after = g.K.Sink.held c.hear_part.new.out; faults = g.K.Sink.faults c.args.out.now; faults_after = g.K.Sink.faults c.hear_part.new.out }))
     c.from_residual-in_err-hear_part.result c.in_err-hear_part.field-0.0 c.from_residual-in_err-hear_part.ensures.1
@@ -59,7 +59,7 @@ returns-in_err-hear_part-clause-breaks g c =
 
 pub parts-preserved : goal.parts-preserved
 parts-preserved g c =
-    let r : Reports g.row.L-Event.Denot = record { tells = g.L.Listener.tells c.args.listener; line = g.L.Listener.line; is_fault = g.L.Listener.is_fault } in
+    let r : Reports g.row.R.Denot g.row.L-Event.Denot = record { tells = g.L.Listener.tells c.args.listener; reporting = g.R.Reporter.reporting; start = c.args.reporter } in
     let bytes : List ℕ = take c.in_ok-count.count c.next_part.new.buf in
     let len : length c.next_part.new.buf ≡ c.parts.buf.len = omega (arith, c.next_part.auto.buf, c.deref_mut.ensures.len) in
     let whole_is : c.deref.result.now ≡ c.next_part.new.buf = c.deref.ensures.value ∙ take_at c.next_part.new.buf (drop (length c.next_part.new.buf) c.parts.buf.items) c.parts.buf.len len in
@@ -67,20 +67,20 @@ parts-preserved g c =
     let fits : c.parts.taken + length bytes ≤ 268435456 = omega (arith, length-take c.in_ok-count.count c.next_part.new.buf, c.in_ok-count.ensures.within.0, c.in_ok-count.ensures.within.1) in
     let size : length bytes ≡ c.in_ok-count.count = omega (arith, length-take c.in_ok-count.count c.next_part.new.buf, c.in_ok-count.ensures.within.0) in
     let few : c.hear_part.new.report.faults ≤ c.parts.report.faults + length bytes = omega (arith, c.in_ok-hear_part.ensures.few, ap length part_is) in
-    let heard : (stream : List ℕ) → Stands (g.L.Listener.framing c.parts.listener) stream → HeardPart r (g.L.Listener.framing c.hear_part.new.listener)
+    let heard : (stream : List ℕ) → Stands (g.L.Listener.framing c.parts.listener) stream → HeardPart r.tells r.reporting (g.L.Listener.framing c.hear_part.new.listener) c.parts.reporter c.hear_part.new.reporter
     (record { held = g.K.Sink.held c.parts.out; held_after = g.K.Sink.held c.hear_part.new.out; faults = g.K.Sink.faults c.parts.out; faults_after = g.K.Sink.faults c.hear_part.new.out })
     stream bytes c.parts.report.faults c.hear_part.new.report.faults = λ stream st.
-    subst (λ tells. HeardPart (record { tells = tells; line = g.L.Listener.line; is_fault = g.L.Listener.is_fault }) (g.L.Listener.framing c.hear_part.new.listener)
+    subst (λ tells. HeardPart tells g.R.Reporter.reporting (g.L.Listener.framing c.hear_part.new.listener) c.parts.reporter c.hear_part.new.reporter
     (record { held = g.K.Sink.held c.parts.out; held_after = g.K.Sink.held c.hear_part.new.out; faults = g.K.Sink.faults c.parts.out; faults_after = g.K.Sink.faults c.hear_part.new.out })
     stream bytes c.parts.report.faults c.hear_part.new.report.faults) c.parts.invariant.same
-    (subst (λ (l : List ℕ). HeardPart (record { tells = g.L.Listener.tells c.parts.listener; line = g.L.Listener.line; is_fault = g.L.Listener.is_fault }) (g.L.Listener.framing c.hear_part.new.listener)
+    (subst (λ (l : List ℕ). HeardPart (g.L.Listener.tells c.parts.listener) g.R.Reporter.reporting (g.L.Listener.framing c.hear_part.new.listener) c.parts.reporter c.hear_part.new.reporter
     (record { held = g.K.Sink.held c.parts.out; held_after = g.K.Sink.held c.hear_part.new.out; faults = g.K.Sink.faults c.parts.out; faults_after = g.K.Sink.faults c.hear_part.new.out })
     stream l c.parts.report.faults c.hear_part.new.report.faults) part_is (c.in_ok-hear_part.ensures.heard stream st)) in
-    let one = more r (g.S.Source.left c.args.src.now) (g.K.Sink.held c.args.out.now) (g.L.Listener.framing c.parts.listener) (g.L.Listener.framing c.hear_part.new.listener)
+    let one = more r (g.S.Source.left c.args.src.now) (g.K.Sink.held c.args.out.now) c.parts.reporter c.hear_part.new.reporter (g.L.Listener.framing c.parts.listener) (g.L.Listener.framing c.hear_part.new.listener)
     (g.S.Source.left c.parts.src) (g.S.Source.left c.next_part.new.src) (g.K.Sink.held c.parts.out) (g.K.Sink.held c.hear_part.new.out) c.parts.taken c.parts.report.faults c.hear_part.new.report.faults
     (g.K.Sink.faults c.parts.out) (g.K.Sink.faults c.hear_part.new.out) bytes c.parts.invariant.listening c.in_ok-count.ensures.bytes fits heard few in
     record {
-      listening = subst (λ (n : ℕ). Listening r (g.L.Listener.framing c.hear_part.new.listener) (g.S.Source.left c.args.src.now) (g.S.Source.left c.next_part.new.src) (g.K.Sink.held c.args.out.now) (g.K.Sink.held c.hear_part.new.out)
+      listening = subst (λ (n : ℕ). Listening r c.hear_part.new.reporter (g.L.Listener.framing c.hear_part.new.listener) (g.S.Source.left c.args.src.now) (g.S.Source.left c.next_part.new.src) (g.K.Sink.held c.args.out.now) (g.K.Sink.held c.hear_part.new.out)
           (c.parts.taken + n) c.hear_part.new.report.faults) size one;
       empty = c.in_ok-hear_part.ensures.empty;
       room = ap length (sym c.deref.ensures.value) ∙ ap length whole_is ∙ (let e : length c.next_part.new.buf ≡ 65536 = omega (arith, c.next_part.auto.buf, ap length c.deref_mut.ensures.value, c.parts.invariant.room) in e);
@@ -91,38 +91,38 @@ parts-preserved g c =
 
 pub returns-in_err-add_told-clause-breaks : goal.returns-in_err-add_told-clause-breaks
 returns-in_err-add_told-clause-breaks g c =
-    let r : Reports g.row.L-Event.Denot = record { tells = g.L.Listener.tells c.args.listener; line = g.L.Listener.line; is_fault = g.L.Listener.is_fault } in
+    let r : Reports g.row.R.Denot g.row.L-Event.Denot = record { tells = g.L.Listener.tells c.args.listener; reporting = g.R.Reporter.reporting; start = c.args.reporter } in
     let end = c.in_ok-count.ensures.end c.if-count-eq0.true in
     let finishes : (stream : List ℕ) → Stands (g.L.Listener.framing c.parts.listener) stream → events r.tells stream ≡ begun r.tells stream ++ option_to_list c.finish.result =
     λ stream st. subst (λ tells. events tells stream ≡ begun tells stream ++ option_to_list c.finish.result) c.parts.invariant.same (c.finish.ensures stream st) in
-    let so : Listening r (g.L.Listener.framing c.parts.listener) (g.S.Source.left c.args.src.now) (g.S.Source.left c.next_part.new.src) (g.K.Sink.held c.args.out.now) (g.K.Sink.held c.parts.out) c.parts.taken c.parts.report.faults =
-    no_more r (g.S.Source.left c.args.src.now) (g.K.Sink.held c.args.out.now) (g.L.Listener.framing c.parts.listener) (g.S.Source.left c.parts.src) (g.S.Source.left c.next_part.new.src) (g.K.Sink.held c.parts.out) c.parts.taken c.parts.report.faults (take c.in_ok-count.count c.next_part.new.buf) c.parts.invariant.listening c.in_ok-count.ensures.bytes (omega (arith, length-take c.in_ok-count.count c.next_part.new.buf, c.if-count-eq0.true)) in
+    let so : Listening r c.parts.reporter (g.L.Listener.framing c.parts.listener) (g.S.Source.left c.args.src.now) (g.S.Source.left c.next_part.new.src) (g.K.Sink.held c.args.out.now) (g.K.Sink.held c.parts.out) c.parts.taken c.parts.report.faults =
+    no_more r (g.S.Source.left c.args.src.now) (g.K.Sink.held c.args.out.now) c.parts.reporter (g.L.Listener.framing c.parts.listener) (g.S.Source.left c.parts.src) (g.S.Source.left c.next_part.new.src) (g.K.Sink.held c.parts.out) c.parts.taken c.parts.report.faults (take c.in_ok-count.count c.next_part.new.buf) c.parts.invariant.listening c.in_ok-count.ensures.bytes (omega (arith, length-take c.in_ok-count.count c.next_part.new.buf, c.if-count-eq0.true)) in
     if_err (Breaks r (record { left = g.S.Source.left c.args.src.now; left_after = g.S.Source.left c.next_part.new.src; faults = g.S.Source.faults c.args.src.now; faults_after = g.S.Source.faults c.next_part.new.src }) (record { held = g.K.Sink.held c.args.out.now; held_after = g.K.Sink.held c.parts.out; faults = g.K.Sink.faults c.args.out.now; faults_after = g.K.Sink.faults c.parts.out }))
     c.from_residual-in_err-add_told.result c.in_err-add_told.field-0.0 c.from_residual-in_err-add_told.ensures.1
     (breaks_memory r (record { left = g.S.Source.left c.args.src.now; left_after = g.S.Source.left c.next_part.new.src; faults = g.S.Source.faults c.args.src.now; faults_after = g.S.Source.faults c.next_part.new.src }) (record { held = g.K.Sink.held c.args.out.now; held_after = g.K.Sink.held c.parts.out; faults = g.K.Sink.faults c.args.out.now; faults_after = g.K.Sink.faults c.parts.out }) c.in_err-add_told.field-0.0 c.in_err-add_told.ensures.memory
-    (no_last r (g.S.Source.left c.args.src.now) (g.K.Sink.held c.args.out.now) (g.L.Listener.framing c.parts.listener) (g.S.Source.left c.next_part.new.src) (g.K.Sink.held c.parts.out) c.parts.taken c.parts.report.faults so end c.finish.result finishes (g.S.Source.faults c.args.src.now) (g.S.Source.faults c.next_part.new.src) (g.K.Sink.faults c.args.out.now) (g.K.Sink.faults c.parts.out)))
+    (no_last r (g.S.Source.left c.args.src.now) (g.K.Sink.held c.args.out.now) c.parts.reporter (g.L.Listener.framing c.parts.listener) (g.S.Source.left c.next_part.new.src) (g.K.Sink.held c.parts.out) c.parts.taken c.parts.report.faults so end c.finish.result finishes (g.S.Source.faults c.args.src.now) (g.S.Source.faults c.next_part.new.src) (g.K.Sink.faults c.args.out.now) (g.K.Sink.faults c.parts.out)))
 
 pub returns-in_err-write_lines-clause-breaks : goal.returns-in_err-write_lines-clause-breaks
 returns-in_err-write_lines-clause-breaks g c =
-    let r : Reports g.row.L-Event.Denot = record { tells = g.L.Listener.tells c.args.listener; line = g.L.Listener.line; is_fault = g.L.Listener.is_fault } in
+    let r : Reports g.row.R.Denot g.row.L-Event.Denot = record { tells = g.L.Listener.tells c.args.listener; reporting = g.R.Reporter.reporting; start = c.args.reporter } in
     let end = c.in_ok-count.ensures.end c.if-count-eq0.true in
     let finishes : (stream : List ℕ) → Stands (g.L.Listener.framing c.parts.listener) stream → events r.tells stream ≡ begun r.tells stream ++ option_to_list c.finish.result =
     λ stream st. subst (λ tells. events tells stream ≡ begun tells stream ++ option_to_list c.finish.result) c.parts.invariant.same (c.finish.ensures stream st) in
-    let so : Listening r (g.L.Listener.framing c.parts.listener) (g.S.Source.left c.args.src.now) (g.S.Source.left c.next_part.new.src) (g.K.Sink.held c.args.out.now) (g.K.Sink.held c.parts.out) c.parts.taken c.parts.report.faults =
-    no_more r (g.S.Source.left c.args.src.now) (g.K.Sink.held c.args.out.now) (g.L.Listener.framing c.parts.listener) (g.S.Source.left c.parts.src) (g.S.Source.left c.next_part.new.src) (g.K.Sink.held c.parts.out) c.parts.taken c.parts.report.faults (take c.in_ok-count.count c.next_part.new.buf) c.parts.invariant.listening c.in_ok-count.ensures.bytes (omega (arith, length-take c.in_ok-count.count c.next_part.new.buf, c.if-count-eq0.true)) in
-    let text_is : c.add_told.new.report.lines.items ≡ lines r (option_to_list c.finish.result) = ◌∙◌ {a = c.add_told.new.report.lines.items} c.in_ok-add_told.ensures.lines (ap (λ (l : List ℕ). l ++ lines r (option_to_list c.finish.result)) c.parts.invariant.empty) in
-    let front : HeardFront r (record { left = g.S.Source.left c.args.src.now; left_after = g.S.Source.left c.next_part.new.src; faults = g.S.Source.faults c.args.src.now; faults_after = g.S.Source.faults c.next_part.new.src }) (record { held = g.K.Sink.held c.args.out.now; held_after = g.K.Sink.held c.write_lines.new.out; faults = g.K.Sink.faults c.args.out.now; faults_after = g.K.Sink.faults c.write_lines.new.out }) = last_front r (g.S.Source.left c.args.src.now) (g.K.Sink.held c.args.out.now) (g.L.Listener.framing c.parts.listener) (g.S.Source.left c.next_part.new.src) (g.K.Sink.held c.parts.out) c.parts.taken c.parts.report.faults so end c.finish.result finishes (g.S.Source.faults c.args.src.now) (g.S.Source.faults c.next_part.new.src) (g.K.Sink.faults c.args.out.now) (g.K.Sink.faults c.write_lines.new.out) (g.K.Sink.held c.write_lines.new.out) c.add_told.new.report.lines.items text_is c.in_err-write_lines.ensures.front in
+    let so : Listening r c.parts.reporter (g.L.Listener.framing c.parts.listener) (g.S.Source.left c.args.src.now) (g.S.Source.left c.next_part.new.src) (g.K.Sink.held c.args.out.now) (g.K.Sink.held c.parts.out) c.parts.taken c.parts.report.faults =
+    no_more r (g.S.Source.left c.args.src.now) (g.K.Sink.held c.args.out.now) c.parts.reporter (g.L.Listener.framing c.parts.listener) (g.S.Source.left c.parts.src) (g.S.Source.left c.next_part.new.src) (g.K.Sink.held c.parts.out) c.parts.taken c.parts.report.faults (take c.in_ok-count.count c.next_part.new.buf) c.parts.invariant.listening c.in_ok-count.ensures.bytes (omega (arith, length-take c.in_ok-count.count c.next_part.new.buf, c.if-count-eq0.true)) in
+    let text_is : c.add_told.new.report.lines.items ≡ lines_from r.reporting c.parts.reporter (option_to_list c.finish.result) = ◌∙◌ {a = c.add_told.new.report.lines.items} {b = c.parts.report.lines.items ++ lines_from r.reporting c.parts.reporter (option_to_list c.finish.result)} c.in_ok-add_told.ensures.lines (ap (λ (l : List ℕ). l ++ lines_from r.reporting c.parts.reporter (option_to_list c.finish.result)) c.parts.invariant.empty) in
+    let front : HeardFront r (record { left = g.S.Source.left c.args.src.now; left_after = g.S.Source.left c.next_part.new.src; faults = g.S.Source.faults c.args.src.now; faults_after = g.S.Source.faults c.next_part.new.src }) (record { held = g.K.Sink.held c.args.out.now; held_after = g.K.Sink.held c.write_lines.new.out; faults = g.K.Sink.faults c.args.out.now; faults_after = g.K.Sink.faults c.write_lines.new.out }) = last_front r (g.S.Source.left c.args.src.now) (g.K.Sink.held c.args.out.now) c.parts.reporter (g.L.Listener.framing c.parts.listener) (g.S.Source.left c.next_part.new.src) (g.K.Sink.held c.parts.out) c.parts.taken c.parts.report.faults so end c.finish.result finishes (g.S.Source.faults c.args.src.now) (g.S.Source.faults c.next_part.new.src) (g.K.Sink.faults c.args.out.now) (g.K.Sink.faults c.write_lines.new.out) (g.K.Sink.held c.write_lines.new.out) c.add_told.new.report.lines.items text_is c.in_err-write_lines.ensures.front in
     if_err (Breaks r (record { left = g.S.Source.left c.args.src.now; left_after = g.S.Source.left c.next_part.new.src; faults = g.S.Source.faults c.args.src.now; faults_after = g.S.Source.faults c.next_part.new.src }) (record { held = g.K.Sink.held c.args.out.now; held_after = g.K.Sink.held c.write_lines.new.out; faults = g.K.Sink.faults c.args.out.now; faults_after = g.K.Sink.faults c.write_lines.new.out }))
     c.from_residual-in_err-write_lines.result c.in_err-write_lines.field-0.0 c.from_residual-in_err-write_lines.ensures.1
     (breaks_sink r (record { left = g.S.Source.left c.args.src.now; left_after = g.S.Source.left c.next_part.new.src; faults = g.S.Source.faults c.args.src.now; faults_after = g.S.Source.faults c.next_part.new.src }) (record { held = g.K.Sink.held c.args.out.now; held_after = g.K.Sink.held c.write_lines.new.out; faults = g.K.Sink.faults c.args.out.now; faults_after = g.K.Sink.faults c.write_lines.new.out }) (g.K.Sink.faults c.parts.out) c.in_err-write_lines.field-0.0 c.in_err-write_lines.ensures.sink.0 front c.parts.invariant.sink_later c.in_err-write_lines.ensures.sink.1)
 
 pub returns-clause-heard : goal.returns-clause-heard
 returns-clause-heard g c =
-    let r : Reports g.row.L-Event.Denot = record { tells = g.L.Listener.tells c.args.listener; line = g.L.Listener.line; is_fault = g.L.Listener.is_fault } in
+    let r : Reports g.row.R.Denot g.row.L-Event.Denot = record { tells = g.L.Listener.tells c.args.listener; reporting = g.R.Reporter.reporting; start = c.args.reporter } in
     let end = c.in_ok-count.ensures.end c.if-count-eq0.true in
     let finishes : (stream : List ℕ) → Stands (g.L.Listener.framing c.parts.listener) stream → events r.tells stream ≡ begun r.tells stream ++ option_to_list c.finish.result =
     λ stream st. subst (λ tells. events tells stream ≡ begun tells stream ++ option_to_list c.finish.result) c.parts.invariant.same (c.finish.ensures stream st) in
-    let so : Listening r (g.L.Listener.framing c.parts.listener) (g.S.Source.left c.args.src.now) (g.S.Source.left c.next_part.new.src) (g.K.Sink.held c.args.out.now) (g.K.Sink.held c.parts.out) c.parts.taken c.parts.report.faults =
-    no_more r (g.S.Source.left c.args.src.now) (g.K.Sink.held c.args.out.now) (g.L.Listener.framing c.parts.listener) (g.S.Source.left c.parts.src) (g.S.Source.left c.next_part.new.src) (g.K.Sink.held c.parts.out) c.parts.taken c.parts.report.faults (take c.in_ok-count.count c.next_part.new.buf) c.parts.invariant.listening c.in_ok-count.ensures.bytes (omega (arith, length-take c.in_ok-count.count c.next_part.new.buf, c.if-count-eq0.true)) in
-    let text_is : c.add_told.new.report.lines.items ≡ lines r (option_to_list c.finish.result) = ◌∙◌ {a = c.add_told.new.report.lines.items} c.in_ok-add_told.ensures.lines (ap (λ (l : List ℕ). l ++ lines r (option_to_list c.finish.result)) c.parts.invariant.empty) in
-    whole r (g.S.Source.left c.args.src.now) (g.K.Sink.held c.args.out.now) (g.L.Listener.framing c.parts.listener) (g.S.Source.left c.next_part.new.src) (g.K.Sink.held c.parts.out) c.parts.taken c.parts.report.faults so end c.finish.result finishes (g.S.Source.faults c.args.src.now) (g.S.Source.faults c.next_part.new.src) (g.K.Sink.faults c.args.out.now) (g.K.Sink.faults c.write_lines.new.out) (g.K.Sink.held c.write_lines.new.out) c.add_told.new.report.lines.items c.add_told.new.report.faults text_is c.in_ok-add_told.ensures.faults c.in_ok-write_lines.ensures.ok
+    let so : Listening r c.parts.reporter (g.L.Listener.framing c.parts.listener) (g.S.Source.left c.args.src.now) (g.S.Source.left c.next_part.new.src) (g.K.Sink.held c.args.out.now) (g.K.Sink.held c.parts.out) c.parts.taken c.parts.report.faults =
+    no_more r (g.S.Source.left c.args.src.now) (g.K.Sink.held c.args.out.now) c.parts.reporter (g.L.Listener.framing c.parts.listener) (g.S.Source.left c.parts.src) (g.S.Source.left c.next_part.new.src) (g.K.Sink.held c.parts.out) c.parts.taken c.parts.report.faults (take c.in_ok-count.count c.next_part.new.buf) c.parts.invariant.listening c.in_ok-count.ensures.bytes (omega (arith, length-take c.in_ok-count.count c.next_part.new.buf, c.if-count-eq0.true)) in
+    let text_is : c.add_told.new.report.lines.items ≡ lines_from r.reporting c.parts.reporter (option_to_list c.finish.result) = ◌∙◌ {a = c.add_told.new.report.lines.items} {b = c.parts.report.lines.items ++ lines_from r.reporting c.parts.reporter (option_to_list c.finish.result)} c.in_ok-add_told.ensures.lines (ap (λ (l : List ℕ). l ++ lines_from r.reporting c.parts.reporter (option_to_list c.finish.result)) c.parts.invariant.empty) in
+    whole r (g.S.Source.left c.args.src.now) (g.K.Sink.held c.args.out.now) c.parts.reporter (g.L.Listener.framing c.parts.listener) (g.S.Source.left c.next_part.new.src) (g.K.Sink.held c.parts.out) c.parts.taken c.parts.report.faults so end c.finish.result finishes (g.S.Source.faults c.args.src.now) (g.S.Source.faults c.next_part.new.src) (g.K.Sink.faults c.args.out.now) (g.K.Sink.faults c.write_lines.new.out) (g.K.Sink.held c.write_lines.new.out) c.add_told.new.report.lines.items c.add_told.new.report.faults text_is c.in_ok-add_told.ensures.faults c.in_ok-write_lines.ensures.ok

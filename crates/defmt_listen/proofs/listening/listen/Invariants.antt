@@ -5,7 +5,7 @@ use Rattle.defmt_listen.proofs.listening.listen.Given as goal
 
 abbrev pub invariant-parts : goal.invariant-parts
 invariant-parts g l = record {
-  listening : Listening (record { tells = g.L.Listener.tells l.fn.listener; line = g.L.Listener.line; is_fault = g.L.Listener.is_fault })
+  listening : Listening (record { tells = g.L.Listener.tells l.fn.listener; reporting = g.R.Reporter.reporting; start = l.fn.reporter }) l.reporter
       (g.L.Listener.framing l.listener) (g.S.Source.left l.fn.src) (g.S.Source.left l.src)
       (g.K.Sink.held l.fn.out) (g.K.Sink.held l.out) l.taken l.report.faults;
   empty : l.report.lines.items ≡ [];

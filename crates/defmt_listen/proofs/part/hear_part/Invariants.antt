@@ -4,7 +4,7 @@ use Rattle.defmt_listen.proofs.part.hear_part.Given as goal
 
 abbrev pub invariant-parts : goal.invariant-parts
 invariant-parts g l = record {
-  hearing : Hearing (record { tells = g.L.Listener.tells l.fn.listener; line = g.L.Listener.line; is_fault = g.L.Listener.is_fault })
+  hearing : Hearing (g.L.Listener.tells l.fn.listener) g.R.Reporter.reporting l.fn.reporter l.reporter
       (g.L.Listener.framing l.fn.listener) (g.L.Listener.framing l.listener) l.bytes l.rest
       (g.K.Sink.held l.fn.out) (g.K.Sink.held l.out) l.report.lines.items l.fn.report.faults l.report.faults;
   same : g.L.Listener.tells l.listener ≡ g.L.Listener.tells l.fn.listener;

@@ -1,7 +1,7 @@
-use Rattle.defmt_run.proofs.Marks.{few_marks}
+use Rattle.defmt_print.proofs.Marks.{few_marks}
 use Rattle.defmt_run.proofs.RunMade.{heard, so_told}
 use Rattle.defmt_run.specs.Making.{RanHeard}
-use Rattle.defmt_run.specs.Printed.{summary}
+use Rattle.defmt_print.specs.Printed.{summary}
 use Rattle.defmt_run.specs.Told.{told, told_of}
 use Rattle.defmt_run.proofs.making.counts_of_run.Goals as goal
 

@@ -1,7 +1,7 @@
-use Rattle.defmt_run.proofs.Marks.{are_placed}
+use Rattle.defmt_print.proofs.Marks.{are_placed}
 use Rattle.defmt_run.proofs.RunMade.{heard, so_told}
 use Rattle.defmt_run.specs.Making.{RanHeard}
-use Rattle.defmt_run.specs.Printed.{run_lines}
+use Rattle.defmt_run.specs.Shown.{run_lines}
 use Rattle.defmt_run.specs.Told.{told, told_of}
 use Rattle.defmt_run.proofs.making.lines_of_run.Goals as goal
 

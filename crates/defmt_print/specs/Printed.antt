@@ -1,0 +1,134 @@
+-- What is printed of a script and of its run.
+use Rattle.std.specs.Prelude.{◌+◌, ◌<◌, ◌==◌, ℕ, Bool, true, false, List, [], ◌∷◌, ◌++◌, codes, length, Option, Some, None, flat_map, count_by, sum_by, slice_get, if◌then◌else◌}
+use Rattle.std.specs.Fmt.{decimal}
+use Rattle.std.specs.List.{AllByRecursion}
+use Rattle.defmt_eager.specs.Line.{eager_line, IsWide}
+use Rattle.defmt_intern.specs.Stamp.{stamp_of}
+use Rattle.defmt_encode.specs.Carry.{message_of, stamp_args}
+use Rattle.defmt_frames.specs.Frames.{count, stamp_number, statements_of}
+use Rattle.defmt_intern.specs.Table.{Map}
+use Rattle.defmt_intern.specs.declared.entry.Entry.{Entry}
+use Rattle.defmt_intern.specs.declared.entry.Tag.{Tag}
+use Rattle.defmt_intern.specs.declared.entry.Tag.TheVariants as tags
+use Rattle.defmt_logger.specs.Tape.{mark_line}
+use Rattle.defmt_logger.specs.declared.mark.Mark.{Mark}
+use Rattle.defmt_print.specs.Output.{ended}
+use Rattle.defmt_print.specs.declared.counts.Level.{Level}
+use Rattle.defmt_print.specs.declared.counts.Level.TheVariants as levels
+use Rattle.defmt_script.specs.Lawful.{stamp_in}
+use Rattle.defmt_script.specs.Script.{Script}
+use Rattle.defmt_values.specs.Entries.{look}
+use Rattle.defmt_values.specs.Fits.{Fits, FitsStamp, IsLogged}
+use Rattle.defmt_values.specs.declared.value.Statement.{Statement}
+use Rattle.rtt_modes.specs.declared.fate.Fate.{Fate}
+use Rattle.rtt_modes.specs.declared.fate.Fate.TheVariants.{Whole, Dropped, Cut}
+
+-- ---- the statements, numbered from 0 by writer and then by place, with the stamps of their numbers
+
+-- the line of a statement with this stamp, where the script has stamps
+abbrev pub statement_line : Script → ℕ → Statement → List ℕ
+statement_line s stamp stm = ended (eager_line s.table (stamp_args (stamp_in s.settings.stamp stamp)) stm.index stm.args)
+
+abbrev pub numbered_line : Script → ℕ → Statement → List ℕ
+numbered_line s number stm = statement_line s (stamp_number s number) stm
+
+-- each statement by its number, of which the first has this one
+abbrev pub numbered : (ℕ → Statement → List ℕ) → ℕ → List Statement → List ℕ
+numbered line number [] = []
+numbered line number (stm ∷ more) = line number stm ++ numbered line (number + 1) more
+
+-- the statements of these writers, one writer after another
+abbrev pub all_statements : List (List Statement) → List Statement
+all_statements writers = flat_map (λ list. list) writers
+
+abbrev pub statement_lines : Script → List ℕ
+statement_lines s = numbered (numbered_line s) 0 (all_statements s.writers)
+
+-- ---- the lines of the frames that were sent whole, writer by writer
+
+abbrev pub whole_by : Fate → List ℕ → List ℕ
+whole_by Whole line = ended line
+whole_by (Dropped need room) line = []
+whole_by (Cut need room) line = []
+
+abbrev pub writer_line : Script → ℕ → Mark → List ℕ
+writer_line s writer m = if m.writer == writer then whole_by m.fate (mark_line s m) else []
+
+-- the lines of one writer in the tape's order
+abbrev pub writer_lines : Script → List Mark → ℕ → List ℕ
+writer_lines s tape writer = flat_map (writer_line s writer) tape
+
+-- those of the writers 0 to 7 in order
+abbrev pub group_lines : Script → List Mark → List ℕ
+group_lines s tape = flat_map (writer_lines s tape) (0 ∷ 1 ∷ 2 ∷ 3 ∷ 4 ∷ 5 ∷ 6 ∷ 7 ∷ [])
+
+-- ---- counts over the tape
+
+-- the statement of a mark
+abbrev pub mark_statement : Script → Mark → Option Statement
+mark_statement s m = slice_get (statements_of s m.writer) m.place
+
+abbrev pub entry_with : Map → Option Statement → Option Entry
+entry_with table None = None
+entry_with table (Some stm) = look table stm.index
+
+-- the tag is of this level
+abbrev pub has_level : Level → Tag → Bool
+has_level levels.Trace tags.Trace = true
+has_level levels.Debug tags.Debug = true
+has_level levels.Info tags.Info = true
+has_level levels.Warn tags.Warn = true
+has_level levels.Error tags.Error = true
+has_level level tag = false
+
+abbrev pub entry_has_level : Level → Option Entry → Bool
+entry_has_level level None = false
+entry_has_level level (Some entry) = has_level level entry.tag
+
+-- the statement of a mark is of this level
+unfoldable pub is_of_level : Script → Level → Mark → Bool
+is_of_level s level m = entry_has_level level (entry_with s.table (mark_statement s m))
+
+abbrev pub carried_message : Map → Option ℕ → Option Statement → List ℕ
+carried_message table stamp None = []
+carried_message table stamp (Some stm) = message_of table (stamp_args stamp) stm.index stm.args
+
+-- how many bytes the message of a mark has
+unfoldable pub message_size : Script → Mark → ℕ
+message_size s m = length (carried_message s.table (stamp_in s.settings.stamp m.stamp) (mark_statement s m))
+
+-- words and a number
+abbrev pub count_line : List ℕ → ℕ → List ℕ
+count_line words number = ended (words ++ decimal number)
+
+abbrev pub level_line : Script → List Mark → List ℕ → Level → List ℕ
+level_line s tape words level = count_line words (count_by (is_of_level s level) tape)
+
+abbrev pub writer_count_line : List Mark → ℕ → List ℕ
+writer_count_line tape writer = codes "writer " ++ decimal writer ++ count_line (codes " ") (count_by (λ m. m.writer == writer) tape)
+
+-- how many lines there are, of each level and of each of the writers 0 to 3, and how many bytes their messages have
+abbrev pub summary : Script → List Mark → List ℕ
+summary s tape =
+    count_line (codes "lines ") (length tape)
+    ++ level_line s tape (codes "trace ") levels.Trace ++ level_line s tape (codes "debug ") levels.Debug
+    ++ level_line s tape (codes "info ") levels.Info ++ level_line s tape (codes "warn ") levels.Warn
+    ++ level_line s tape (codes "error ") levels.Error
+    ++ writer_count_line tape 0 ++ writer_count_line tape 1 ++ writer_count_line tape 2 ++ writer_count_line tape 3
+    ++ count_line (codes "bytes ") (sum_by (message_size s) tape)
+
+-- ---- for private clauses
+
+-- the mark's place is one of its writer's
+abbrev pub IsPlaced : Script → Mark → Type 0
+IsPlaced s m = m.place < count s m.writer
+
+abbrev pub ArePlaced : Script → List Mark → Type 0
+ArePlaced s tape = AllByRecursion (IsPlaced s) tape
+
+-- The statement has a line: stamp and statement fit the table, the statement is a message's, and neither text is too wide.
+pub record Prints (table : Map) (stamp : Option ℕ) (stm : Statement) : Type 0 where
+  pub stamp_fits : FitsStamp table (stamp_of table) (stamp_args stamp)
+  pub fits : Fits table stm.index stm.args
+  pub logged : IsLogged table stm.index
+  pub narrow : IsWide table (stamp_args stamp) stm.index stm.args → ⊥

@@ -1,0 +1,173 @@
+// The lines of a script's statements.
+ghost use Rattle.std.specs.Prelude.{◌≡◌, ◌≤◌, ◌<◌, ◌^◌, ◌+◌, ◌++◌, [], length, slice_index_or, IfOk, OnOk};
+ghost use Rattle.defmt_encode.specs.Carry.{stamp_args};
+ghost use Rattle.defmt_frames.specs.Frames.{first_stamp, stamp_number, stamp_step};
+ghost use Rattle.defmt_logger.specs.Tape.{mark_line};
+ghost use Rattle.defmt_print.specs.Output.{ended};
+ghost use Rattle.defmt_eager.specs.Line.{eager_line};
+ghost use Rattle.defmt_print.specs.Printed.{IsPlaced, Prints, numbered, numbered_line, statement_lines};
+ghost use Rattle.defmt_script.specs.Lawful.{IsSound, stamp_in};
+
+use defmt_eager::{EagerFault, line};
+use defmt_intern::Table;
+use defmt_logger::Mark;
+use defmt_script::{Script, stamps_fit};
+use defmt_values::{Args, Statement, Value};
+use dl_io::{Bytes, Memory};
+use std::alloc::Global;
+
+const WRITERS: u8 = 8;
+
+/// The lines of all statements, writer by writer, with the stamps of their numbers.
+pub fn statement_lines(alloc: Global, script: &Script) -> Result<Bytes, Memory>
+    ensures { IfOk result (λ out. out.items ≡ statement_lines script.now) }
+{
+    script.lawful();
+    let mut out = Bytes::new(alloc);
+    let mut args = Args::new(alloc);
+    let mut number = 0u32;
+    for writer in 0..WRITERS {
+        let after = add_writer(alloc, script, writer, number, &mut args, &mut out)?;
+        number = after;
+    }
+    Ok(out)
+}
+
+// Appends the lines of a writer's statements, of which the first has this number. Answers the number behind them. The list takes
+// the arguments of one stamp after the other.
+fn add_writer(
+    alloc: Global,
+    script: &Script,
+    writer: u8,
+    number: u32,
+    args: &mut Args,
+    out: &mut Bytes,
+) -> Result<u32, Memory>
+    requires writer { writer < length script.now.writers }
+    requires few { number + length (slice_index_or script.now.writers writer []) ≤ 4096 }
+    ensures count { IfOk result (λ after.
+        after ≡ number + length (slice_index_or script.now.writers writer [])) }
+    ensures bytes { OnOk result (out.new.items ≡ out.old.items
+        ++ numbered (numbered_line script.now) number
+        (slice_index_or script.now.writers writer [])) }
+{
+    script.lawful();
+    let count = script.count(writer);
+    for place in 0..count {
+        let Some(statement) = script.statement(writer, place) else {
+            unreachable!();
+        };
+        add_statement(alloc, script, statement, number + place, args, out)?;
+    }
+    Ok(number + count)
+}
+
+// Appends the line of a statement of this number.
+fn add_statement(
+    alloc: Global,
+    script: &Script,
+    statement: &Statement,
+    number: u32,
+    args: &mut Args,
+    out: &mut Bytes,
+) -> Result<(), Memory>
+    requires sound { IsSound script.now.table script.now.settings.stamp statement.now }
+    requires few { number ≤ 4096 }
+    ensures { OnOk result (out.new.items ≡ out.old.items
+        ++ numbered_line script.now number statement.now) }
+{
+    script.lawful();
+    stamps_fit();
+    let table = script.table();
+    let stamp = stamp_number(script, number);
+    let carried = stamp_in(script, stamp);
+    add_line(alloc, table, carried, statement, args, out)
+}
+
+// The stamp of a number, 0 without stamps.
+fn stamp_number(script: &Script, number: u32) -> u64
+    requires { number ≤ 4096 }
+    ensures { result ≡ stamp_number script.now number }
+{
+    let (base, step) = stamps(script);
+    base + step * u64::from(number)
+}
+
+/// Appends the line of a mark's statement and a newline.
+pub fn add_mark_line(
+    alloc: Global,
+    script: &Script,
+    mark: &Mark,
+    out: &mut Bytes,
+) -> Result<(), Memory>
+    requires { IsPlaced script.now mark.now }
+    ensures { OnOk result (out.new.items ≡ out.old.items ++ ended (mark_line script.now mark.now)) }
+{
+    script.lawful();
+    stamps_fit();
+    let table = script.table();
+    let Some(statement) = script.statement(mark.writer, mark.place) else {
+        unreachable!();
+    };
+    let carried = stamp_in(script, mark.stamp);
+    let mut args = Args::new(alloc);
+    add_line(alloc, table, carried, statement, &mut args, out)
+}
+
+// Appends the line of a statement with a stamp or none, and a newline. The list takes the stamp's arguments.
+fn add_line(
+    alloc: Global,
+    table: &Table,
+    stamp: Option<u64>,
+    statement: &Statement,
+    args: &mut Args,
+    out: &mut Bytes,
+) -> Result<(), Memory>
+    requires { Prints table.now.entries stamp statement.now }
+    ensures { OnOk result (out.new.items ≡ out.old.items
+        ++ ended (eager_line table.now.entries (stamp_args stamp)
+        statement.now.index statement.now.args)) }
+{
+    put_stamp(stamp, args)?;
+    match line(alloc, table, args, statement) {
+        Ok(text) => out.extend_from_slice(text.as_str().as_bytes())?,
+        Err(EagerFault::Wide) => unreachable!(),
+        Err(EagerFault::Memory) => return Err(Memory),
+    }
+    out.push(b'\n')
+}
+
+/// The stamp that a message carries: this one, or none where the script has no stamps. Takes no memory.
+pub fn stamp_in(script: &Script, stamp: u64) -> Option<u64>
+    ensures carried { result ≡ stamp_in script.now.settings.stamp stamp }
+    ensures small { stamp < 2 ^ 64 }
+{
+    match script.stamp() {
+        Some(_) => Some(stamp),
+        None => None,
+    }
+}
+
+// Makes the list that of a stamp's arguments.
+fn put_stamp(stamp: Option<u64>, args: &mut Args) -> Result<(), Memory>
+    ensures { OnOk result (args.new ≡ stamp_args stamp) }
+{
+    args.clear();
+    match stamp {
+        Some(number) => args.push(Value::Uint(u128::from(number))),
+        None => Ok(()),
+    }
+}
+
+/// The first stamp of a script and the step to the next, both 0 without stamps. Takes no memory.
+pub fn stamps(script: &Script) -> (u64, u64)
+    ensures base { result.0 ≡ first_stamp script.now.settings.stamp }
+    ensures step { result.1 ≡ stamp_step script.now.settings.stamp }
+    ensures within { (result.0 ≤ 281474976710656) × (result.1 ≤ 281474976710656) }
+{
+    script.lawful();
+    match script.stamp() {
+        Some((base, step)) => (base, step),
+        None => (0, 0),
+    }
+}
