@@ -43,6 +43,13 @@ impl<B: Books, Q: Quota, T: Work<Q>> Logger<B, Q, T> {
     {
         self.shared.step(rt, pen, relief)
     }
+
+    /// The work that the pens share: a desk behind its lock. Takes no memory.
+    pub fn shared(&self) -> &Shared<B, Q, T>
+        ensures { result.now ≡ self.now.shared }
+    {
+        &self.shared
+    }
 }
 
 // How many statements the writers 0 to 7 have.

@@ -1,6 +1,6 @@
 -- How a run ends.
 use Rattle.std.proofs.Common.{◌≡◌, ℕ, zero, suc, ◌-◌, ◌^◌, ◌<◌, ◌≤◌, List, [], ◌++◌, Bool, true, length, sym, ap, ◌∙◌, subst, inl, inr, arith}
-use Rattle.std.specs.Prelude.{min, Result, Ok, Err, IfOk}
+use Rattle.std.specs.Prelude.{min}
 use Rattle.std.proofs.Math.Nat.{min-eq_left, le-min}
 use Rattle.defmt_frames.specs.Frames.{count}
 use Rattle.defmt_lines.specs.declared.settings.RingMode.{RingMode}
@@ -11,11 +11,8 @@ use Rattle.defmt_logger.specs.Tape.{marks_of}
 use Rattle.defmt_logger.specs.declared.mark.Mark.{Mark}
 use Rattle.defmt_script.specs.Script.{Script}
 use Rattle.defmt_writers.specs.Runs.{IsRun, ModeFits, ReachedIn}
-use Rattle.defmt_writers.specs.declared.script_run.Run.{Run}
-use Rattle.dl_io.specs.Buffer.{Buffer}
 use Rattle.rtt_ring.specs.Account.{Account}
 use Rattle.rtt_ring.specs.Views.{Up}
-use Rattle.rtt_ring.specs.declared.settled.RingKind.{RingKind}
 
 pub below_eight : (P : ℕ → Type 0) → P 0 → P 1 → P 2 → P 3 → P 4 → P 5 → P 6 → P 7 → (w : ℕ) → w < 8 → P w
 below_eight P a b c d e f g h zero lt = a
@@ -65,27 +62,6 @@ run_ends s q tape u a captured rest looks e k all sent got whole freed late told
       late = λ h. got ∙ late h;
       looked = subst (λ (n : ℕ). LooksIn mode (length tape.marks) n) (sym told) (looks_told mode (length tape.marks) u.looks few now.looks);
     }
-
--- the same of what was settled, where it was
-pub run_settled : {E : Type 0} (s q : Script) (tape : Reel) (u : Up) (captured : Buffer) (got : List ℕ) (kind : RingKind) (r : Result Run E)
-    → q ≡ s
-    → IsKept (record { script = q; tape = tape; up = u })
-    → ((w : ℕ) → w < 8 → marks_of w tape.marks ≡ count s w)
-    → got ≡ captured.items
-    → (s.settings.late ≡ true → captured.items ≡ [])
-    → IfOk r (λ run. run.tape ≡ tape)
-    → IfOk r (λ run. run.captured ≡ captured)
-    → IfOk r (λ run. (run.settled.sent ≡ u.sent) × (run.settled.got ≡ got) × (run.settled.ring ≡ kind))
-    → IfOk r (λ run. (run.settled.sent ≡ run.settled.got ++ run.rest.items) × (u.freed ≤ length run.settled.got))
-    → IfOk r (λ run. run.looks ≡ min u.looks (2 ^ 64 - 1))
-    → IfOk r (λ run. IsRun s run.tape.marks run.settled run.captured.items run.rest.items run.looks)
-run_settled s q tape u captured got kind (Err e) is kept all takes late taped held account rest looks = tt
-run_settled s q tape u captured got kind (Ok run) is kept all takes late taped held account rest looks =
-    let P : Reel → Type 0 = λ t. IsKept (record { script = q; tape = t; up = u }) in
-    let same : run.captured.items ≡ captured.items = ap (λ (b : Buffer). b.items) held in
-    run_ends s q run.tape u run.settled run.captured.items run.rest.items run.looks is (subst P (sym taped) kept)
-    (λ w lt. ap (λ (t : Reel). marks_of w t.marks) taped ∙ all w lt)
-    account.0 (account.1 ∙ takes ∙ sym same) rest.0 rest.1 (λ h. same ∙ late h) looks
 
 pub tells_in : (mode : RingMode) (tells : Bool) (u : Up) → ModeFits mode tells → u.tells ≡ tells → TellsIn mode u
 tells_in Block tells u f h = tt

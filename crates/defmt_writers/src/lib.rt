@@ -7,6 +7,7 @@
 
 mod drain;
 mod gate;
+mod reader;
 mod script_run;
 mod serving;
 mod writers;

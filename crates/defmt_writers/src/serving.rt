@@ -1,14 +1,14 @@
 // A reader that reads while its own thread logs.
 ghost use Rattle.std.specs.Prelude.{◌≡◌};
 
-use crate::drain::take;
 use crate::gate::Gate;
+use crate::reader::take;
 use crate::writers::write;
 use defmt_logger::Logger;
 use dl_io::Bytes;
 use rtt_modes::Relief;
 use rtt_ring::{Channel, DownEnd};
-use shared_work::{Books, HasBook, Pen, Quota, Work};
+use shared_work::{Books, HasBook, Pen, Quota, Shared, Work};
 use std::marker::{Brand, PhantomData};
 use std::sync::Wait;
 use std::sync::ledger::Ledger;
@@ -38,12 +38,12 @@ impl Lent for Brand {
 
 // A lower end and what was captured of it, both lent.
 #[derive(Drop)]
-struct Reader<'s, D: DownEnd> {
+struct Loan<'s, D: DownEnd> {
     down: &'s mut D,
     capture: &'s mut Bytes,
 }
 
-impl<'s, D: DownEnd> Reader<'s, D> {
+impl<'s, D: DownEnd> Loan<'s, D> {
     // Takes bytes that are there, as far as there is room for them, and tells the gate.
     fn take<G: Gate>(&mut self, gate: &G)
         requires got { (D.view self.old.down.now).got ≡ self.old.capture.now.items }
@@ -60,21 +60,21 @@ impl<'s, D: DownEnd> Reader<'s, D> {
 // capture are those that were lent, the end from the split that it was from.
 #[derive(Drop)]
 struct Serving<'s, 'g, N: Lent, D: DownEnd, G: Gate> {
-    reader: Reader<'s, D>,
+    loan: Loan<'s, D>,
     gate: &'g G,
     of: PhantomData<N>,
 }
 
 impl<'s, 'g, N: Lent, D: DownEnd, G: Gate> Relief for Serving<'s, 'g, N, D, G> {
-    ghost kept = { λ s. ((D.view s.reader.down.now).got ≡ s.reader.capture.now.items) × ((D.view s.reader.down.now).split ≡ N.split)
-        × (s.reader.down.ghost_name ≡ N.down) × (s.reader.capture.ghost_name ≡ N.capture) };
+    ghost kept = { λ s. ((D.view s.loan.down.now).got ≡ s.loan.capture.now.items) × ((D.view s.loan.down.now).split ≡ N.split)
+        × (s.loan.down.ghost_name ≡ N.down) × (s.loan.capture.ghost_name ≡ N.capture) };
 
     fn ease(&mut self) {
-        self.reader.take(self.gate);
+        self.loan.take(self.gate);
     }
 }
 
-// Logs the statements that the pen has left, with a relief that reads, and gives the reader back.
+// Does the steps that the pen has left, with a relief that reads, and gives the loan back.
 fn serve<
     's,
     N: Lent,
@@ -88,33 +88,31 @@ fn serve<
     W: Wait,
 >(
     rt: &W,
-    logger: &Logger<B, Q, T>,
-    count: u32,
+    shared: &Shared<B, Q, T>,
     pen: &mut Pen<S, L, Q>,
-    reader: Reader<'s, D>,
+    loan: Loan<'s, D>,
     gate: &G,
-) -> Reader<'s, D>
-    requires count { count ≡ Q.quota S.NUMBER }
-    requires got { (D.view reader.down.now).got ≡ reader.capture.now.items }
-    requires split { (D.view reader.down.now).split ≡ N.split }
-    requires lent { (reader.down.ghost_name ≡ N.down) × (reader.capture.ghost_name ≡ N.capture) }
-    ensures place { pen.new.place ≡ count }
+) -> Loan<'s, D>
+    requires got { (D.view loan.down.now).got ≡ loan.capture.now.items }
+    requires split { (D.view loan.down.now).split ≡ N.split }
+    requires lent { (loan.down.ghost_name ≡ N.down) × (loan.capture.ghost_name ≡ N.capture) }
+    ensures place { pen.new.place ≡ pen.new.total }
     ensures got { (D.view result.down.now).got ≡ result.capture.now.items }
     ensures split { (D.view result.down.now).split ≡ N.split }
     ensures lent { (result.down.ghost_name ≡ N.down) × (result.capture.ghost_name ≡ N.capture) }
 {
     let mut serving = Serving::<N, D, G> {
-        reader,
+        loan,
         gate,
         of: PhantomData,
     };
-    write(rt, logger, count, pen, gate, &mut serving);
+    write(rt, shared, pen, gate, &mut serving);
     let Serving {
-        reader,
+        loan,
         gate: _,
         of: _,
     } = serving;
-    reader
+    loan
 }
 
 /// Logs the statements that a pen has left, on the calling thread. In blocking mode, where a frame waits for room, bytes are
@@ -148,6 +146,7 @@ pub fn serve_here<
     ensures got { (H.Down.view down.new).got ≡ capture.new.items }
     ensures split { (H.Down.view down.new).split ≡ (H.Down.view down.old).split }
 {
-    let reader = Reader { down, capture };
-    serve::<Brand, B, Q, T, S, L, H::Down, G, W>(rt, logger, count, pen, reader, gate);
+    let loan = Loan { down, capture };
+    let shared = logger.shared();
+    serve::<Brand, B, Q, T, S, L, H::Down, G, W>(rt, shared, pen, loan, gate);
 }

@@ -1,19 +1,31 @@
 // The writers' threads.
-ghost use Rattle.std.specs.Prelude.{◌≡◌, ◌≤◌};
+ghost use Rattle.std.specs.Prelude.{◌≡◌};
 
-use crate::drain::{Drain, Yields};
 use crate::gate::Gate;
-use defmt_logger::{Logger, Naming};
 use rtt_modes::Relief;
-use rtt_ring::DownEnd;
-use shared_work::{Books, Eight, HasBook, Named, Names, Pen, Pens, Quota, Work};
+use shared_work::{Books, Eight, HasBook, Named, Names, Pen, Pens, Quota, Shared, Work};
 use std::sync::Wait;
 use std::sync::atomic::{AtomicU64, Ordering};
 use std::sync::ledger::Ledger;
 use std::thread;
 use std::thread::{Scope, Threads};
 
-// Logs the statements that the pen has left of all that its writer has, and asks the gate before each.
+// How many writers there are.
+const WRITERS: u64 = 8;
+
+// Waits until other threads had their turn.
+#[derive(Clone, Copy)]
+struct Yields;
+
+impl Relief for Yields {
+    ghost kept = { λ _. Unit {0} };
+
+    fn ease(&mut self) {
+        thread::yield_now()
+    }
+}
+
+// Does the steps that the pen has left, and asks the gate before each.
 pub(crate) fn write<
     B: Books,
     Q: Quota,
@@ -23,145 +35,165 @@ pub(crate) fn write<
     G: Gate,
     R: Relief,
     W: Wait,
->(rt: &W, logger: &Logger<B, Q, T>, count: u32, pen: &mut Pen<S, L, Q>, gate: &G, relief: &mut R)
-    requires count { count ≡ Q.quota S.NUMBER }
-    requires relief { R.kept relief.old }
-    ensures place { pen.new.place ≡ count }
+>(rt: &W, shared: &Shared<B, Q, T>, pen: &mut Pen<S, L, Q>, gate: &G, relief: &mut R)
+    requires { R.kept relief.old }
+    ensures place { pen.new.place ≡ pen.new.total }
     ensures relief { R.kept relief.new }
 {
-    while pen.place() < count {
+    while pen.place() < pen.total() {
         gate.pass(pen.writer(), pen.place());
-        logger.log(rt, pen, relief);
+        shared.step(rt, pen, relief);
     }
 }
 
 // One writer's thread.
 fn run_one<B: Books, Q: Quota, T: Work<Q>, S: HasBook<B, L>, L: Ledger, G: Gate, W: Wait>(
     rt: &W,
-    logger: &Logger<B, Q, T>,
+    shared: &Shared<B, Q, T>,
     pen: &mut Pen<S, L, Q>,
     gate: &G,
-    done: &AtomicU64,
+    ended: &AtomicU64,
 ) {
-    write(rt, logger, pen.total(), pen, gate, &mut Yields);
-    done.fetch_add(1, Ordering::SeqCst);
+    write(rt, shared, pen, gate, &mut Yields);
+    ended.fetch_add(1, Ordering::SeqCst);
 }
 
-// Starts a writer's thread, which borrows the writer's pen, where the writer has statements. Answers how many were started.
+// Starts a writer's thread, which borrows the writer's pen. A writer that has no steps has ended, and so has one whose thread
+// can't be started.
 fn start<
     's,
     E,
     B: Books + Send,
-    Q: Quota + Send + Sync,
+    Q: Quota + Send,
     T: Work<Q> + Send,
     S: HasBook<B, L> + Send,
-    L: Ledger + Send + Sync,
+    L: Ledger + Send,
     G: Gate + Sync,
     W: Wait + Sync,
 >(
     scope: &Scope<'s, E>,
     rt: &'s W,
-    logger: &'s Logger<B, Q, T>,
+    shared: &'s Shared<B, Q, T>,
     pen: &'s mut Pen<S, L, Q>,
     gate: &'s G,
-    done: &'s AtomicU64,
-) -> u64
-    ensures { result ≤ 1 }
-{
+    ended: &'s AtomicU64,
+) {
     if pen.total() == 0 {
-        return 0;
+        ended.fetch_add(1, Ordering::SeqCst);
+        return;
     }
     let thread = scope.spawn(
         move ||
             requires { Unit {0} }
-        { run_one(rt, logger, pen, gate, done) },
+        { run_one(rt, shared, pen, gate, ended) },
     );
-    if thread.is_ok() { 1 } else { 0 }
+    if thread.is_err() {
+        ended.fetch_add(1, Ordering::SeqCst);
+    }
 }
 
-// Starts a thread for each writer that has statements, and lends it its pen. Answers how many were started.
+// Starts the threads of all writers, and lends each its pen.
 fn start_all<
     's,
     E,
-    N: Names + Send + Sync,
-    Q: Quota + Send + Sync,
+    N: Names + Send,
+    Q: Quota + Send,
     T: Work<Q> + Send,
     G: Gate + Sync,
     W: Wait + Sync,
 >(
     scope: &Scope<'s, E>,
     rt: &'s W,
-    logger: &'s Logger<Eight<Named<N>>, Q, T>,
+    shared: &'s Shared<Eight<Named<N>>, Q, T>,
     pens: &'s mut Pens<Named<N>, Q>,
     gate: &'s G,
-    done: &'s AtomicU64,
-) -> u64 {
-    let Pens {
-        p0,
-        p1,
-        p2,
-        p3,
-        p4,
-        p5,
-        p6,
-        p7,
-    } = pens;
-    let mut running = 0;
-    running += start(scope, rt, logger, p0, gate, done);
-    running += start(scope, rt, logger, p1, gate, done);
-    running += start(scope, rt, logger, p2, gate, done);
-    running += start(scope, rt, logger, p3, gate, done);
-    running += start(scope, rt, logger, p4, gate, done);
-    running += start(scope, rt, logger, p5, gate, done);
-    running += start(scope, rt, logger, p6, gate, done);
-    running += start(scope, rt, logger, p7, gate, done);
-    running
+    ended: &'s AtomicU64,
+) {
+    start(scope, rt, shared, &mut pens.p0, gate, ended);
+    start(scope, rt, shared, &mut pens.p1, gate, ended);
+    start(scope, rt, shared, &mut pens.p2, gate, ended);
+    start(scope, rt, shared, &mut pens.p3, gate, ended);
+    start(scope, rt, shared, &mut pens.p4, gate, ended);
+    start(scope, rt, shared, &mut pens.p5, gate, ended);
+    start(scope, rt, shared, &mut pens.p6, gate, ended);
+    start(scope, rt, shared, &mut pens.p7, gate, ended);
 }
 
-// Reads until so many threads have ended. A late reader takes nothing, and doesn't wait for them.
-fn read<K: Naming, D: DownEnd, G: Gate, W: Wait>(
+// Does the steps that the pens have left.
+pub(crate) fn finish<E: Names, Q: Quota, T: Work<Q>, G: Gate, R: Relief, W: Wait>(
     rt: &W,
-    gate: &G,
-    done: &AtomicU64,
-    running: u64,
-    mut drain: Drain<K, D>,
-) -> Drain<K, D> {
-    for _ in rt.forever() {
-        if drain.late || done.load(Ordering::SeqCst) >= running {
-            break;
-        }
-        drain.take(gate);
-        thread::yield_now();
-    }
-    drain
-}
-
-// Starts a thread for each writer that has statements, lends it its pen, and reads until all have ended.
-pub(crate) fn work<
-    E: Names + Send + Sync,
-    Q: Quota + Send + Sync,
-    T: Work<Q> + Send,
-    K: Naming,
-    D: DownEnd + Drop,
-    G: Gate + Sync,
-    R: Threads + Wait + Sync,
->(
-    rt: &R,
-    logger: &Logger<Eight<Named<E>>, Q, T>,
+    shared: &Shared<Eight<Named<E>>, Q, T>,
     pens: &mut Pens<Named<E>, Q>,
     gate: &G,
-    drain: Drain<K, D>,
-) -> Drain<K, D> {
-    let ended = AtomicU64::new(0);
-    let done = &ended;
+    relief: &mut R,
+)
+    requires { R.kept relief.old }
+    ensures p0 { pens.new.p0.place ≡ pens.new.p0.total }
+    ensures p1 { pens.new.p1.place ≡ pens.new.p1.total }
+    ensures p2 { pens.new.p2.place ≡ pens.new.p2.total }
+    ensures p3 { pens.new.p3.place ≡ pens.new.p3.total }
+    ensures p4 { pens.new.p4.place ≡ pens.new.p4.total }
+    ensures p5 { pens.new.p5.place ≡ pens.new.p5.total }
+    ensures p6 { pens.new.p6.place ≡ pens.new.p6.total }
+    ensures p7 { pens.new.p7.place ≡ pens.new.p7.total }
+    ensures relief { R.kept relief.new }
+{
+    write(rt, shared, &mut pens.p0, gate, relief);
+    write(rt, shared, &mut pens.p1, gate, relief);
+    write(rt, shared, &mut pens.p2, gate, relief);
+    write(rt, shared, &mut pens.p3, gate, relief);
+    write(rt, shared, &mut pens.p4, gate, relief);
+    write(rt, shared, &mut pens.p5, gate, relief);
+    write(rt, shared, &mut pens.p6, gate, relief);
+    write(rt, shared, &mut pens.p7, gate, relief);
+}
+
+// Eases until all writers have ended, or waits for nothing where it isn't to ease.
+fn ease_on<R: Relief, W: Wait>(rt: &W, ended: &AtomicU64, eases: bool, mut relief: R) -> R
+    requires { R.kept relief }
+    ensures { R.kept result }
+{
+    for _ in rt.forever() {
+        if !eases || ended.load(Ordering::SeqCst) >= WRITERS {
+            break;
+        }
+        relief.ease();
+        thread::yield_now();
+    }
+    relief
+}
+
+// Starts a thread for each writer that has steps, lends it its pen, and waits until all have ended. Meanwhile it eases again and
+// again, or sleeps where it isn't to ease.
+pub(crate) fn work<
+    E: Names + Send,
+    Q: Quota + Send,
+    T: Work<Q> + Send,
+    G: Gate + Sync,
+    R: Relief + Drop,
+    W: Threads + Wait + Sync,
+>(
+    rt: &W,
+    shared: &Shared<Eight<Named<E>>, Q, T>,
+    pens: &mut Pens<Named<E>, Q>,
+    gate: &G,
+    eases: bool,
+    relief: R,
+) -> R
+    requires { R.kept relief }
+    ensures { R.kept result }
+{
+    let count = AtomicU64::new(0);
+    let ended = &count;
     thread::scope(
         thread::scope_env(),
         rt,
-        move |scope| -> Drain<K, D>
-            requires { Unit {0} }
+        move |scope| -> R
+            requires { R.kept relief }
+            ensures { R.kept result }
         {
-            let running = start_all(scope, rt, logger, pens, gate, done);
-            read(rt, gate, done, running, drain)
+            start_all(scope, rt, shared, pens, gate, ended);
+            ease_on(rt, ended, eases, relief)
         },
     )
 }

@@ -4,7 +4,7 @@ ghost use Rattle.std.specs.Prelude.{⊤};
 use crate::rings::{Plain, plain_of};
 use crate::rows::Kind;
 use crate::words::{parted, put_digits_or_nothing};
-use rtt_modes::{Fate, Relief, block, skip, trim};
+use rtt_modes::{Both, Fate, Relief, block, skip, trim};
 use rtt_ring::{DownEnd, UpEnd};
 use std::alloc::Global;
 use std::fmt::Write;
@@ -102,4 +102,16 @@ fn block_sends_a_frame_that_fits_without_an_ease(rt: HostRuntime) -> Result<(), 
     let mut told = String::new(rt.alloc());
     put_end(&mut plain, &mut told)?;
     expect(told.as_str(), "1 looks; 01 02 03 04 05 06 07 08 09 0a")
+}
+
+#[test]
+fn two_reliefs_ease_as_one(rt: HostRuntime) -> Result<(), Fail> {
+    let mut both = Both {
+        first: Counted { eases: 0 },
+        second: Counted { eases: 5 },
+    };
+    both.ease();
+    assert_eq!(rt; both.first.eases, 1);
+    assert_eq!(rt; both.second.eases, 6);
+    Ok(())
 }

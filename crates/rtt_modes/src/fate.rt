@@ -21,3 +21,19 @@ pub trait Relief {
         requires { kept self.old }
         ensures { kept self.new };
 }
+
+/// Two reliefs as one, such as readers of two rings. An ease eases the first and then the second.
+#[derive(Drop)]
+pub struct Both<A: Relief, B: Relief> {
+    pub first: A,
+    pub second: B,
+}
+
+impl<A: Relief, B: Relief> Relief for Both<A, B> {
+    ghost kept = { λ both. A.kept both.first × B.kept both.second };
+
+    fn ease(&mut self) {
+        self.first.ease();
+        self.second.ease();
+    }
+}

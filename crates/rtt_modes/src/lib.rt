@@ -8,5 +8,5 @@
 mod fate;
 mod modes;
 
-pub use fate::{Fate, Relief};
+pub use fate::{Both, Fate, Relief};
 pub use modes::{block, skip, trim};
