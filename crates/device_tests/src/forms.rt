@@ -14,7 +14,7 @@ ghost use Rattle.defmt_macros.specs.Frames.{GrowsByAll, count_put, slots_left};
 ghost use Rattle.defmt_macros.specs.Sites.{IsSite};
 ghost use Rattle.defmt_macros.specs.Stamps.{StampSuits};
 
-use crate::rows::{self, each_line};
+use crate::rows::{self, each_block};
 use crate::scripts::{script_of, site_at};
 use defmt_grammar::{IntSize, Kind, Slot};
 use defmt_intern::{Table, Tag};
@@ -22,30 +22,35 @@ use defmt_macros::{Frame, Site, debug, error, info, println_, put, stamp_suits, 
 use defmt_values::Value;
 use std::alloc::Global;
 use std::test::Fail;
-use test_rows::{bytes_of, put_digits};
+use test_rows::{bytes_of, parted, put_digits};
 
-// The string of a trace, and rows of a number and a truth value.
-pub(crate) const TRACE: &str = "s v defmt_trace {=u8} {=bool}";
+// A script of a string with two slots, and its arguments: a number and a truth value, a number and the digits of bytes, a text and the number of a character,
+// and two numbers. What is due is the message.
+const FORMS: &str = "\
+s v defmt_trace {=u8} {=bool}
+7 true
+=
+01 00 07 01
 
-const TRACES: &str = "\
-7 true = 01 00 07 01
-255 false = 01 00 ff 00";
+s v defmt_trace {=u8} {=bool}
+255 false
+=
+01 00 ff 00
 
-// The string of a debug, and rows of a number and the digits of bytes.
-pub(crate) const DEBUG: &str = "s v defmt_debug {=i128} {=[u8]}";
+s v defmt_debug {=i128} {=[u8]}
+-2 0a ff
+=
+01 00 fe ff ff ff ff ff ff ff ff ff ff ff ff ff ff ff 02 00 00 00 0a ff
 
-const DEBUGS: &str =
-    "-2 0a ff = 01 00 fe ff ff ff ff ff ff ff ff ff ff ff ff ff ff ff 02 00 00 00 0a ff";
+s v defmt_info {=str} {=char}
+hi 8364
+=
+01 00 02 00 00 00 68 69 ac 20 00 00
 
-// The string of an info, and rows of a text and a number, which is a character's.
-pub(crate) const INFO: &str = "s v defmt_info {=str} {=char}";
-
-const INFOS: &str = "hi 8364 = 01 00 02 00 00 00 68 69 ac 20 00 00";
-
-// The string of a warning, and rows of two numbers.
-pub(crate) const WARN: &str = "s v defmt_warn {=u128} {=usize}";
-
-const WARNS: &str = "258 7 = 01 00 02 01 00 00 00 00 00 00 00 00 00 00 00 00 00 00 07 00 00 00";
+s v defmt_warn {=u128} {=usize}
+258 7
+=
+01 00 02 01 00 00 00 00 00 00 00 00 00 00 00 00 00 00 07 00 00 00";
 
 // Whatever the arguments of a macro are, the buffer begins with their message.
 
@@ -265,9 +270,7 @@ fn put_by_tag(
     requires entry { IsSite table.now.entries site.now.index site.now.tag site.now.slots }
     requires stamp { StampSuits table.now.entries None }
 {
-    let Some((a, b)) = row.split_once(' ') else {
-        return Err(Fail::new("no second word"));
-    };
+    let (a, b) = parted(row, ' ');
     match site.tag() {
         Tag::Trace => put_trace(table, site, a, b, out),
         Tag::Debug => put_debug(table, site, a, &bytes_of(alloc, b)?, out),
@@ -286,25 +289,14 @@ fn put_by_table(alloc: Global, table: &Table, row: &str, out: &mut String) -> Re
     put_by_tag(alloc, table, &site, row, out)
 }
 
-// The same of the first string of a script.
-pub(crate) fn put_form(
-    alloc: Global,
-    script: &str,
-    row: &str,
-    out: &mut String,
-) -> Result<(), Fail> {
+// The same of the first string of a script, which the row begins with.
+pub(crate) fn put_form(alloc: Global, row: &str, out: &mut String) -> Result<(), Fail> {
+    let (script, row) = parted(row, '\n');
     let script = script_of(alloc, script)?;
     put_by_table(alloc, script.table(), row, out)
 }
 
 #[test]
-fn trace_and_debug_put_their_arguments(rt: HostRuntime) -> Result<(), Fail> {
-    each_line(&rt, rt.alloc(), TRACES, 2, &rows::Kind::Trace)?;
-    each_line(&rt, rt.alloc(), DEBUGS, 1, &rows::Kind::Debug)
-}
-
-#[test]
-fn info_and_warn_put_their_arguments(rt: HostRuntime) -> Result<(), Fail> {
-    each_line(&rt, rt.alloc(), INFOS, 1, &rows::Kind::Info)?;
-    each_line(&rt, rt.alloc(), WARNS, 1, &rows::Kind::Warn)
+fn trace_debug_info_and_warn_put_their_arguments(rt: HostRuntime) -> Result<(), Fail> {
+    each_block(&rt, rt.alloc(), FORMS, 5, &rows::Kind::Form)
 }

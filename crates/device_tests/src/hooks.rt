@@ -6,6 +6,7 @@ use crate::rows::{Kind, each_line};
 use defmt_hooks::{Clock, Hook, Stamp};
 use std::fmt::Write;
 use std::test::Fail;
+use test_rows::{number_of, parted};
 
 const MOST: u64 = 281_474_976_710_656;
 
@@ -55,21 +56,18 @@ fn answers_of(base: u64, step: u64, t: u32) -> (u64, u64)
     answers_by(base, step, Hook::new(clock), t)
 }
 
-pub(crate) fn put_stamps(row: &str, out: &mut String) -> Result<(), Fail> {
-    let Some((base, rest)) = row.split_once(' ') else {
-        return Err(Fail::new("no step"));
-    };
-    let Some((step, number)) = rest.split_once(' ') else {
-        return Err(Fail::new("no number"));
-    };
-    let base = u64::from_str_radix(base, 10)?;
-    let step = u64::from_str_radix(step, 10)?;
-    let number = u32::from_str_radix(number, 10)?;
+fn put_answers(base: u64, step: u64, number: u64, out: &mut String) -> Result<(), Fail> {
     if base > MOST || step > MOST || number > 4096 {
         return Err(Fail::new("a number is too large"));
     }
-    let (own, held) = answers_of(base, step, number);
+    let (own, held) = answers_of(base, step, number as u32);
     Ok(write!(out, "{own} {held}")?)
+}
+
+pub(crate) fn put_stamps(row: &str, out: &mut String) -> Result<(), Fail> {
+    let (base, rest) = parted(row, ' ');
+    let (step, number) = parted(rest, ' ');
+    put_answers(number_of(base)?, number_of(step)?, number_of(number)?, out)
 }
 
 #[test]

@@ -1,5 +1,5 @@
 // The rows of the tests, by what is asked of their inputs.
-use crate::forms::{self, put_form};
+use crate::forms::put_form;
 use crate::hooks::put_stamps;
 use crate::logger::{put_logged, put_logged_and_dropped};
 use crate::macros::put_message;
@@ -13,10 +13,7 @@ use std::thread::Threads;
 /// What is asked of an input, each as its module says.
 #[derive(Drop)]
 pub(crate) enum Kind {
-    Trace,
-    Debug,
-    Info,
-    Warn,
+    Form,
     Stamps,
     Site,
     List,
@@ -38,10 +35,7 @@ fn put_answer<R: Threads + Wait + Sync>(
     out: &mut String,
 ) -> Result<(), Fail> {
     match kind {
-        Kind::Trace => put_form(alloc, forms::TRACE, input, out),
-        Kind::Debug => put_form(alloc, forms::DEBUG, input, out),
-        Kind::Info => put_form(alloc, forms::INFO, input, out),
-        Kind::Warn => put_form(alloc, forms::WARN, input, out),
+        Kind::Form => put_form(alloc, input, out),
         Kind::Stamps => put_stamps(input, out),
         Kind::Site => put_site(alloc, input, out),
         Kind::List => put_list(alloc, input, out),

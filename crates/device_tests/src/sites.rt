@@ -6,6 +6,7 @@ use defmt_macros::{Site, Slots};
 use std::alloc::Global;
 use std::fmt::Write;
 use std::test::Fail;
+use test_rows::parted;
 
 // An index and a text with slots: the site's index, tag and slots, or why there is none.
 const SITES: &str = "\
@@ -19,16 +20,20 @@ const SITES: &str = "\
 // A text with slots: the list to which they were appended one by one.
 const LISTS: &str = "{=bool} {1=0..16} = One(Bool) Bits { first: 0, width: 2 }";
 
+fn text_of(alloc: Global, text: &str) -> Result<Text, Fail> {
+    let mut copy = Text::new(alloc);
+    copy.push_str(text)?;
+    Ok(copy)
+}
+
 fn add(alloc: Global, table: &mut Table, tag: Tag, text: &str) -> Result<(), Fail> {
-    let mut entry = Entry {
+    let text = text_of(alloc, text)?;
+    table.add(Entry {
         tag,
         package: Text::new(alloc),
-        text: Text::new(alloc),
+        text,
         disambiguator: Text::new(alloc),
-    };
-    entry.package.push_str("script")?;
-    entry.text.push_str(text)?;
-    table.add(entry)?;
+    })?;
     Ok(())
 }
 
@@ -76,9 +81,7 @@ fn put_site_of(
 
 fn put_site_in(alloc: Global, table: &mut Table, row: &str, out: &mut String) -> Result<(), Fail> {
     fill(alloc, table)?;
-    let Some((index, text)) = row.split_once(' ') else {
-        return Err(Fail::new("no text"));
-    };
+    let (index, text) = parted(row, ' ');
     let index = u16::from_str_radix(index, 10)?;
     let pieces = pieces_of(alloc, text)?;
     put_site_of(alloc, table, index, pieces.slots(), out)

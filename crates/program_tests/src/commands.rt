@@ -1,15 +1,13 @@
 // The commands that print, record, write a table and generate. A row is the words and the script, and what is told of the session.
 use crate::rows::{Kind, each_block};
-use crate::sessions::{parted, put_status, written_of};
+use crate::sessions::put_status;
 use defmt_run::Outcome;
 use std::alloc::Global;
 use std::fmt::Write;
-use std::sync::Wait;
 use std::test::Fail;
-use std::thread::Threads;
-use test_rows::put_digits;
+use test_rows::{put_digits, put_str};
 
-// The status and the lines.
+// The status, and the lines or the counts.
 const LINES: &str = "\
 defmtl print
 stamp 1000 250
@@ -22,10 +20,8 @@ w 0 a 2
 status 0 fine
 0.001000 INFO  a 1
 0.001250 INFO  a 2
-0.001500 WARN  b true";
+0.001500 WARN  b true
 
-// The status and the counts, where no newline stands behind the words.
-const COUNTS: &str = "\
 defmtl gen 10
 =
 status 0 fine
@@ -64,8 +60,7 @@ status 2 words";
 fn a_script_is_printed_writer_by_writer_and_a_generated_one_is_counted(
     rt: HostRuntime,
 ) -> Result<(), Fail> {
-    each_block(&rt, rt.alloc(), LINES, 1, &Kind::Lines)?;
-    each_block(&rt, rt.alloc(), COUNTS, 3, &Kind::OpenLines)
+    each_block(&rt, rt.alloc(), LINES, 4, &Kind::Lines)
 }
 
 // The status and the digits of the bytes.
@@ -95,28 +90,27 @@ pub(crate) fn put_bytes(
     out: &mut String,
 ) -> Result<(), Fail> {
     put_status(alloc, outcome, out)?;
-    out.push('\n')?;
+    put_str(out, "\n")?;
     put_digits(out, written)
 }
 
-// How many bytes the table's file has.
+// The status, and how many bytes the table's file has.
 const TABLES: &str = "\
 defmtl table
 s hi defmt_info hello
 w 0 hi
 =
-472 bytes";
+status 0 fine, 472 bytes";
 
-/// Puts how many bytes a command writes.
-pub(crate) fn put_length<R: Threads + Wait + Sync>(
-    rt: &R,
+/// Puts the status of an outcome, and how many bytes were written.
+pub(crate) fn put_length(
     alloc: Global,
-    row: &str,
+    outcome: &Outcome,
+    written: &[u8],
     out: &mut String,
 ) -> Result<(), Fail> {
-    let (line, script) = parted(row, '\n');
-    let written = written_of(rt, alloc, line, script)?;
-    Ok(write!(out, "{} bytes", written.len())?)
+    put_status(alloc, outcome, out)?;
+    Ok(write!(out, ", {} bytes", written.len())?)
 }
 
 #[test]

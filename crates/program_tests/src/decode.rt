@@ -1,15 +1,13 @@
 // Recordings that are decoded. A row is the words and the digits of the recording, and the status and the lines.
 use crate::rows::{Kind, each_block};
-use crate::sessions::{
-    Stage, Told, add_table, failing_stage, parted, put_session, stage_of, written_of,
-};
+use crate::sessions::{Stage, Told, add_table, put_session, set_stage, written_of};
 use defmt_run::OpenGate;
 use dl_io::{Bytes, MemShelf};
 use std::alloc::Global;
 use std::sync::Wait;
 use std::test::Fail;
 use std::thread::Threads;
-use test_rows::bytes_of;
+use test_rows::{bytes_of, number_of, parted};
 
 /// A script that logs one string.
 pub(crate) const HI: &str = "s hi defmt_info hello\nw 0 hi";
@@ -39,9 +37,12 @@ defmtl decode --table hi.elf
 01 7e
 =
 status 9 events with faults 1
--- front 2";
+-- front 2
 
-const REFUSALS: &str = "\
+defmtl decode --table hi.elf
+=
+status 0 fine
+
 defmtl decode
 =
 status 2 words
@@ -54,8 +55,8 @@ defmtl decode --table other.elf
 =
 status 7 shelf";
 
-// Puts the table of `HI` on the shelf, and a file that is no table.
-fn add_files<R: Threads + Wait + Sync>(
+/// Puts the table of `HI` on the shelf, and a file that is no table.
+pub(crate) fn add_files<R: Threads + Wait + Sync>(
     rt: &R,
     alloc: Global,
     shelf: &mut MemShelf,
@@ -65,19 +66,17 @@ fn add_files<R: Threads + Wait + Sync>(
     Ok(shelf.put("no.elf", file)?)
 }
 
-/// A stage whose source gives these bytes and those behind them, with the table of `HI` and a file that is no table. Of source, shelf and sink the one with
-/// this name fails at the calls with these numbers.
-pub(crate) fn table_stage<R: Threads + Wait + Sync>(
+fn put_recording<R: Threads + Wait + Sync>(
     rt: &R,
     alloc: Global,
-    bytes: &[u8],
-    end: &[u8],
-    who: &str,
-    fails: &[u8],
-) -> Result<Stage, Fail> {
-    let mut stage = failing_stage(alloc, bytes, end, who, fails)?;
+    line: &str,
+    recording: &[u8],
+    stage: &mut Stage,
+    out: &mut String,
+) -> Result<(), Fail> {
+    set_stage(alloc, recording, b"", stage)?;
     add_files(rt, alloc, &mut stage.shelf)?;
-    Ok(stage)
+    put_session(rt, alloc, line, &Told::Lines, stage, &OpenGate, out)
 }
 
 /// Puts what is told of a decoding: its words and the digits of the recording.
@@ -85,60 +84,102 @@ pub(crate) fn put_decoded<R: Threads + Wait + Sync>(
     rt: &R,
     alloc: Global,
     row: &str,
+    stage: &mut Stage,
     out: &mut String,
 ) -> Result<(), Fail> {
     let (line, digits) = parted(row, '\n');
     let recording = bytes_of(alloc, digits)?;
-    let mut stage = table_stage(rt, alloc, &recording, b"", "nobody", b"")?;
-    put_session(rt, alloc, line, &Told::Lines, &mut stage, &OpenGate, out)
+    put_recording(rt, alloc, line, &recording, stage, out)
 }
 
-// Tables with a byte that was changed: the byte's place, its value and the script of the table, and the status.
+// Tables with a byte that was changed: the byte's place, the byte that is put there and the digits of a recording, and the script of the table, and the
+// status and the lines. The second table has a string with `{=f32}`.
 const CHANGES: &str = "\
-120 1
+120 \x01
 s a defmt_info a
 s b defmt_info b
 =
-status 6 table name cause 2 symbol 1";
+status 6 table name cause 2 symbol 1
 
-// The bytes, of which the one at this place is another.
-fn changed(bytes: Bytes, place: usize, value: u8) -> Bytes {
-    let mut bytes = bytes.into_vec();
-    if place < bytes.len() {
-        bytes[place] = value;
+352 f/00 09 7e 00 00 02 7e 00 00 03 7e 00 00 01 7e 00
+s hi defmt_info hello
+s p defmt_prim p
+s f defmt_info {=u32}
+=
+status 9 events with faults 3
+-- E2 NoEntry
+-- E3 Tag
+-- E4 Unsupported
+INFO  hello";
+
+// Puts bytes, of which the one at this place is another.
+fn put_changed_bytes(bytes: &[u8], place: u64, text: &str, out: &mut Bytes) -> Result<(), Fail> {
+    for (at, byte) in bytes.iter().enumerate() {
+        if at as u64 == place {
+            out.extend_from_slice(text.as_bytes())?;
+        } else {
+            out.push(*byte)?;
+        }
     }
-    Bytes::from_vec(bytes)
+    Ok(())
+}
+
+fn add_changed_file(
+    alloc: Global,
+    bytes: &[u8],
+    place: u64,
+    text: &str,
+    shelf: &mut MemShelf,
+) -> Result<(), Fail> {
+    let mut changed = Bytes::new(alloc);
+    put_changed_bytes(bytes, place, text, &mut changed)?;
+    Ok(shelf.put("changed.elf", changed)?)
 }
 
 fn add_changed<R: Threads + Wait + Sync>(
     rt: &R,
     alloc: Global,
-    row: &str,
+    change: &str,
+    script: &str,
     shelf: &mut MemShelf,
 ) -> Result<(), Fail> {
-    let (change, script) = parted(row, '\n');
-    let (place, value) = parted(change, ' ');
-    let (place, value) = (place.parse::<usize>()?, value.parse::<u8>()?);
+    let (place, text) = parted(change, ' ');
+    let place = number_of(place)?;
     let table = written_of(rt, alloc, "defmtl table", script)?;
-    Ok(shelf.put("changed.elf", changed(table, place, value))?)
+    add_changed_file(alloc, table.as_slice(), place, text, shelf)
 }
 
-/// Puts what is told of a decoding by a changed table: the byte's place, its value and the script.
+fn put_by_changed<R: Threads + Wait + Sync>(
+    rt: &R,
+    alloc: Global,
+    change: &str,
+    script: &str,
+    recording: &[u8],
+    stage: &mut Stage,
+    out: &mut String,
+) -> Result<(), Fail> {
+    let line = "defmtl decode --table changed.elf";
+    set_stage(alloc, recording, b"", stage)?;
+    add_changed(rt, alloc, change, script, &mut stage.shelf)?;
+    put_session(rt, alloc, line, &Told::Lines, stage, &OpenGate, out)
+}
+
+/// Puts what is told of a decoding by a changed table: the byte's place, the byte and the digits of the recording, and the script.
 pub(crate) fn put_changed<R: Threads + Wait + Sync>(
     rt: &R,
     alloc: Global,
     row: &str,
+    stage: &mut Stage,
     out: &mut String,
 ) -> Result<(), Fail> {
-    let line = "defmtl decode --table changed.elf";
-    let mut stage = stage_of(alloc, b"", b"")?;
-    add_changed(rt, alloc, row, &mut stage.shelf)?;
-    put_session(rt, alloc, line, &Told::Lines, &mut stage, &OpenGate, out)
+    let (head, script) = parted(row, '\n');
+    let (change, digits) = parted(head, '/');
+    let recording = bytes_of(alloc, digits)?;
+    put_by_changed(rt, alloc, change, script, &recording, stage, out)
 }
 
 #[test]
 fn a_recording_is_decoded_unless_its_table_is_refused(rt: HostRuntime) -> Result<(), Fail> {
-    each_block(&rt, rt.alloc(), RECORDINGS, 4, &Kind::Decoded)?;
-    each_block(&rt, rt.alloc(), REFUSALS, 3, &Kind::Decoded)?;
-    each_block(&rt, rt.alloc(), CHANGES, 1, &Kind::Changed)
+    each_block(&rt, rt.alloc(), RECORDINGS, 8, &Kind::Decoded)?;
+    each_block(&rt, rt.alloc(), CHANGES, 2, &Kind::Changed)
 }

@@ -1,7 +1,8 @@
-// Writers that a gate holds. A row is how many writers there are and the script, and how often the gate let one go, the status and
-// the lines.
+// Writers that a gate holds, and what it is asked and told. A row is how many writers meet, at which place the writer 0 waits and for how many bytes, the
+// words and the script. Told are how many bytes the reader got, the status and the lines, how many statements the gate was asked for by the writers 0 and 1,
+// how many bytes it was told of at last, and how many of its calls came out of turn or waited in vain.
 use crate::rows::{Kind, each_block};
-use crate::sessions::{Told, parted, put_session, stage_of};
+use crate::sessions::{Stage, Told, put_session, set_stage};
 use defmt_run::Gate;
 use std::alloc::Global;
 use std::fmt::Write;
@@ -10,9 +11,12 @@ use std::sync::atomic::{AtomicU64, Ordering};
 use std::test::Fail;
 use std::thread;
 use std::thread::Threads;
+use test_rows::{number_of, parted};
 
+// In the last row the writer 1 goes on once the writer 0 was asked, and the writer 0 once both frames of the writer 1 were taken. So a writer that was asked
+// behind its own frame would have it in front of the second of these.
 const HELD: &str = "\
-2
+2 0 0/defmtl run --group
 ring 64
 s a defmt_info a {=u8}
 s b defmt_warn b {=bool}
@@ -21,13 +25,14 @@ w 1 b true
 w 0 a 2
 w 1 b false
 =
-2 let go, status 0 fine
+19 bytes got, status 0 fine
 INFO  a 1
 INFO  a 2
 WARN  b true
 WARN  b false
+2 and 2 asked, 19 bytes told, 0 out of turn
 
-2
+2 0 0/defmtl run --group
 ring 64
 mode skip
 s a defmt_info a {=u8}
@@ -37,13 +42,14 @@ w 1 b true
 w 0 a 2
 w 1 b false
 =
-2 let go, status 0 fine
+19 bytes got, status 0 fine
 INFO  a 1
 INFO  a 2
 WARN  b true
 WARN  b false
+2 and 2 asked, 19 bytes told, 0 out of turn
 
-2
+2 0 0/defmtl run --group
 ring 64
 mode trim
 s a defmt_info a {=u8}
@@ -53,13 +59,32 @@ w 1 b true
 w 0 a 2
 w 1 b false
 =
-2 let go, status 0 fine
+19 bytes got, status 0 fine
 INFO  a 1
 INFO  a 2
 WARN  b true
 WARN  b false
+2 and 2 asked, 19 bytes told, 0 out of turn
 
-1
+2 0 0/defmtl run --group
+ring 64
+mode skip
+reader late
+s a defmt_info a {=u8}
+s b defmt_warn b {=bool}
+w 0 a 1
+w 1 b true
+w 0 a 2
+w 1 b false
+=
+0 bytes got, status 0 fine
+INFO  a 1
+INFO  a 2
+WARN  b true
+WARN  b false
+2 and 2 asked, 0 bytes told, 0 out of turn
+
+1 3 12/defmtl run --group
 ring 16
 s hi defmt_info hello
 w 0 hi
@@ -67,13 +92,14 @@ w 0 hi
 w 0 hi
 w 0 hi
 =
-2 let go, status 0 fine
+16 bytes got, status 0 fine
 INFO  hello
 INFO  hello
 INFO  hello
 INFO  hello
+4 and 0 asked, 16 bytes told, 0 out of turn
 
-1
+1 3 12/defmtl run --group
 ring 16
 mode skip
 s hi defmt_info hello
@@ -82,13 +108,14 @@ w 0 hi
 w 0 hi
 w 0 hi
 =
-2 let go, status 0 fine
+16 bytes got, status 0 fine
 INFO  hello
 INFO  hello
 INFO  hello
 INFO  hello
+4 and 0 asked, 16 bytes told, 0 out of turn
 
-1
+1 3 12/defmtl run --group
 ring 16
 mode trim
 s hi defmt_info hello
@@ -97,11 +124,26 @@ w 0 hi
 w 0 hi
 w 0 hi
 =
-2 let go, status 0 fine
+16 bytes got, status 0 fine
 INFO  hello
 INFO  hello
 INFO  hello
-INFO  hello";
+INFO  hello
+4 and 0 asked, 16 bytes told, 0 out of turn
+
+2 0 9/defmtl run
+ring 64
+s a defmt_info a {=u8}
+s b defmt_warn b {=bool}
+w 0 a 1
+w 1 b true
+w 1 b false
+=
+14 bytes got, status 0 fine
+WARN  b true
+WARN  b false
+INFO  a 1
+1 and 2 asked, 14 bytes told, 0 out of turn";
 
 // How many turns a gate holds a writer at most.
 const TURNS: u64 = 10_000_000;
@@ -117,71 +159,119 @@ fn reaches(number: &AtomicU64, least: u64) -> bool {
     false
 }
 
-// Holds each writer at place 0 until so many were asked, and the writer 0 at place 3 until twelve bytes were taken. It counts how
-// often it let one go.
+// Holds each writer at place 0 until so many were asked there, and the writer 0 at one place until so many bytes were taken. It counts the statements that
+// it was asked for by the writers 0 and 1, and the calls that came out of turn or waited in vain.
 #[derive(Drop)]
 struct Holding {
     writers: u64,
-    asked: AtomicU64,
+    place: u64,
+    bytes: u64,
+    met: AtomicU64,
+    first: AtomicU64,
+    second: AtomicU64,
     taken: AtomicU64,
-    let_go: AtomicU64,
+    stray: AtomicU64,
+}
+
+impl Holding {
+    // Counts a call that came out of turn or waited in vain.
+    fn note(&self, in_turn: bool) {
+        if !in_turn {
+            self.stray.fetch_add(1, Ordering::SeqCst);
+        }
+    }
+
+    // Counts a statement. In turn is the place behind those that its writer was asked for.
+    fn count(&self, writer: u8, place: u64) {
+        let due = match writer {
+            0 => self.first.fetch_add(1, Ordering::SeqCst),
+            1 => self.second.fetch_add(1, Ordering::SeqCst),
+            _ => u64::MAX,
+        };
+        self.note(due == place);
+    }
 }
 
 impl Gate for Holding {
     fn pass(&self, writer: u8, place: u32) {
-        let goes = if place == 0 {
-            self.asked.fetch_add(1, Ordering::SeqCst);
-            reaches(&self.asked, self.writers)
-        } else {
-            writer == 0 && place == 3 && reaches(&self.taken, 12)
-        };
-        if goes {
-            self.let_go.fetch_add(1, Ordering::SeqCst);
+        let place = u64::from(place);
+        self.count(writer, place);
+        if place == 0 {
+            self.met.fetch_add(1, Ordering::SeqCst);
+            self.note(reaches(&self.met, self.writers));
+        }
+        if writer == 0 && place == self.place {
+            self.note(reaches(&self.taken, self.bytes));
         }
     }
 
+    // In turn is a greater total than the one before.
     fn took(&self, total: u64) {
-        self.taken.store(total, Ordering::SeqCst);
+        let before = self.taken.swap(total, Ordering::SeqCst);
+        self.note(before < total);
     }
 }
 
-fn gate_for(writers: u64) -> Holding {
+fn gate_for(writers: u64, place: u64, bytes: u64) -> Holding {
     Holding {
         writers,
-        asked: AtomicU64::new(0),
+        place,
+        bytes,
+        met: AtomicU64::new(0),
+        first: AtomicU64::new(0),
+        second: AtomicU64::new(0),
         taken: AtomicU64::new(0),
-        let_go: AtomicU64::new(0),
+        stray: AtomicU64::new(0),
     }
+}
+
+fn gate_of(numbers: &str) -> Result<Holding, Fail> {
+    let (writers, rest) = parted(numbers, ' ');
+    let (place, bytes) = parted(rest, ' ');
+    Ok(gate_for(number_of(writers)?, number_of(place)?, number_of(bytes)?))
 }
 
 fn put_behind<R: Threads + Wait + Sync>(
     rt: &R,
     alloc: Global,
+    line: &str,
     script: &str,
     gate: &Holding,
+    stage: &mut Stage,
     out: &mut String,
 ) -> Result<(), Fail> {
-    let line = "defmtl run --group";
-    let mut stage = stage_of(alloc, script.as_bytes(), b"")?;
-    put_session(rt, alloc, line, &Told::Lines, &mut stage, gate, out)
+    set_stage(alloc, script.as_bytes(), b"", stage)?;
+    put_session(rt, alloc, line, &Told::Got, stage, gate, out)
 }
 
-/// Puts what is told behind a gate: how many writers it holds, and the script.
+// Puts what the gate counted.
+fn put_counted(gate: &Holding, out: &mut String) -> Result<(), Fail> {
+    let first = gate.first.load(Ordering::SeqCst);
+    let second = gate.second.load(Ordering::SeqCst);
+    let taken = gate.taken.load(Ordering::SeqCst);
+    let stray = gate.stray.load(Ordering::SeqCst);
+    Ok(write!(
+        out,
+        "\n{first} and {second} asked, {taken} bytes told, {stray} out of turn"
+    )?)
+}
+
+/// Puts what is told behind a gate, and of it: the gate's numbers, the words and the script.
 pub(crate) fn put_held<R: Threads + Wait + Sync>(
     rt: &R,
     alloc: Global,
     row: &str,
+    stage: &mut Stage,
     out: &mut String,
 ) -> Result<(), Fail> {
-    let (writers, script) = parted(row, '\n');
-    let gate = gate_for(writers.parse()?);
-    let mut told = String::new(alloc);
-    put_behind(rt, alloc, script, &gate, &mut told)?;
-    let let_go = gate.let_go.load(Ordering::SeqCst);
-    Ok(write!(out, "{let_go} let go, {}", told.as_str())?)
+    let (head, script) = parted(row, '\n');
+    let (numbers, line) = parted(head, '/');
+    let gate = gate_of(numbers)?;
+    put_behind(rt, alloc, line, script, &gate, stage, out)?;
+    put_counted(&gate, out)
 }
 
 #[test]
 fn writers_wait_for_each_other_and_for_the_reader(rt: HostRuntime) -> Result<(), Fail> {
-    each_block(&rt, rt.alloc(), HELD, 6, &Kind::Held)
+    each_block(&rt, rt.alloc(), HELD, 8, &Kind::Held)
 }

@@ -1,24 +1,25 @@
-// Inputs beyond their limits. A row is a byte, how often the source gives it and the words, and the status.
+// Inputs beyond their limits. A row is what the source gives and how often, and the words, and the status.
 use crate::decode::HI;
 use crate::rows::{Kind, each_block};
-use crate::sessions::{Stage, add_table, outcome_of, parted, put_lines, stage_of};
+use crate::sessions::{Stage, add_table, outcome_of, put_lines};
 use defmt_run::OpenGate;
 use dl_io::{Bytes, MemShelf, RepeatSource};
 use std::alloc::Global;
 use std::sync::Wait;
 use std::test::Fail;
 use std::thread::Threads;
+use test_rows::{number_of, parted};
 
 const LONG: &str = "\
-10 4194305 defmtl run
+newlines 4194305 defmtl run
 =
 status 8 too long
 
-0 268435457 defmtl decode --table hi.elf
+zeros 268435457 defmtl decode --table hi.elf
 =
 status 8 too long
 
-0 0 defmtl decode --table long.elf
+zeros 0 defmtl decode --table long.elf
 =
 status 8 too long";
 
@@ -33,9 +34,10 @@ fn add_files<R: Threads + Wait + Sync>(
     Ok(shelf.put("long.elf", Bytes::from_vec(long))?)
 }
 
-// A source that gives a byte so often.
-fn repeat_of(byte: &str, count: &str) -> Result<RepeatSource, Fail> {
-    Ok(RepeatSource::new(byte.parse::<u8>()?, count.parse::<u64>()?))
+// A source of so many newlines or zeros.
+fn repeat_of(name: &str, count: &str) -> Result<RepeatSource, Fail> {
+    let byte = if name == "newlines" { b'\n' } else { 0 };
+    Ok(RepeatSource::new(byte, number_of(count)?))
 }
 
 fn put_repeated<R: Threads + Wait + Sync>(
@@ -46,6 +48,7 @@ fn put_repeated<R: Threads + Wait + Sync>(
     stage: &mut Stage,
     out: &mut String,
 ) -> Result<(), Fail> {
+    add_files(rt, alloc, &mut stage.shelf)?;
     let outcome = outcome_of(
         rt,
         alloc,
@@ -58,19 +61,18 @@ fn put_repeated<R: Threads + Wait + Sync>(
     put_lines(alloc, &outcome, stage.sink.held(), out)
 }
 
-/// Puts what is told where a source gives one byte so often: the byte, how often, and the words.
+/// Puts what is told where a source gives one byte so often: its name, how often, and the words.
 pub(crate) fn put_long<R: Threads + Wait + Sync>(
     rt: &R,
     alloc: Global,
     row: &str,
+    stage: &mut Stage,
     out: &mut String,
 ) -> Result<(), Fail> {
-    let (byte, rest) = parted(row, ' ');
+    let (name, rest) = parted(row, ' ');
     let (count, line) = parted(rest, ' ');
-    let mut source = repeat_of(byte, count)?;
-    let mut stage = stage_of(alloc, b"", b"")?;
-    add_files(rt, alloc, &mut stage.shelf)?;
-    put_repeated(rt, alloc, line, &mut source, &mut stage, out)
+    let mut source = repeat_of(name, count)?;
+    put_repeated(rt, alloc, line, &mut source, stage, out)
 }
 
 #[test]

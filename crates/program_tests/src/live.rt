@@ -1,6 +1,6 @@
 // Statements that are dropped beside a live reader. A row is how many statements there are.
 use crate::rows::{Kind, each_block};
-use crate::sessions::{Told, put_lines, put_played};
+use crate::sessions::{Stage, Told, put_lines, put_played};
 use defmt_run::{Mark, Outcome, Tape};
 use rtt_modes::Fate;
 use std::alloc::Global;
@@ -8,7 +8,7 @@ use std::fmt::Write;
 use std::sync::Wait;
 use std::test::Fail;
 use std::thread::Threads;
-use test_rows::put_str;
+use test_rows::{number_of, put_str};
 
 const LIVE: &str = "\
 200
@@ -20,7 +20,7 @@ fn add_script(count: &str, text: &mut String) -> Result<(), Fail> {
         text,
         "ring 16\nmode skip\nreader live\ns hi defmt_info hello",
     )?;
-    for _ in 0..count.parse::<u32>()? {
+    for _ in 0..number_of(count)? {
         put_str(text, "\nw 0 hi")?;
     }
     Ok(())
@@ -89,6 +89,7 @@ pub(crate) fn put_live<R: Threads + Wait + Sync>(
     rt: &R,
     alloc: Global,
     row: &str,
+    stage: &mut Stage,
     out: &mut String,
 ) -> Result<(), Fail> {
     let mut script = String::new(alloc);
@@ -99,7 +100,7 @@ pub(crate) fn put_live<R: Threads + Wait + Sync>(
         "defmtl run",
         &Told::Tape,
         script.as_str(),
-        "\n",
+        stage,
         out,
     )
 }

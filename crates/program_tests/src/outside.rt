@@ -1,7 +1,7 @@
 // Calls of the outside that fail.
-use crate::decode::{HI, table_stage};
+use crate::decode::add_files;
 use crate::rows::{Kind, each_block};
-use crate::sessions::{Stage, Told, parted, put_session, put_status};
+use crate::sessions::{Stage, outcome_of, put_lines, put_status, set_failing};
 use defmt_run::{OpenGate, Outcome};
 use dl_io::{Shelf, Sink, Source};
 use std::alloc::Global;
@@ -9,50 +9,12 @@ use std::fmt::Write;
 use std::sync::Wait;
 use std::test::Fail;
 use std::thread::Threads;
-use test_rows::put_str;
+use test_rows::{parted, put_once};
 
-// A row is who fails, at which call, and the words; the script is always the same.
-const FAULTS: &str = "\
-source 0 defmtl run
-=
-status 3 source, 0 marks, 0 bytes
-
-sink 0 defmtl run
-=
-status 4 sink, 1 marks, 0 bytes
-
-shelf 0 defmtl decode --table hi.elf
-=
-status 7 shelf, 0 marks, 0 bytes";
-
-/// Puts the status of an outcome, and how many marks there are and how many bytes were written.
-pub(crate) fn put_counts(
-    alloc: Global,
-    outcome: &Outcome,
-    written: &[u8],
-    out: &mut String,
-) -> Result<(), Fail> {
-    put_status(alloc, outcome, out)?;
-    let (marks, bytes) = (outcome.tape.len(), written.len());
-    Ok(write!(out, ", {marks} marks, {bytes} bytes")?)
-}
-
-/// Puts what is told of a fault: who fails, at which call, and the words.
-pub(crate) fn put_fault<R: Threads + Wait + Sync>(
-    rt: &R,
-    alloc: Global,
-    row: &str,
-    out: &mut String,
-) -> Result<(), Fail> {
-    let (who, rest) = parted(row, ' ');
-    let (call, line) = parted(rest, ' ');
-    let fails = [call.parse::<u8>()?];
-    let mut stage = table_stage(rt, alloc, HI.as_bytes(), b"\n", who, &fails)?;
-    put_session(rt, alloc, line, &Told::Counts, &mut stage, &OpenGate, out)
-}
-
-// Calls that fail one after the other, until none does. A row is who fails, the words and what the source gives, and what is told of the
-// sessions with a fault, and of the one without.
+// Calls that fail one after the other, until none does; of a sink without room for all, room for one byte more after the other. A row is who fails, the
+// words and what the source gives. Told are of the sessions with a fault what each comes to, how many marks there are and how much was written, each once;
+// then how many of them there are, and what comes of the one without. So a source that gives all at one read has its end found by a second, and isn't read
+// again. The recordings have a front, a frame and a tail.
 const TURNS: &str = "\
 source defmtl run --group
 ring 64
@@ -63,7 +25,8 @@ w 1 b true
 w 0 a 2
 w 1 b false
 =
-status 3 source, nothing
+status 3 source, 0 marks, nothing
+2 calls
 status 0 fine
 INFO  a 1
 INFO  a 2
@@ -79,31 +42,110 @@ w 1 b true
 w 0 a 2
 w 1 b false
 =
-status 4 sink, nothing
+status 4 sink, 4 marks, nothing
+1 calls
 status 0 fine
 INFO  a 1
 INFO  a 2
 WARN  b true
 WARN  b false
 
-shelf defmtl decode --table hi.elf
-hello
+room defmtl run --group
+ring 64
+s a defmt_info a {=u8}
+s b defmt_warn b {=bool}
+w 0 a 1
+w 1 b true
+w 0 a 2
+w 1 b false
 =
-status 7 shelf, nothing
-status 9 events with faults 1
--- front 6
+status 4 sink, 4 marks, nothing
+status 4 sink, 4 marks, a front
+47 calls
+status 0 fine
+INFO  a 1
+INFO  a 2
+WARN  b true
+WARN  b false
+
+source defmtl run
+s hi defmt_info hello
+w 0 hi
+=
+status 3 source, 0 marks, nothing
+2 calls
+status 0 fine
+INFO  hello
+
+sink defmtl run
+s hi defmt_info hello
+w 0 hi
+=
+status 4 sink, 1 marks, nothing
+1 calls
+status 0 fine
+INFO  hello
+
+source defmtl print
+s hi defmt_info hello
+w 0 hi
+=
+status 3 source, 0 marks, nothing
+2 calls
+status 0 fine
+INFO  hello
+
+source defmtl gen 10
+=
+0 calls
+status 0 fine
+lines 10
+trace 2
+debug 2
+info 2
+warn 2
+error 2
+writer 0 3
+writer 1 3
+writer 2 2
+writer 3 2
+bytes 164
+
+shelf defmtl decode --table hi.elf
+~\x00\x00\x01~\x00
+=
+status 7 shelf, 0 marks, nothing
+2 calls
+status 9 events with faults 2
+-- front 1
+INFO  hello
+-- tail 1
 
 source defmtl decode --table hi.elf
-hello
+~\x00\x00\x01~\x00
 =
-status 3 source, nothing
-status 9 events with faults 1
--- front 6";
+status 3 source, 0 marks, nothing
+status 3 source, 0 marks, a front
+2 calls
+status 9 events with faults 2
+-- front 1
+INFO  hello
+-- tail 1
 
-// How many calls of the outside failed.
-fn faults_of(stage: &Stage) -> u64 {
-    let faults = stage.source.faults().max(stage.shelf.faults());
-    faults.max(stage.sink.faults())
+sink defmtl decode --table hi.elf
+~\x00\x00\x01~\x00
+=
+status 4 sink, 0 marks, nothing
+status 4 sink, 0 marks, a front
+2 calls
+status 9 events with faults 2
+-- front 1
+INFO  hello
+-- tail 1";
+
+// Whether no call of the outside failed.
+fn is_sound(stage: &Stage) -> bool {
+    stage.source.faults() == 0 && stage.shelf.faults() == 0 && stage.sink.faults() == 0
 }
 
 // How much of what is due was written.
@@ -117,12 +159,18 @@ fn share_of(written: &[u8], due: &str) -> &'static str {
     }
 }
 
-// Puts what a session with a fault tells, where without a fault it tells this.
-fn put_share(told: &str, written: &[u8], whole: &str, out: &mut String) -> Result<(), Fail> {
-    let (status, _) = parted(told, '\n');
+// Puts what is told of a session with a fault, where without a fault this is told.
+fn put_share(
+    alloc: Global,
+    outcome: &Outcome,
+    written: &[u8],
+    whole: &str,
+    out: &mut String,
+) -> Result<(), Fail> {
+    put_status(alloc, outcome, out)?;
     let (_, due) = parted(whole, '\n');
-    let share = share_of(written, due);
-    Ok(write!(out, "{status}, {share}")?)
+    let (marks, share) = (outcome.tape.len(), share_of(written, due));
+    Ok(write!(out, ", {marks} marks, {share}")?)
 }
 
 fn put_turn_in<R: Threads + Wait + Sync>(
@@ -133,34 +181,39 @@ fn put_turn_in<R: Threads + Wait + Sync>(
     whole: &str,
     out: &mut String,
 ) -> Result<(), Fail> {
-    let mut told = String::new(alloc);
-    put_session(rt, alloc, line, &Told::Lines, stage, &OpenGate, &mut told)?;
-    if faults_of(stage) == 0 {
-        return put_str(out, told.as_str());
+    add_files(rt, alloc, &mut stage.shelf)?;
+    let outcome = outcome_of(
+        rt,
+        alloc,
+        line,
+        &mut stage.source,
+        &mut stage.shelf,
+        &mut stage.sink,
+        &OpenGate,
+    )?;
+    let sound = is_sound(stage);
+    let written = stage.sink.held();
+    if sound {
+        put_lines(alloc, &outcome, written, out)
+    } else {
+        put_share(alloc, &outcome, written, whole, out)
     }
-    put_share(told.as_str(), stage.sink.held(), whole, out)
 }
 
+// Puts what a session tells in which this call of this name fails.
 fn put_turn<R: Threads + Wait + Sync>(
     rt: &R,
     alloc: Global,
-    row: &str,
-    fails: &[u8],
+    who: &str,
+    call: u8,
+    rest: &str,
     whole: &str,
+    stage: &mut Stage,
     out: &mut String,
 ) -> Result<(), Fail> {
-    let (head, given) = parted(row, '\n');
-    let (who, line) = parted(head, ' ');
-    let mut stage = table_stage(rt, alloc, given.as_bytes(), b"\n", who, fails)?;
-    put_turn_in(rt, alloc, line, &mut stage, whole, out)
-}
-
-// Puts a line, unless it stands there.
-fn put_once(line: &str, out: &mut String) -> Result<(), Fail> {
-    if out.as_str().contains(line) {
-        return Ok(());
-    }
-    Ok(write!(out, "{line}\n")?)
+    let (line, given) = parted(rest, '\n');
+    set_failing(alloc, given.as_bytes(), b"\n", who, call, stage)?;
+    put_turn_in(rt, alloc, line, stage, whole, out)
 }
 
 // Puts what the session with this failing call tells, unless it stands there already or is what the one without a fault tells, and answers whether it is that.
@@ -170,28 +223,31 @@ fn put_call<R: Threads + Wait + Sync>(
     row: &str,
     call: u8,
     whole: &str,
+    stage: &mut Stage,
     out: &mut String,
 ) -> Result<bool, Fail> {
+    let (who, rest) = parted(row, ' ');
     let mut told = String::new(alloc);
-    put_turn(rt, alloc, row, &[call], whole, &mut told)?;
-    let last = told.as_str() == whole;
-    if !last {
-        put_once(told.as_str(), out)?;
+    put_turn(rt, alloc, who, call, rest, whole, stage, &mut told)?;
+    if told.as_str() == whole {
+        return Ok(true);
     }
-    Ok(last)
+    put_once(told.as_str(), out)?;
+    Ok(false)
 }
 
-// Puts what the sessions with a fault tell, each text once, and what the one without tells.
+// Puts what the sessions with a fault tell, each text once, how many there are, and what the one without tells.
 fn put_calls<R: Threads + Wait + Sync>(
     rt: &R,
     alloc: Global,
     row: &str,
     whole: &str,
+    stage: &mut Stage,
     out: &mut String,
 ) -> Result<(), Fail> {
     for call in 0..=u8::MAX {
-        if put_call(rt, alloc, row, call, whole, out)? {
-            return put_str(out, whole);
+        if put_call(rt, alloc, row, call, whole, stage, out)? {
+            return Ok(write!(out, "{call} calls\n{whole}")?);
         }
     }
     Err(Fail::new("each call fails"))
@@ -202,15 +258,16 @@ pub(crate) fn put_turns<R: Threads + Wait + Sync>(
     rt: &R,
     alloc: Global,
     row: &str,
+    stage: &mut Stage,
     out: &mut String,
 ) -> Result<(), Fail> {
+    let (_, rest) = parted(row, ' ');
     let mut whole = String::new(alloc);
-    put_turn(rt, alloc, row, b"", "", &mut whole)?;
-    put_calls(rt, alloc, row, whole.as_str(), out)
+    put_turn(rt, alloc, "nobody", 0, rest, "", stage, &mut whole)?;
+    put_calls(rt, alloc, row, whole.as_str(), stage, out)
 }
 
 #[test]
 fn each_call_of_the_outside_that_fails_is_told(rt: HostRuntime) -> Result<(), Fail> {
-    each_block(&rt, rt.alloc(), FAULTS, 3, &Kind::Fault)?;
-    each_block(&rt, rt.alloc(), TURNS, 4, &Kind::Turns)
+    each_block(&rt, rt.alloc(), TURNS, 10, &Kind::Turns)
 }

@@ -1,12 +1,11 @@
 // The rows of the tests, by what is asked of their inputs.
-use crate::commands::put_length;
 use crate::decode::{put_changed, put_decoded};
 use crate::device::put_device;
 use crate::gates::put_held;
 use crate::limits::put_long;
 use crate::live::put_live;
-use crate::outside::{put_fault, put_turns};
-use crate::sessions::{Told, put_row};
+use crate::outside::put_turns;
+use crate::sessions::{Stage, Told, empty_stage, put_row};
 use crate::words::put_words;
 use std::alloc::Global;
 use std::sync::Wait;
@@ -17,15 +16,12 @@ use std::thread::Threads;
 #[derive(Drop)]
 pub(crate) enum Kind {
     Lines,
-    OpenLines,
     Digits,
     Account,
-    OpenAccount,
     Length,
     Decoded,
     Changed,
     Long,
-    Fault,
     Turns,
     Held,
     Live,
@@ -33,6 +29,31 @@ pub(crate) enum Kind {
     Job,
 }
 
+fn put_answer_on<R: Threads + Wait + Sync>(
+    rt: &R,
+    alloc: Global,
+    kind: &Kind,
+    row: &str,
+    stage: &mut Stage,
+    out: &mut String,
+) -> Result<(), Fail> {
+    match kind {
+        Kind::Lines => put_row(rt, alloc, row, &Told::Lines, stage, out),
+        Kind::Digits => put_row(rt, alloc, row, &Told::Digits, stage, out),
+        Kind::Account => put_row(rt, alloc, row, &Told::Account, stage, out),
+        Kind::Length => put_row(rt, alloc, row, &Told::Length, stage, out),
+        Kind::Decoded => put_decoded(rt, alloc, row, stage, out),
+        Kind::Changed => put_changed(rt, alloc, row, stage, out),
+        Kind::Long => put_long(rt, alloc, row, stage, out),
+        Kind::Turns => put_turns(rt, alloc, row, stage, out),
+        Kind::Held => put_held(rt, alloc, row, stage, out),
+        Kind::Live => put_live(rt, alloc, row, stage, out),
+        Kind::Device => put_device(rt, alloc, row, stage, out),
+        Kind::Job => put_words(alloc, row, out),
+    }
+}
+
+// The stage stands here alone, so few functions have to drop one.
 fn put_answer<R: Threads + Wait + Sync>(
     rt: &R,
     alloc: Global,
@@ -40,23 +61,8 @@ fn put_answer<R: Threads + Wait + Sync>(
     row: &str,
     out: &mut String,
 ) -> Result<(), Fail> {
-    match kind {
-        Kind::Lines => put_row(rt, alloc, row, &Told::Lines, "\n", out),
-        Kind::OpenLines => put_row(rt, alloc, row, &Told::Lines, "", out),
-        Kind::Digits => put_row(rt, alloc, row, &Told::Digits, "\n", out),
-        Kind::Account => put_row(rt, alloc, row, &Told::Account, "\n", out),
-        Kind::OpenAccount => put_row(rt, alloc, row, &Told::Account, "", out),
-        Kind::Length => put_length(rt, alloc, row, out),
-        Kind::Decoded => put_decoded(rt, alloc, row, out),
-        Kind::Changed => put_changed(rt, alloc, row, out),
-        Kind::Long => put_long(rt, alloc, row, out),
-        Kind::Fault => put_fault(rt, alloc, row, out),
-        Kind::Turns => put_turns(rt, alloc, row, out),
-        Kind::Held => put_held(rt, alloc, row, out),
-        Kind::Live => put_live(rt, alloc, row, out),
-        Kind::Device => put_device(rt, alloc, row, out),
-        Kind::Job => put_words(alloc, row, out),
-    }
+    let mut stage = empty_stage(alloc)?;
+    put_answer_on(rt, alloc, kind, row, &mut stage, out)
 }
 
 fn each_row<R: Threads + Wait + Sync>(

@@ -17,9 +17,9 @@ s log defmt_debug at {} {:x}
 w 0 log pt(num(3) num(255)) opt:1(num(255))
 =
 status 0 fine
-DEBUG at Pt { x: 3, y: 255 } Some(ff)"#;
+DEBUG at Pt { x: 3, y: 255 } Some(ff)
 
-const OPEN_RUNS: &str = r#"defmtl run
+defmtl run
 =
 status 0 fine
 
@@ -87,9 +87,8 @@ w 0 say "abcdefghijklmnopqrstuvwxyzabcdefgh"
 =
 status 0 fine
 -- tail 14
--- cut writer 0 statement 0 need 40 room 15"#;
+-- cut writer 0 statement 0 need 40 room 15
 
-const REFUSALS: &str = "\
 defmtl frob
 w 0 hi
 =
@@ -103,13 +102,11 @@ status 5 script line 1 cause 2 inner 0
 defmtl run
 reader late
 =
-status 5 script line 1 cause 8 inner 0";
+status 5 script line 1 cause 8 inner 0"#;
 
 #[test]
 fn a_run_prints_what_was_sent_and_reports_what_was_not_unless_it_is_refused(
     rt: HostRuntime,
 ) -> Result<(), Fail> {
-    each_block(&rt, rt.alloc(), RUNS, 2, &Kind::Lines)?;
-    each_block(&rt, rt.alloc(), OPEN_RUNS, 6, &Kind::OpenLines)?;
-    each_block(&rt, rt.alloc(), REFUSALS, 3, &Kind::OpenLines)
+    each_block(&rt, rt.alloc(), RUNS, 11, &Kind::Lines)
 }

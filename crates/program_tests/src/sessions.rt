@@ -1,8 +1,7 @@
 // Sessions over sources, shelves and sinks in memory.
-use crate::commands::put_bytes;
+use crate::commands::{put_bytes, put_length};
 use crate::live::put_verdict;
-use crate::outside::put_counts;
-use crate::told::put_account;
+use crate::told::{put_account, put_got};
 use defmt_run::{Gate, OpenGate, Outcome, session};
 use dl_io::{Bytes, MemShelf, MemSink, MemSource, Source};
 use std::alloc::Global;
@@ -10,39 +9,8 @@ use std::fmt::Write;
 use std::sync::Wait;
 use std::test::Fail;
 use std::thread::Threads;
-use test_rows::put_str;
-
-/// What stands in front of the first mark and what stands behind it; the whole text and nothing where there is no mark.
-pub(crate) fn parted(text: &str, mark: char) -> (&str, &str) {
-    match text.split_once(mark) {
-        Some(parts) => parts,
-        None => (text, ""),
-    }
-}
-
-/// The words of a line, which single spaces part.
-pub(crate) fn words_of(alloc: Global, line: &str) -> Result<Vec<String>, Fail> {
-    let mut words = Vec::new(alloc);
-    for word in line.split(' ') {
-        words.push(String::from_str(alloc, word)?)?;
-    }
-    Ok(words)
-}
-
-// A source of these bytes and those behind them, which fails at the reads with these numbers.
-fn source_of(alloc: Global, bytes: &[u8], end: &[u8], fails: &[u8]) -> Result<MemSource, Fail> {
-    let mut given = Bytes::from_slice(alloc, bytes)?;
-    given.extend_from_slice(end)?;
-    Ok(MemSource::new(given, Bytes::from_slice(alloc, fails)?))
-}
-
-// A sink with room, which fails at the writes with these numbers.
-fn sink_of(alloc: Global, fails: &[u8]) -> Result<MemSink, Fail> {
-    let fails = Bytes::from_slice(alloc, fails)?;
-    let mut held = Bytes::new(alloc);
-    held.reserve(1_048_576)?;
-    Ok(MemSink::new(held, fails))
-}
+pub(crate) use test_rows::words_of;
+use test_rows::{parted, put_str};
 
 /// What a session reads, where its files stand, and what it writes into.
 #[derive(Drop)]
@@ -52,34 +20,76 @@ pub(crate) struct Stage {
     pub sink: MemSink,
 }
 
-// The calls that fail for one of the three, if it is the one that fails.
-fn fails_of<'a>(fails: &'a [u8], who: &str, name: &str) -> &'a [u8] {
-    if who == name { fails } else { b"" }
+// The number of the call that fails, where it is this one of the three that fails.
+fn fails_of(alloc: Global, who: &str, name: &str, call: u8) -> Result<Bytes, Fail> {
+    let mut fails = Bytes::new(alloc);
+    if who == name {
+        fails.push(call)?;
+    }
+    Ok(fails)
 }
 
-/// A stage without files, whose source gives these bytes and those behind them. Of source, shelf and sink the one with this name fails at the calls with
-/// these numbers.
-pub(crate) fn failing_stage(
+fn source_of(
     alloc: Global,
     bytes: &[u8],
     end: &[u8],
     who: &str,
-    fails: &[u8],
-) -> Result<Stage, Fail> {
-    let fetches = Bytes::from_slice(alloc, fails_of(fails, who, "shelf"))?;
-    let source = source_of(alloc, bytes, end, fails_of(fails, who, "source"))?;
-    let sink = sink_of(alloc, fails_of(fails, who, "sink"))?;
-    let shelf = MemShelf::new(alloc, fetches);
+    call: u8,
+) -> Result<MemSource, Fail> {
+    let mut given = Bytes::from_slice(alloc, bytes)?;
+    given.extend_from_slice(end)?;
+    Ok(MemSource::new(given, fails_of(alloc, who, "source", call)?))
+}
+
+// The room of a sink: more than any output has, unless it is the room that there is too little of.
+fn room_of(who: &str, call: u8) -> usize {
+    if who == "room" {
+        usize::from(call)
+    } else {
+        1_048_576
+    }
+}
+
+fn sink_of(alloc: Global, who: &str, call: u8) -> Result<MemSink, Fail> {
+    let mut held = Bytes::new(alloc);
+    held.reserve(room_of(who, call))?;
+    Ok(MemSink::new(held, fails_of(alloc, who, "sink", call)?))
+}
+
+/// A stage without files, whose source gives nothing.
+pub(crate) fn empty_stage(alloc: Global) -> Result<Stage, Fail> {
+    let sink = sink_of(alloc, "nobody", 0)?;
     Ok(Stage {
-        source,
-        shelf,
+        source: MemSource::new(Bytes::new(alloc), Bytes::new(alloc)),
+        shelf: MemShelf::new(alloc, Bytes::new(alloc)),
         sink,
     })
 }
 
+/// Makes a stage one without files, whose source gives these bytes and those behind them. Of `source`, `shelf` and `sink` the one with this name fails at
+/// the call with this number; the name `room` gives the sink room for so many bytes.
+pub(crate) fn set_failing(
+    alloc: Global,
+    bytes: &[u8],
+    end: &[u8],
+    who: &str,
+    call: u8,
+    stage: &mut Stage,
+) -> Result<(), Fail> {
+    stage.source = source_of(alloc, bytes, end, who, call)?;
+    stage.shelf = MemShelf::new(alloc, fails_of(alloc, who, "shelf", call)?);
+    stage.sink = sink_of(alloc, who, call)?;
+    Ok(())
+}
+
 /// The same where nothing fails.
-pub(crate) fn stage_of(alloc: Global, bytes: &[u8], end: &[u8]) -> Result<Stage, Fail> {
-    failing_stage(alloc, bytes, end, "nobody", b"")
+pub(crate) fn set_stage(
+    alloc: Global,
+    bytes: &[u8],
+    end: &[u8],
+    stage: &mut Stage,
+) -> Result<(), Fail> {
+    set_failing(alloc, bytes, end, "nobody", 0, stage)
 }
 
 /// What a session on the words of this line comes to.
@@ -114,7 +124,7 @@ fn put_written(written: &[u8], out: &mut String) -> Result<(), Fail> {
     if written.is_empty() {
         return Ok(());
     }
-    out.push('\n')?;
+    put_str(out, "\n")?;
     match str::from_utf8(written) {
         Ok(lines) => put_text(lines, out),
         Err(_) => put_str(out, "no text"),
@@ -139,10 +149,12 @@ pub(crate) enum Told {
     Lines,
     /// The digits of what was written.
     Digits,
+    /// How many bytes were written.
+    Length,
     /// The marks, the ring and the events.
     Account,
-    /// How many marks there are, and how many bytes were written.
-    Counts,
+    /// How many bytes the reader got, and the lines.
+    Got,
     /// Whether the lines and reports are those that the tape asks for.
     Tape,
 }
@@ -157,8 +169,9 @@ fn put_told(
     match told {
         Told::Lines => put_lines(alloc, outcome, written, out),
         Told::Digits => put_bytes(alloc, outcome, written, out),
+        Told::Length => put_length(alloc, outcome, written, out),
         Told::Account => put_account(alloc, outcome, out),
-        Told::Counts => put_counts(alloc, outcome, written, out),
+        Told::Got => put_got(alloc, outcome, written, out),
         Told::Tape => put_verdict(alloc, outcome, written, out),
     }
 }
@@ -185,48 +198,43 @@ pub(crate) fn put_session<G: Gate + Sync, R: Threads + Wait + Sync>(
     put_told(alloc, told, &outcome, stage.sink.held(), out)
 }
 
-/// Puts what is told of a session on a script, behind whose last line this stands.
+/// Puts what is told of a session on a script, behind whose last line a newline stands.
 pub(crate) fn put_played<R: Threads + Wait + Sync>(
     rt: &R,
     alloc: Global,
     line: &str,
     told: &Told,
     script: &str,
-    end: &str,
+    stage: &mut Stage,
     out: &mut String,
 ) -> Result<(), Fail> {
-    let mut stage = stage_of(alloc, script.as_bytes(), end.as_bytes())?;
-    put_session(rt, alloc, line, told, &mut stage, &OpenGate, out)
+    let end = if script.is_empty() { "" } else { "\n" };
+    set_stage(alloc, script.as_bytes(), end.as_bytes(), stage)?;
+    put_session(rt, alloc, line, told, stage, &OpenGate, out)
 }
 
-/// Puts what is told of the session of a row: its words and a script, behind whose last line this stands.
+/// Puts what is told of the session of a row: its words and a script.
 pub(crate) fn put_row<R: Threads + Wait + Sync>(
     rt: &R,
     alloc: Global,
     row: &str,
     told: &Told,
-    end: &str,
+    stage: &mut Stage,
     out: &mut String,
 ) -> Result<(), Fail> {
     let (line, script) = parted(row, '\n');
-    put_played(rt, alloc, line, told, script, end, out)
-}
-
-// What was written, where the status is that of no fault.
-fn copied(alloc: Global, status: u8, written: &[u8]) -> Result<Bytes, Fail> {
-    if status != 0 {
-        return Err(Fail::new("a fault"));
-    }
-    Ok(Bytes::from_slice(alloc, written)?)
+    put_played(rt, alloc, line, told, script, stage, out)
 }
 
 fn written_in<R: Threads + Wait + Sync>(
     rt: &R,
     alloc: Global,
     line: &str,
+    script: &str,
     stage: &mut Stage,
 ) -> Result<Bytes, Fail> {
-    let outcome = outcome_of(
+    set_stage(alloc, script.as_bytes(), b"\n", stage)?;
+    outcome_of(
         rt,
         alloc,
         line,
@@ -235,18 +243,18 @@ fn written_in<R: Threads + Wait + Sync>(
         &mut stage.sink,
         &OpenGate,
     )?;
-    copied(alloc, outcome.status, stage.sink.held())
+    Ok(Bytes::from_slice(alloc, stage.sink.held())?)
 }
 
-/// What a session on a script writes, which has no fault.
+/// What a session on a script writes.
 pub(crate) fn written_of<R: Threads + Wait + Sync>(
     rt: &R,
     alloc: Global,
     line: &str,
     script: &str,
 ) -> Result<Bytes, Fail> {
-    let mut stage = stage_of(alloc, script.as_bytes(), b"\n")?;
-    written_in(rt, alloc, line, &mut stage)
+    let mut stage = empty_stage(alloc)?;
+    written_in(rt, alloc, line, script, &mut stage)
 }
 
 /// Puts the table of a script on a shelf.

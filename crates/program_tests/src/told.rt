@@ -1,20 +1,19 @@
 // What a run tells beside its lines. A row is the words and the script, and what is told of its tape, its ring and its events.
 use crate::rows::{Kind, each_block};
-use crate::sessions::put_status;
+use crate::sessions::{put_lines, put_status};
 use defmt_run::{Event, Outcome, RingKind, Settled};
 use std::alloc::Global;
 use std::fmt::Write;
 use std::test::Fail;
 use test_rows::put_str;
 
-const EMPTY: &str = "\
+const ACCOUNTS: &str = "\
 defmtl run
 =
 status 0 fine
 0 marks
-word ring, 0 bytes sent";
+word ring, 0 bytes sent
 
-const ACCOUNTS: &str = "\
 defmtl run
 s hi defmt_info hello
 w 0 hi
@@ -68,10 +67,24 @@ pub(crate) fn put_account(alloc: Global, outcome: &Outcome, out: &mut String) ->
     Ok(())
 }
 
+/// Puts how many bytes the reader of a run got, and behind it the status and the lines that were written.
+pub(crate) fn put_got(
+    alloc: Global,
+    outcome: &Outcome,
+    written: &[u8],
+    out: &mut String,
+) -> Result<(), Fail> {
+    let got = match &outcome.settled {
+        Some(settled) => settled.got_len(),
+        None => 0,
+    };
+    write!(out, "{got} bytes got, ")?;
+    put_lines(alloc, outcome, written, out)
+}
+
 #[test]
 fn a_run_tells_its_tape_its_ring_and_its_events_and_an_empty_one_sends_nothing(
     rt: HostRuntime,
 ) -> Result<(), Fail> {
-    each_block(&rt, rt.alloc(), ACCOUNTS, 1, &Kind::Account)?;
-    each_block(&rt, rt.alloc(), EMPTY, 1, &Kind::OpenAccount)
+    each_block(&rt, rt.alloc(), ACCOUNTS, 2, &Kind::Account)
 }
