@@ -41,35 +41,46 @@ case $1 in
 esac
 PROGRAM
 
-# Each crate that is proved is a line of $KIT/proved, and each call one of $KIT/calls; $KIT/seconds says how long a proof takes, and a file
-# $KIT/refuses names a crate that can't be proved, and $KIT/slow/NAME says how long one takes that takes another time.
+# Each crate that is proved is a line of $KIT/proved, and each call one of $KIT/calls; $KIT/events says when each proof begins and ends. $KIT/seconds
+# says how long a proof takes, and $KIT/slow/NAME how long one takes that takes another time. A file $KIT/refuses names a crate that can't be proved,
+# $KIT/killed/NAME how a crate's rt ends once, and $KIT/lasts/NAME how long one takes still when its first part is kept, which $KIT/kept then names.
 cat > "$kit/bin/rt" << 'RT'
 #!/bin/bash
 KIT=${0%/bin/rt}
 [ ! -f "$KIT/home" ] || KIT=$(< "$KIT/home")
 echo "${PWD##*/} $*" >> "$KIT/calls"
 text() { cat src/* 2> /dev/null | cksum; }
+pause() { sleep "$1" & echo $! >> "$KIT/sleeps"; wait; }
 prove() {
-    cd "../$1" || exit 2
-    mkdir -p out
-    [ "$(cat out/proof 2> /dev/null)" = "$(text)" ] && return
-    sleep "$(cat "$KIT/slow/$1" 2> /dev/null || cat "$KIT/seconds")" & echo $! >> "$KIT/sleeps"; wait
+    local each
+    [ "$(cat out/rlib/stamp 2> /dev/null)" != "$(text)" ] || return 0
+    for each in $(sed -n "s/^$1\( [^:]*\)*://p" ../../crates.txt); do
+        [ "$each" = std ] || [ -f "../$each/out/rlib/stamp" ] || { echo "error: $each is not built"; return 1; }
+    done
+    echo "begin $1" >> "$KIT/events"
+    rm -rf out/rlib; mkdir -p out/rlib out/incremental
+    case $(cat "$KIT/killed/$1" 2> /dev/null) in
+        '') ;;
+        9) rm "$KIT/killed/$1"; kill -9 $$ ;;
+        *) read -r status < "$KIT/killed/$1"; rm "$KIT/killed/$1"; return "$status" ;;
+    esac
+    if [ ! -f "out/incremental/$(text)" ]; then
+        pause "$(cat "$KIT/slow/$1" 2> /dev/null || cat "$KIT/seconds")"
+        : > "out/incremental/$(text)"
+        echo "$1" >> "$KIT/kept"
+    fi
+    [ ! -f "$KIT/lasts/$1" ] || pause "$(< "$KIT/lasts/$1")"
+    echo "end $1" >> "$KIT/events"
     [ "$(cat "$KIT/refuses" 2> /dev/null)" != "$1" ] || { echo "error: $1 is not proved"; return 1; }
     echo "$1" >> "$KIT/proved"
-    text > out/proof
+    text > out/rlib/stamp
 }
 case $1 in
     doc) echo "$KIT/START-HERE.md" ;;
-    all)
-        for it in low left right beside top defmt_run; do
-            [ -d "../$it" ] || continue
-            said=$(prove "$it"); status=$?
-            printf '== %s\n%s\n' "$it" "$said"
-            [ "$status" -eq 0 ] || exit 1
-        done ;;
     lib) prove "${PWD##*/}" ;;
     run)
-        prove defmt_cli || exit 1
+        [ -n "$(ls ../defmt_run/out/incremental)" ] || { echo 'error: a pass over all sources'; exit 1; }
+        (cd ../defmt_run && prove defmt_run) && prove defmt_cli || exit
         sed "s/TEXT/proved $(cat ../defmt_run/src/lib.rt)/" "$KIT/program" > out/defmt_cli && chmod +x out/defmt_cli ;;
     try)
         [ "$(cat "$KIT/refuses" 2> /dev/null)" != try ] || { echo 'error: the program is not read'; exit 2; }
@@ -85,13 +96,18 @@ chmod +x "$kit/bin/rt" "$kit/toolchain/bin/ld.lld"
 echo "$kit" > "$kit/home"
 ln -s "$kit/bin/rt" "$work/path/rt"
 sed -i "s|^KIT=.*|KIT=$kit|" "$kit/bin/rt"
+# So many processors, and so much memory in GB
+printf '#!/bin/bash\ncat "%s"\n' "$kit/processors" > "$work/path/nproc"
+printf '#!/bin/bash\ncat "%s"\n' "$kit/memory" > "$work/path/awk"
+chmod +x "$work/path/nproc" "$work/path/awk"
 PATH=$work/path:$PATH
 
 # begin SECONDS: a repository in which nothing was built, and a proof takes so long
 begin() {
-    rm -rf "$work/top" "$kit/refuses" "$kit/slow"
-    : > "$kit/calls"; : > "$kit/proved"; : > "$kit/sleeps"
-    echo "$1" > "$kit/seconds"
+    rm -rf "$work/top" "$kit/refuses" "$kit/slow" "$kit/killed" "$kit/lasts"
+    mkdir "$kit/slow" "$kit/killed" "$kit/lasts"
+    for it in calls proved events kept sleeps; do : > "$kit/$it"; done
+    echo "$1" > "$kit/seconds"; echo 4 > "$kit/processors"; echo 16 > "$kit/memory"
     mkdir "$work/top" && cd "$work/top" || exit 2
     cp "$top/defmtl" .
     printf '%s\n' '# a comment' 'low:' 'left: low std' 'right: low' 'top: left right' 'defmt_run may_wait=9: top' 'defmt_cli: defmt_run' 'low_tests: low' 'aside: low' > crates.txt
@@ -110,7 +126,12 @@ call() {
 }
 calls() { grep -vc '^$' "$kit/calls"; }
 proofs() { sort "$kit/proved" | tr '\n' ' '; }
-strays() { find . ! -type d ! -path './crates/*/src/*' ! -path '*/out/proof' ! -name crates.txt ! -name HANDLES ! -name defmtl ! -name 'defmt_cli*' ! -name launcher.lock; find "${TMPDIR:-/tmp}" -maxdepth 1 -newer "$work/began" -name 'tmp.*' ! -path "$work"; }
+strays() {
+    find . ! -type d ! -path './crates/*/src/*' ! -regex '\./crates/[^/]*/out/\(rlib\|incremental\)/[^/]*' ! -name crates.txt ! -name HANDLES ! -name defmtl \
+        ! -name 'defmt_cli*' ! -name launcher.lock
+    find . -name rooms
+    find "${TMPDIR:-/tmp}" -maxdepth 1 -newer "$work/began" -name 'tmp.*' ! -path "$work"
+}
 all_crates='defmt_cli defmt_run left low right top '
 
 # until_true WORD..: waits until a command succeeds, at most ten seconds
@@ -120,17 +141,6 @@ is_tidy() { [ -z "$(strays)" ]; }
 has_begun() { [ "$(wc -l < "$kit/sleeps")" -ge "$1" ]; }
 is_gone() { ! kill -0 "$1" 2> /dev/null; }
 touch "$work/began"
-
-# ---- a crate that is under way for long while only a chain is left
-
-begin 0.1
-mkdir -p crates/beside/src "$kit/slow"
-printf one > crates/beside/src/lib.rt
-sed -i 's/^defmt_run.*/beside: low\ndefmt_run may_wait=9: beside top/' crates.txt
-echo 4 > "$kit/slow/beside"; echo 1 > "$kit/slow/defmt_run"
-call run < /dev/null
-is 'what has been under way for a while is done as it goes' "$(grep -c '^top lib' "$kit/calls") $(grep -c '^defmt_run lib' "$kit/calls")" '0 1'
-is 'and each crate is proved once' "$(proofs)" "beside $all_crates"
 
 # ---- the first build
 
@@ -143,9 +153,10 @@ has 'the program is the proved one' "$said" 'proved one'
 has 'how far a build is' "$said" 'crate 2 of 6 is done: left'
 has 'how long it will take' "$said" 'About '
 has 'how long the first build takes' "$said" 'about 20 minutes on four processors, 32 on two'
-is 'the first crate of the longest chain gets all processors' "$(sed -n 1p "$kit/calls" | grep -c "^low lib --jobs [1-9]")" 1
-is 'so do the crates side by side' "$(sed -n 2p "$kit/calls" | grep -c "^defmt_run all check --jobs [1-9]")" 1
-is 'so does each of the chain' "$(grep -c '^top lib --jobs [1-9]\|^defmt_run lib --jobs [1-9]\|^defmt_cli run --jobs [1-9]' "$kit/calls")" 3
+is 'a crate that stands alone gets all processors' "$(grep -c '^low lib --jobs 4\|^top lib --jobs 4\|^defmt_cli run --jobs 4' "$kit/calls")" 3
+is 'two side by side share the processors' "$(grep '^left\|^right' "$kit/calls" | grep -o '[0-9]*$' | sort | tr '\n' ' ')" '1 3 '
+is 'each crate has one call, but the last library has none of its own' "$(calls)" 5
+is 'nothing else is kept of the last library' "$(find crates/defmt_run/out/incremental -type f | wc -l)" 1
 until_true is_tidy
 is 'no file is left behind' "$(strays)" ''
 : > "$kit/calls"
@@ -157,6 +168,60 @@ for number in 0 1 2 9 63; do
     call end "$number"
     is "the program's status $number" "$status" "$number"
 done
+
+# ---- what is proved when
+
+events() { tr '\n' ';' < "$kit/events"; }
+# long NAME: gives a crate many lines
+long() { seq 400 >> "crates/$1/src/lib.rt"; }
+
+begin 0.3
+call run < /dev/null
+if grep -A 1 '^begin \(left\|right\)' "$kit/events" | tr '\n' ' ' | grep -q '^begin [a-z]* begin'; then pass; else fail "two crates are proved side by side: $(events)"; fi
+is 'and what stands above them once both are done' "$(grep -c '^end \(left\|right\)' <(sed '/begin top/q' "$kit/events"))" 2
+
+for crate in left right; do
+    begin 0
+    echo 1 > "$kit/processors"
+    long "$crate"
+    call run < /dev/null
+    is "the longest chain comes first, which is that of $crate" "$(sed -n 's/^begin //p' "$kit/events" | sed -n 2p)" "$crate"
+    is 'on one processor each crate has one job' "$(grep -vc ' --jobs 1' "$kit/calls")" 0
+    begin 0.1
+    long "$crate"
+    call run < /dev/null
+    is "the longest chain has more jobs, which is that of $crate" "$(grep '^left\|^right' "$kit/calls" | sed -n 's/ lib --jobs 3//p')" "$crate"
+done
+
+begin 0.1
+echo 3 > "$kit/memory"
+call run < /dev/null
+is 'with little memory there are fewer jobs' "$(grep -c 'jobs 2' "$kit/calls") $(grep -c 'jobs [34]' "$kit/calls")" '5 0'
+if grep -A 1 '^begin \(left\|right\)' "$kit/events" | tr '\n' ' ' | grep -q '^begin [a-z]* begin'; then fail "with little memory two crates are proved side by side: $(events)"; else pass; fi
+
+for end in 9 247; do
+    begin 0.3
+    echo "$end" > "$kit/killed/left"
+    call run < /dev/null
+    is "a crate whose rt ends with $end is proved again" "$status $(proofs)" "0 $all_crates"
+    is "a crate whose rt ends with $end is proved again alone" "$(grep -A 1 '^begin left' "$kit/events" | tail -n 2 | tr '\n' ' ')" 'begin left end left '
+    is "a crate whose rt ends with $end is proved again with one job" "$(grep '^left' "$kit/calls" | tail -n 1)" 'left lib --jobs 1'
+done
+
+begin 0.1
+flock -o crates/left sleep 10 &
+holder=$!
+until_true eval '! flock -n crates/left true'
+./defmtl run < /dev/null 2> "$work/said" > /dev/null &
+first=$!
+until_true grep -q waiting "$work/said"
+kill "$holder"
+until_true grep -q low "$kit/proved"
+if flock -n crates/low true; then fail "a build does not keep other rt's out of its crates"; else pass; fi
+wait "$first"
+is 'a build that waits for another rt' "$?" 0
+has 'a build that waits for another rt says so' "$(cat "$work/said")" "waiting for another rt to finish in $work/top/crates/left"
+if flock -n crates/low true && flock -n crates/defmt_cli true; then pass; else fail "a build that is done keeps other rt's out"; fi
 
 # ---- sources that change
 
@@ -207,12 +272,13 @@ stopped() {
     env --default-signal=INT ./defmtl run < /dev/null > "$work/wrote" 2> "$work/said" &
     local launcher=$!
     until_true grep -q left "$kit/proved"
-    until_true has_begun 3
+    until_true has_begun 4
     kill "-$2" "$launcher"
     wait "$launcher" 2> /dev/null
     is "$1: the status" "$?" "$3"
     if until_true is_gone "$(tail -n 1 "$kit/sleeps")"; then pass; else fail "$1: rt goes on"; fi
     [ "$2" = KILL ] || has "$1: it is told" "$(cat "$work/said")" 'the next call goes on from here'
+    is "$1: all lines are the launcher's own" "$(grep -vc '^defmtl: ' "$work/said")" 0
     local before
     before=$(proofs)
     sleep 0.8
@@ -228,6 +294,37 @@ stopped 'a build that is ended' TERM 143
 stopped 'a build that is interrupted' INT 130
 stopped 'a build that is hung up' HUP 129
 stopped 'a build that is killed' KILL 137
+
+# interrupted WHAT SIGNAL: what was kept in the room of a crate that was under way is where the crate's own rt looks for it, and the next call uses it
+interrupted() {
+    begin 0.1
+    echo 30 > "$kit/lasts/right"; echo 30 > "$kit/slow/left"
+    ./defmtl run < /dev/null > /dev/null 2> "$work/said" &
+    local launcher=$!
+    until_true grep -q right "$kit/kept"
+    until_true has_begun 4
+    kill "-$2" "$launcher"
+    wait "$launcher" 2> /dev/null
+    for it in $(< "$kit/sleeps"); do
+        if until_true is_gone "$it"; then pass; else fail "$1: a proof goes on"; fi
+    done
+    until_true test ! -e crates/defmt_cli/out/rooms
+    is "$1: no file is left behind" "$(strays | grep -v launcher.log)" ''
+    is "$1: what was kept is the crate's own" "$(find crates/right/out/incremental -type f | wc -l)" 1
+    is "$1: what was not proved is not built" "$(find crates/right crates/left -name stamp)" ''
+    rm "$kit/lasts/right" "$kit/slow/left"
+    call run < /dev/null
+    is "$1: it goes on where the other stopped" "$status $(sort "$kit/kept" | tr '\n' ' ')" "0 $all_crates"
+}
+interrupted 'two crates that are ended' TERM
+interrupted 'two crates that are killed' KILL
+
+begin 0.1
+mkdir -p crates/defmt_cli/out/rooms/right/crates/right/out/{incremental,rlib} crates/defmt_cli/out/rooms/left/crates/left/src
+: > "crates/defmt_cli/out/rooms/right/crates/right/out/incremental/$(cat crates/right/src/* | cksum)"
+call run < /dev/null
+is 'what lies in a room that nobody cleared is used' "$status $(sort "$kit/kept" | tr '\n' ' ')" '0 defmt_cli defmt_run left low top '
+is 'and the room is cleared' "$(strays)" ''
 
 # ---- calls that wait
 
@@ -280,6 +377,7 @@ echo top > "$kit/refuses"
 call run < /dev/null
 fails 'a crate that is not proved' 70 'the program could not be built'
 has 'a crate that is not proved: what was said' "$said" 'error: top is not proved'
+is 'a crate that is not proved: no file is left behind' "$(strays | grep -v launcher.log)" ''
 rm "$kit/refuses"
 call run < <(echo hello)
 is 'a build after one that failed' "$status $wrote" '0 hello'
@@ -289,6 +387,19 @@ call run < /dev/null
 fails 'an edit that is not proved' 70 'the program could not be built'
 call run < /dev/null
 fails 'an edit that is still not proved' 70 'the program could not be built'
+begin 0.1
+echo right > "$kit/refuses"; echo 30 > "$kit/slow/left"
+call run < /dev/null
+fails 'a crate that is not proved beside another' 70 'the program could not be built'
+has 'a crate that is not proved beside another: what was said' "$said" 'error: right is not proved'
+if until_true is_gone "$(tail -n 1 "$kit/sleeps")"; then pass; else fail 'the other goes on'; fi
+is 'a crate that is not proved beside another: no file is left behind' "$(strays | grep -v launcher.log)" ''
+begin 0
+echo 247 > "$kit/killed/left"; echo 0.5 > "$kit/slow/right"
+./defmtl run < /dev/null > /dev/null 2> "$work/said" & until_true grep -q right "$kit/events"; until_true test ! -e "$kit/killed/left"; echo 9 > "$kit/killed/left"; wait $!
+is 'a crate that is killed alone too' "$?" 70
+begin 0
+call run < /dev/null
 export DEFMTL_UNPROVED=1
 echo try > "$kit/refuses"
 call run < /dev/null
