@@ -75,9 +75,6 @@ leading_zero digits h =
 no_leading_zero : (digits : List ℕ) → has_leading_zero digits ≡ false → HasLeadingZero digits → ⊥
 no_leading_zero digits h (d, more, e) = let k : has_leading_zero digits ≡ true = ap has_leading_zero e ∙ zero_is_leading d more in absurd cc
 
-leading_zero_again : (digits : List ℕ) → HasLeadingZero digits → has_leading_zero digits ≡ true
-leading_zero_again digits (d, more, e) = ap has_leading_zero e ∙ zero_is_leading d more
-
 not_leading : (digits : List ℕ) (b : Bool) → has_leading_zero digits ≡ b → (HasLeadingZero digits → ⊥) → b ≡ false
 not_leading digits true e h = absurd (h (leading_zero digits e))
 not_leading digits false e h = refl

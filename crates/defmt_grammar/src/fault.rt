@@ -56,7 +56,7 @@ impl Cause {
 }
 
 /// A cause, and its place in bytes.
-#[derive(Clone, Copy, Debug, PartialEq, Eq)]
+#[derive(Clone, Copy)]
 pub struct Fault {
     pub cause: Cause,
     pub at: usize,

@@ -7,7 +7,7 @@ ghost use Rattle.defmt_grammar.specs.Kind.{named_kind, count_of, bits_of, array_
 use crate::parts::{behind, behind_text, cut, number_of, skip_spaces};
 
 /// Why a text is no kind.
-#[derive(Clone, Copy, Debug, PartialEq, Eq)]
+#[derive(Clone, Copy)]
 pub enum KindFault {
     Unknown,
     Range,

@@ -28,7 +28,7 @@ impl Piece {
 }
 
 /// A parameter, and the place of its brace in bytes from the text's start.
-#[derive(Clone, Copy, Debug)]
+#[derive(Clone, Copy)]
 pub struct Use {
     pub at: u32,
     pub param: Param,

@@ -82,7 +82,10 @@ impl Pieces {
 fn count_at(counts: &[usize], position: usize) -> usize
     ensures { result ≡ slice_index counts.now position }
 {
-    counts.get(position).copied().unwrap_or(0)
+    match counts.get(position) {
+        Some(count) => *count,
+        None => 0,
+    }
 }
 
 /// The same pieces again.

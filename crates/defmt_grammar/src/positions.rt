@@ -12,7 +12,7 @@ use std::alloc::Global;
 
 /// What is known of a position that is used: its kind, which for bit fields spans all of them, and
 /// how often it is used.
-#[derive(Clone, Copy, Debug)]
+#[derive(Clone, Copy)]
 pub struct Held {
     pub kind: Kind,
     pub uses: usize,
