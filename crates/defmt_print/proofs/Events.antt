@@ -1,6 +1,5 @@
 -- Events that are reported one after the other.
-use Rattle.std.proofs.Common.{◌≡◌, ◌<◌, ◌+◌, ℕ, List, [], ◌∷◌, ◌++◌, length, take, get_or, flat_map, sym, ◌∙◌, ap, append_assoc}
-use Rattle.std.proofs.lemmas.Grind.{flat_map-append}
+use Rattle.std.proofs.Common.{◌≡◌, ◌<◌, ◌+◌, ℕ, List, [], ◌∷◌, ◌++◌, length, take, get_or, sym, ◌∙◌, ap, append_assoc}
 use Rattle.std.proofs.lemmas.List.{append-nil, take_more}
 use Rattle.defmt_decode.specs.declared.event.Event.{Event}
 use Rattle.defmt_listen.specs.Heard.{Reporting, lines_from, state_behind}
@@ -30,16 +29,6 @@ module _ {S E : Type 0} (r : Reporting S E) (start state : S) (list : List E) (p
   more_state after after_is =
       after_is ∙ ap (λ (s : S). r.after s event) state_is
       ∙ sym (ap (state_behind r start) more_is ∙ behind-append r start (take place list) (event ∷ []))
-
--- one element more of a list of which each has its own text
-pub more_texts : {A : Type 0} (f : A → List ℕ) (list : List A) (place : ℕ) (d : A) → place < length list
-    → (before now after : List ℕ) → now ≡ before ++ flat_map f (take place list) → after ≡ now ++ f (get_or list place d) → after ≡ before ++ flat_map f (take (place + 1) list)
-more_texts f list place d within before now after now_is after_is =
-    let front : List ℕ = flat_map f (take place list) in
-    let x = get_or list place d in
-    let text : flat_map f (take (place + 1) list) ≡ front ++ f x =
-    ap (flat_map f) (take_more list place d within) ∙ flat_map-append f (take place list) (x ∷ []) ∙ ap (λ (l : List ℕ). front ++ l) (append-nil (f x)) in
-    after_is ∙ ap (λ (l : List ℕ). l ++ f x) now_is ∙ append_assoc before front (f x) ∙ ap (λ (l : List ℕ). before ++ l) (sym text)
 
 -- a reporter that keeps events has them all
 pub keeps_all : (kept : Kept) (told : List Event) → (state_behind by_keeping kept told).events ≡ kept.events ++ told
