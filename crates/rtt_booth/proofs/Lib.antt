@@ -1,0 +1,5 @@
+pub mod Append
+pub mod Next
+pub mod Room
+pub mod Shown
+pub mod Spoken

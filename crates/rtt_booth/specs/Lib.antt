@@ -1,0 +1,3 @@
+pub mod Said
+pub mod Kept
+pub mod Codes

@@ -1,0 +1,63 @@
+// What a booth's writers share.
+ghost use Rattle.std.specs.Prelude.{◌≡◌};
+ghost use Rattle.std.specs.Coded.{Coded-set};
+ghost use Rattle.rtt_terminal.specs.Codes.{coded_speech};
+
+use crate::stand::Stand;
+use rtt_modes::Relief;
+use rtt_ring::UpEnd;
+use shared_work::{Quota, Work};
+use std::marker::{Brand, PhantomData};
+use std::sync::Wait;
+
+/// What the writers of a booth have to say, and from which split of a ring its end comes. Whoever starts a booth picks the
+/// two.
+pub trait Naming {
+    ghost use Rattle.std.specs.Prelude.{ℕ, List};
+    ghost use Rattle.rtt_terminal.specs.Speech.{Speech as ByWriter};
+
+    /// What the writers have to say.
+    ghost speech: { ByWriter };
+
+    /// The name of the split.
+    ghost split: { List ℕ };
+}
+
+impl Naming for Brand {
+    ghost use Rattle.std.specs.Prelude.{[]};
+
+    ghost speech = { [] };
+
+    ghost split = { [] };
+}
+
+/// The quota of a booth: a writer has a step for each of its texts.
+#[derive(Drop)]
+pub struct EachText<K> {
+    of: PhantomData<K>,
+}
+
+impl<K: Naming> Quota for EachText<K> {
+    ghost use Rattle.rtt_terminal.specs.Speech.{count_said};
+
+    ghost quota = { λ w. count_said K.speech w };
+}
+
+/// A stand with what its naming tells: its writers have to say what is named, and the end is from the named split.
+#[derive(Drop)]
+pub struct Speaking<K: Naming, U: UpEnd> {
+    pub(crate) stand: Stand<U>,
+    pub(crate) of: PhantomData<K>,
+    ghost speech: { stand.speech ≡ K.speech } by { Coded-set coded_speech _ _ },
+    ghost split: { stand.up.split ≡ K.split },
+}
+
+impl<K: Naming, U: UpEnd> Work<EachText<K>> for Speaking<K, U> {
+    ghost use Rattle.rtt_booth.specs.Said.{words_of};
+
+    ghost done = { λ s w. words_of w s.stand.said.words };
+
+    fn step<R: Relief, W: Wait>(&mut self, rt: &W, writer: u8, relief: &mut R) {
+        self.stand.append(rt, writer, relief)
+    }
+}

@@ -1,0 +1,9 @@
+pub mod Heads
+pub mod Items
+pub mod Lines
+pub mod ScreenLaws
+pub mod ReadingLaws
+pub mod SayableLaws
+pub mod SpeechLaws
+pub mod Taken
+pub mod Written
