@@ -1,6 +1,8 @@
 #![tactic(auto)]
 
-//! Tests of the files that carry a table, as rows of texts.
+//! Tests of the files that carry a table and of images of memory, as rows of texts.
+#[cfg(test)]
+mod dumps;
 #[cfg(test)]
 mod files;
 #[cfg(test)]

@@ -1,4 +1,5 @@
 // The rows of the tests, by what is asked of their inputs.
+use crate::dumps::{put_cuts, put_dumps, put_segments};
 use crate::symbols::{put_answer_to_header, put_answer_to_markers};
 use crate::tables::put_answer_to_symbols;
 use crate::{symbols, tables};
@@ -16,6 +17,9 @@ pub enum Kind {
     TableReadBack,
     TableAnswerToDamage,
     AnswerToSymbols,
+    Segments,
+    Dumps,
+    Cuts,
 }
 
 impl Question for Kind {
@@ -28,6 +32,9 @@ impl Question for Kind {
             Self::TableReadBack => tables::put_read_back(alloc, input, out),
             Self::TableAnswerToDamage => tables::put_answer_to_damage(alloc, input, out),
             Self::AnswerToSymbols => put_answer_to_symbols(alloc, input, out),
+            Self::Segments => put_segments(alloc, input, out),
+            Self::Dumps => put_dumps(alloc, input, out),
+            Self::Cuts => put_cuts(alloc, input, out),
         }
     }
 }

@@ -5,56 +5,9 @@ use rtt_control::{Block, Cause, ControlFault, Descriptor, Descriptors, find, rea
 use std::alloc::Global;
 use std::fmt::Write;
 use std::test::Fail;
-use test_rows::{bytes_of, each_block, each_line, put_digits, put_str};
-
-// A block with one up-descriptor, and its buffer of 16 bytes in which four wait.
-const IMAGE: &str = "\
-53 45 47 47 45 52 20 52 54 54 00 00 00 00 00 00 01 00 00 00 00 00 00 00 \
-00 00 00 00 30 00 00 20 10 00 00 00 02 00 00 00 0e 00 00 00 02 00 00 00 \
-7e 00 00 00 00 00 00 00 00 00 00 00 00 00 00 01";
+use test_rows::{each_block, each_line, image_of, put_digits, put_str};
 
 const BASE: u32 = 0x2000_0000;
-
-fn put_at(image: &mut Vec<u8>, at: usize, digits: &str) -> Result<(), Fail> {
-    for (k, pair) in digits.split_whitespace().enumerate() {
-        match image.get_mut(at.wrapping_add(k)) {
-            Some(place) => *place = u8::from_str_radix(pair, 16)?,
-            None => return Err(Fail::new("no such place")),
-        }
-    }
-    Ok(())
-}
-
-fn append(image: &mut Vec<u8>, digits: &str) -> Result<(), Fail> {
-    for pair in digits.split_whitespace() {
-        image.push(u8::from_str_radix(pair, 16)?)?;
-    }
-    Ok(())
-}
-
-fn change(image: &mut Vec<u8>, step: &str) -> Result<(), Fail> {
-    let (what, rest) = parted(step);
-    match what {
-        "image" => append(image, IMAGE)?,
-        "bytes" => append(image, rest)?,
-        "zeros" => image.resize(rest.parse::<u8>()? as usize, 0)?,
-        "cut" => image.truncate(rest.parse::<usize>()?),
-        _ => put_at(image, what.parse::<usize>()?, rest)?,
-    }
-    Ok(())
-}
-
-// The image of these steps: the one above, zeros or bytes, then the cut of its end, or bytes at a place.
-fn image_of(alloc: Global, steps: &str) -> Result<Vec<u8>, Fail> {
-    let mut image = Vec::new(alloc);
-    for step in steps.split('|') {
-        change(&mut image, step)?;
-    }
-    if image.len() > 1000 {
-        return Err(Fail::new("the image is too long"));
-    }
-    Ok(image)
-}
 
 fn put_fault(fault: ControlFault, out: &mut String) -> Result<(), Fail> {
     match fault {
@@ -201,7 +154,7 @@ pub fn put_waiting(alloc: Global, row: &str, out: &mut String) -> Result<(), Fai
     let (base, rest) = parted(row);
     let base = number(base)?;
     let descriptor = descriptor_of(rest)?;
-    put_unread(alloc, &bytes_of(alloc, IMAGE)?, base, &descriptor, out)
+    put_unread(alloc, &image_of(alloc, "image")?, base, &descriptor, out)
 }
 
 #[test]

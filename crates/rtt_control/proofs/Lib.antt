@@ -4,3 +4,4 @@ pub mod PartLemmas
 pub mod ReadBack
 pub mod Refusals
 pub mod RoundLemmas
+pub mod StoredLaws

@@ -1,5 +1,5 @@
-ghost use Rattle.std.specs.Prelude.{◌≡◌, ◌+◌, ◌*◌, ◌-◌, ◌<◌, ◌≤◌, ◌^◌, ◌%◌, ◌++◌, [], length, drop, Ok, Err, IfOk, OnOk, OnErr, IfErr, All};
-ghost use Rattle.rtt_control.specs.Layout.{IsWords, block_bytes, block_len, block_of, descriptors_at, round, starts_with_id, waiting, with_bytes};
+ghost use Rattle.std.specs.Prelude.{◌≡◌, ◌+◌, ◌*◌, ◌-◌, ◌<◌, ◌≤◌, ◌^◌, ◌%◌, ◌++◌, length, Ok, Err, IfOk, OnOk, OnErr, IfErr, All};
+ghost use Rattle.rtt_control.specs.Layout.{IsWords, block_bytes, block_len, block_of, descriptors_at, round, waiting, with_bytes};
 ghost use Rattle.rtt_control.specs.Checks.{HasBlock, HasId, HasSpace, IsFirstRefusal, IsRefusal, Passes, read_subject, unread_subject, write_subject};
 ghost use Rattle.rtt_control.specs.Ids.{IsFindFault, IsOnly};
 ghost use Rattle.rtt_control.specs.Control.{IsAnswer, block_at, found, unread_of, written};
@@ -8,7 +8,7 @@ use crate::block::{Block, Descriptor, Descriptors};
 use crate::bytes::{ID, has_id, put, put_descriptors, put_words, read_descriptor};
 use crate::checks::{cause, check_all, has_space};
 use crate::fault::{Cause, ControlFault};
-use byte_images::word_at;
+use crate::up::checked_counts;
 use dl_io::{Bytes, Memory};
 use std::alloc::Global;
 
@@ -74,24 +74,11 @@ fn read_block(alloc: Global, image: &[u8], base: u32, at: u32) -> Result<Block, 
     ensures answer { IfOk result (λ block. block_at image.now base at ≡ Ok block) }
     ensures fault { IfErr result (IsAnswer (block_at image.now base at)) }
 {
-    let place = at as usize;
-    if !has_id_at(image, place) {
-        return Err(Cause::NoId.at(at));
-    }
-    if image.len() < place + 24 {
-        return Err(Cause::Bounds.at(at));
-    }
-    let ups = word_at(image, place + 16) as usize;
-    let downs = word_at(image, place + 20) as usize;
-    if image.len() < place + (24 + 24 * (ups + downs)) {
-        return Err(Cause::Bounds.at(at));
-    }
-    let up = read_descriptors(alloc, image, place + 24, ups)?;
-    let down = read_descriptors(alloc, image, place + 24 + 24 * ups, downs)?;
-    match check_all(image.len(), base, up.as_slice(), down.as_slice()) {
-        Some(fault) => Err(fault),
-        None => Ok(Block { up, down }),
-    }
+    let place = at as usize + 24;
+    let counts = checked_counts(image, base, at)?;
+    let up = read_descriptors(alloc, image, place, counts.ups)?;
+    let down = read_descriptors(alloc, image, place + 24 * counts.ups, counts.downs)?;
+    Ok(Block { up, down })
 }
 
 fn read_descriptors(
@@ -109,15 +96,6 @@ fn read_descriptors(
         list.push(read_descriptor(image, at + 24 * i))?;
     }
     Ok(list)
-}
-
-fn has_id_at(image: &[u8], at: usize) -> bool
-    ensures { result ≡ starts_with_id (drop at image.now) }
-{
-    match image.get(at..) {
-        Some(rest) => has_id(rest),
-        None => has_id(&[]),
-    }
 }
 
 /// Puts the block at the place `at` of an image of fewer than 4,294,967,296 bytes, whose first byte has

@@ -1,10 +1,11 @@
 //! The checks of descriptors.
 ghost use Rattle.std.specs.Prelude.{◌≡◌, ◌+◌, ◌*◌, ◌<◌, ◌≤◌, ◌++◌, ◌↔◌, ◌^◌, length, IsNone, IsTrue};
-ghost use Rattle.rtt_control.specs.Layout.{block_len};
+ghost use Rattle.rtt_control.specs.Layout.{block_len, descriptors_at};
 ghost use Rattle.rtt_control.specs.Checks.{HasOffsets, LiesIn};
 ghost use Rattle.rtt_control.specs.Control.{has_offsets as offsets, lies_in as lies, has_mode as mode, cause_of, first_refusal};
 
 use crate::block::Descriptor;
+use crate::bytes::read_descriptor;
 use crate::fault::{Cause, ControlFault};
 
 fn lies_in(size: usize, base: u32, d: &Descriptor) -> bool
@@ -78,6 +79,21 @@ pub(crate) fn check_all(
         Some(fault) => Some(fault),
         None => check(size, base, down, up.len() as u32),
     }
+}
+
+// The first refusal of so many descriptors that stand one behind another in an image.
+pub(crate) fn check_stored(image: &[u8], base: u32, at: usize, count: usize) -> Option<ControlFault>
+    requires short { length image.now < 2 ^ 32 }
+    requires fits { at + 24 * count ≤ length image.now }
+    ensures { result ≡ first_refusal (length image.now) base 0 (descriptors_at image.now at count) }
+{
+    for i in 0..count {
+        let descriptor = read_descriptor(image, at + 24 * i);
+        if let Some(cause) = cause(image.len(), base, &descriptor) {
+            return Some(cause.at(i as u32));
+        }
+    }
+    None
 }
 
 // Whether a block of so many descriptors fits at the place.

@@ -10,8 +10,10 @@ mod bytes;
 mod calls;
 mod checks;
 mod fault;
+mod up;
 
 pub use block::{Block, Descriptor, Descriptors};
 pub use bytes::{ID, put, put_descriptor, put_words};
 pub use calls::{find, read, unread, write};
 pub use fault::{Cause, ControlFault};
+pub use up::read_up;

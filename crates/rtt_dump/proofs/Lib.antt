@@ -1,0 +1,12 @@
+pub mod FlawLemmas
+pub mod LoadedLemmas
+pub mod IdLemmas
+pub mod ChannelLemmas
+pub mod ImageLemmas
+pub mod PartLemmas
+pub mod HeaderLemmas
+pub mod CoreLaws
+pub mod RefusalLaws
+pub mod SearchLaws
+pub mod KeptLaws
+pub mod TwoLaws
