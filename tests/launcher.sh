@@ -150,7 +150,7 @@ is 'a first build' "$status" 0
 is 'the words' "$wrote" $'words\na\nb  c'
 is 'each crate is proved once, test crates and those aside are not' "$(proofs)" "$all_crates"
 has 'the program is the proved one' "$said" 'proved one'
-has 'how far a build is' "$said" 'crate 2 of 6 is done: left'
+has 'how far a build is' "$said" 'crate 2 of 6 is done: '
 has 'how long it will take' "$said" 'About '
 has 'how long the first build takes' "$said" 'about 20 minutes on four processors, 32 on two'
 is 'a crate that stands alone gets all processors' "$(grep -c '^low lib --jobs 4\|^top lib --jobs 4\|^defmt_cli run --jobs 4' "$kit/calls")" 3

@@ -60,8 +60,8 @@ s error4 defmt_error {=u8} {=u16} leg {} of {=istr}
 s error5 defmt_error {=u8} {=u16} bits {=i32} {=bool}
 s error6 defmt_error {=u8} {=u16} state {:x}";
 
-// The statements of a round, of which each string has one: the writer, the string and the arguments. These begin with the writer and a number, which has the
-// round in front of its last digit.
+// The statements of a round, of which each string has one or two: the writer, the string and the arguments. These begin with the writer and a
+// number, which has the round in front of its last digit.
 const ROUND: &str = r#"0 trace0 0 %0 pt(num(3) opt:1(num(255)))
 1 debug0 1 %0 pt(num(3) opt:1(num(255)))
 2 info0 2 %0 pt(num(3) opt:1(num(255)))
