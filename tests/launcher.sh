@@ -188,10 +188,15 @@ for crate in left right; do
     is "the longest chain comes first, which is that of $crate" "$(sed -n 's/^begin //p' "$kit/events" | sed -n 2p)" "$crate"
     is 'on one processor each crate has one job' "$(grep -vc ' --jobs 1' "$kit/calls")" 0
     begin 0.1
+    echo 3 > "$kit/processors"
     long "$crate"
     call run < /dev/null
-    is "the longest chain has more jobs, which is that of $crate" "$(grep '^left\|^right' "$kit/calls" | sed -n 's/ lib --jobs 3//p')" "$crate"
+    is "the longest chain has more jobs, which is that of $crate" "$(grep '^left\|^right' "$kit/calls" | sed -n 's/ lib --jobs 2//p')" "$crate"
 done
+
+begin 0.1
+call run < /dev/null
+is 'crates that can be proved side by side share the processors' "$(grep -c '^\(left\|right\) lib --jobs 2' "$kit/calls")" 2
 
 begin 0.1
 echo 3 > "$kit/memory"
