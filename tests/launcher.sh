@@ -154,7 +154,7 @@ has 'how far a build is' "$said" 'crate 2 of 6 is done: '
 has 'how long it will take' "$said" 'About '
 has 'how long the first build takes' "$said" 'about 20 minutes on four processors, 32 on two'
 is 'a crate that stands alone gets all processors' "$(grep -c '^low lib --jobs 4\|^top lib --jobs 4\|^defmt_cli run --jobs 4' "$kit/calls")" 3
-is 'two side by side share the processors' "$(grep '^left\|^right' "$kit/calls" | grep -o '[0-9]*$' | sort | tr '\n' ' ')" '1 3 '
+is 'two side by side share the processors' "$(grep '^left\|^right' "$kit/calls" | grep -o '[0-9]*$' | sort | tr '\n' ' ')" '2 2 '
 is 'each crate has one call, but the last library has none of its own' "$(calls)" 5
 is 'nothing else is kept of the last library' "$(find crates/defmt_run/out/incremental -type f | wc -l)" 1
 until_true is_tidy
@@ -193,10 +193,6 @@ for crate in left right; do
     call run < /dev/null
     is "the longest chain has more jobs, which is that of $crate" "$(grep '^left\|^right' "$kit/calls" | sed -n 's/ lib --jobs 2//p')" "$crate"
 done
-
-begin 0.1
-call run < /dev/null
-is 'crates that can be proved side by side share the processors' "$(grep -c '^\(left\|right\) lib --jobs 2' "$kit/calls")" 2
 
 begin 0.1
 echo 3 > "$kit/memory"
