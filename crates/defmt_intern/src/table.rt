@@ -47,12 +47,12 @@ impl<T: Drop> From<AllocFailed<T>> for TableFault {
     }
 }
 
-/// How the messages of a table are to be laid out. No message depends on it yet: each is laid out as One says.
+/// How the messages of a table are laid out.
 #[derive(Clone, Copy, Debug, Drop, PartialEq, Eq)]
 pub enum Profile {
     /// A message is its index, its stamp and its arguments.
     One,
-    /// The same with the number of its mark behind the index; nothing writes or reads it yet.
+    /// The same with the number of its mark behind the index.
     Two,
 }
 

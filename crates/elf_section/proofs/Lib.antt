@@ -7,5 +7,6 @@ pub mod ListedLaws
 pub mod ReadLaws
 pub mod WritingLaws
 pub mod FieldLaws
+pub mod Rows
 pub mod ReadBack
 pub mod ReadSymbols

@@ -4,12 +4,12 @@ use Rattle.std.proofs.lemmas.List.{length-replicate, append-nil}
 use Rattle.byte_images.specs.Fields.{number}
 use Rattle.byte_images.proofs.FieldLaws.{number_behind, number_front}
 use Rattle.elf_section.specs.File.{section_len, class_of, header_in, header, section, section_in}
-use Rattle.elf_section.specs.Written.{half, word, header_bytes, symbol_bytes, section_bytes, entries, symbol_table, string_table, section_names, padding_len, table_len, strings_len, names_at, sections_at, section_headers, written, IsWritable}
+use Rattle.elf_section.specs.Written.{half, word, header_bytes, symbol_bytes, section_bytes, entries, symbol_table, string_table, section_names, padding_len, table_len, strings_len, names_at, sections_at, section_headers, written_rows, Row}
 use Rattle.elf_section.specs.declared.file.Class.{Class}
 use Rattle.elf_section.specs.declared.file.Class.TheVariants.{Elf32}
 use Rattle.elf_section.specs.declared.file.Header.{Header}
-use Rattle.elf_section.specs.Symbol.{PlainSymbol}
-use Rattle.elf_section.proofs.WritingLaws.{regroup4, names_short}
+use Rattle.elf_section.proofs.WritingLaws.{regroup4}
+use Rattle.elf_section.proofs.Rows.{AreWritable}
 use Rattle.elf_section.proofs.FieldLaws.{length_half, number_word, number_half, length_section, section_written, length_symbol, skip, skip_half, length_more, number_last_half}
 
 half_more : (x : ℕ) (rest : List ℕ) (n : ℕ) → length rest ≡ n → length (half x ++ rest) ≡ 2 + n
@@ -27,26 +27,22 @@ length_tail so = half_more 2 _ 34 (half_more 40 _ 32 (length_more 1 _ 28 (length
 pub length_header : (so : ℕ) → length (header_bytes so) ≡ 52
 length_header so = length-append ident (tail_of so) ∙ ap (λ (n : ℕ). 16 + n) (length_tail so)
 
-length_entries : (at : ℕ) (xs : List PlainSymbol) → length (entries at xs) ≡ 16 * length xs
+length_entries : (at : ℕ) (xs : List Row) → length (entries at xs) ≡ 16 * length xs
 length_entries at [] = refl
 length_entries at (x ∷ xs) =
-    let a = length-append (symbol_bytes at x.value 16 1) (entries (at + length x.name + 1) xs) in
-    let b = length_symbol at x.value 16 1 in
+    let a = length-append (symbol_bytes at x.value 16 x.section) (entries (at + length x.name + 1) xs) in
+    let b = length_symbol at x.value 16 x.section in
     let c = length_entries (at + length x.name + 1) xs in
     omega (arith, a, b, c)
 
-pub length_table : (xs : List PlainSymbol) → length (symbol_table xs) ≡ table_len xs
+pub length_table : (xs : List Row) → length (symbol_table xs) ≡ table_len xs
 length_table xs =
-    let a = length-append (symbol_bytes 0 0 0 0) (symbol_bytes 1 1 16 0xfff1 ++ (symbol_bytes 21 1 16 0xfff1 ++ entries 47 xs)) in
-    let b = length-append (symbol_bytes 1 1 16 0xfff1) (symbol_bytes 21 1 16 0xfff1 ++ entries 47 xs) in
-    let c = length-append (symbol_bytes 21 1 16 0xfff1) (entries 47 xs) in
-    let d = length_symbol 0 0 0 0 in
-    let e = length_symbol 1 1 16 0xfff1 in
-    let f = length_symbol 21 1 16 0xfff1 in
-    let g = length_entries 47 xs in
-    omega (arith, a, b, c, d, e, f, g)
+    let a = length-append (symbol_bytes 0 0 0 0) (entries 1 xs) in
+    let b = length_symbol 0 0 0 0 in
+    let c = length_entries 1 xs in
+    omega (arith, a, b, c)
 
-pub length_strings : (xs : List PlainSymbol) → length (string_table xs) ≡ strings_len xs
+pub length_strings : (xs : List Row) → length (string_table xs) ≡ strings_len xs
 length_strings xs = omega arith
 
 -- ---- the header of a file that begins with these bytes
@@ -74,7 +70,7 @@ last4 a b c d e = simp (append_assoc, append-nil)
 
 -- ---- the five sections
 
-module _ (xs : List PlainSymbol) (w : IsWritable xs) where
+module _ (xs : List Row) (w : AreWritable xs) where
   so : ℕ
   so = sections_at xs
 
@@ -87,12 +83,12 @@ module _ (xs : List PlainSymbol) (w : IsWritable xs) where
   abbrev pub F : List ℕ
   F = H ++ (symbol_table xs ++ (string_table xs ++ (section_names ++ (Z ++ section_headers xs))))
 
-  pub whole : written xs ≡ F
-  unfolding written
+  pub whole : written_rows xs ≡ F
+  unfolding written_rows
   whole = refl
 
   small : sections_at xs < 2 ^ 32
-  small = let a = w.few in let b = names_short xs w in omega arith
+  small = let a = w.few in let b = w.short in omega arith
 
   pub class_is : class_of F ≡ Elf32
   class_is = class_of_bytes (sections_at xs) _
@@ -163,12 +159,12 @@ module _ (xs : List PlainSymbol) (w : IsWritable xs) where
   pub section_3 : section F 3 ≡ record { name = 16; kind = 3; flags = 0; offset = 52 + table_len xs; size = strings_len xs; link = 0; entry_size = 0 }
   section_3 = block 3 (B0 ++ (B1 ++ B2)) B4 16 3 (52 + table_len xs) (strings_len xs) 0 0 1 0 (regroup3 B0 B1 B2 (B3 ++ B4))
       (let a = length-append B0 (B1 ++ B2) in let d = length-append B1 B2 in let b = length_section 0 0 0 0 0 0 0 0 in let c = length_section 1 1 52 0 0 0 1 0 in let e = length_section 8 2 52 (table_len xs) 3 1 4 16 in omega (arith, a, b, c, d, e))
-      (omega arith) (omega arith) (let f = w.few in omega arith) (let f = names_short xs w in omega arith) (omega arith) (omega arith)
+      (omega arith) (omega arith) (let f = w.few in omega arith) (let f = w.short in omega arith) (omega arith) (omega arith)
 
   pub section_4 : section F 4 ≡ record { name = 24; kind = 3; flags = 0; offset = names_at xs; size = 34; link = 0; entry_size = 0 }
   section_4 = block 4 (B0 ++ (B1 ++ (B2 ++ B3))) [] 24 3 (names_at xs) 34 0 0 1 0 (last4 B0 B1 B2 B3 B4)
       (let a = length-append B0 (B1 ++ (B2 ++ B3)) in let d = length-append B1 (B2 ++ B3) in let g = length-append B2 B3 in let b = length_section 0 0 0 0 0 0 0 0 in let c = length_section 1 1 52 0 0 0 1 0 in let e = length_section 8 2 52 (table_len xs) 3 1 4 16 in let h = length_section 16 3 (52 + table_len xs) (strings_len xs) 0 0 1 0 in omega (arith, a, b, c, d, e, g, h))
-      (omega arith) (omega arith) (let f = w.few in let g = names_short xs w in omega arith) (omega arith) (omega arith) (omega arith)
+      (omega arith) (omega arith) (let f = w.few in let g = w.short in omega arith) (omega arith) (omega arith) (omega arith)
 
   length_X : length (section_headers xs) ≡ 200
   length_X =

@@ -2,7 +2,7 @@
 use Rattle.std.proofs.Common.{◌≡◌, ◌≤◌, ◌<◌, ◌+◌, inl, inr, ℕ, zero, suc, List, refl, sym, ap, subst, ◌∙◌, arith}
 use Rattle.std.proofs.lemmas.Bool.{cases_lt}
 use Rattle.byte_images.proofs.FirstLaws.{one_first_check}
-use Rattle.elf_section.specs.Checks.{Check, is_elf, has_class, is_little, has_header, has_sections, has_entry_size, has_section_headers, has_names, has_section_name, has_defmt, has_symbols, has_table, has_plain_strings, has_strings, has_symbol_name, has_version, has_encoding, place, Holds, refusal, Refusal, Passes, Refused, Passed}
+use Rattle.elf_section.specs.Checks.{Check, is_elf, has_class, is_little, has_header, has_sections, has_entry_size, has_section_headers, has_names, has_section_name, has_defmt, has_symbols, has_table, has_plain_strings, has_strings, has_symbol_name, has_version, has_encoding, has_profile, place, Holds, refusal, Refusal, Passes, Refused, Passed}
 
 -- ---- checks by their places
 
@@ -24,7 +24,8 @@ check_at (suc (suc (suc (suc (suc (suc (suc (suc (suc (suc (suc (suc zero)))))))
 check_at (suc (suc (suc (suc (suc (suc (suc (suc (suc (suc (suc (suc (suc zero))))))))))))) i = has_strings i
 check_at (suc (suc (suc (suc (suc (suc (suc (suc (suc (suc (suc (suc (suc (suc zero)))))))))))))) i = has_symbol_name i
 check_at (suc (suc (suc (suc (suc (suc (suc (suc (suc (suc (suc (suc (suc (suc (suc zero))))))))))))))) i = has_version
-check_at (suc (suc (suc (suc (suc (suc (suc (suc (suc (suc (suc (suc (suc (suc (suc (suc n)))))))))))))))) i = has_encoding
+check_at (suc (suc (suc (suc (suc (suc (suc (suc (suc (suc (suc (suc (suc (suc (suc (suc zero)))))))))))))))) i = has_encoding
+check_at (suc (suc (suc (suc (suc (suc (suc (suc (suc (suc (suc (suc (suc (suc (suc (suc (suc n))))))))))))))))) i = has_profile
 
 pub check_there : (check : Check) → check_at (place check).row (place check).index ≡ check
 check_there is_elf = refl
@@ -44,6 +45,7 @@ check_there (has_strings i) = refl
 check_there (has_symbol_name i) = refl
 check_there has_version = refl
 check_there has_encoding = refl
+check_there has_profile = refl
 
 -- the row of a check, if its row is n
 pub at_row : (check : Check) (n : ℕ) → (place check).row ≡ n → check_at n (place check).index ≡ check
@@ -69,8 +71,8 @@ passed_more file n p h = record {
 pub passed_fewer : (file : List ℕ) (m n : ℕ) → m ≤ n → Passed file n → Passed file m
 passed_fewer file m n le p = record { all = λ check l. p.all check (omega arith) }
 
--- each row is below 17
-below : (check : Check) → (place check).row < 17
+-- each row is below 18
+below : (check : Check) → (place check).row < 18
 below is_elf = omega arith
 below has_class = omega arith
 below is_little = omega arith
@@ -88,8 +90,9 @@ below (has_strings i) = omega arith
 below (has_symbol_name i) = omega arith
 below has_version = omega arith
 below has_encoding = omega arith
+below has_profile = omega arith
 
-pub passes : (file : List ℕ) → Passed file 17 → Passes file
+pub passes : (file : List ℕ) → Passed file 18 → Passes file
 passes file p check = p.all check (below check)
 
 -- ---- refusals

@@ -1,5 +1,5 @@
 -- The symbol table, its names and its markers.
-use Rattle.std.proofs.Common.{inl, inr, ◌≡◌, ◌≢◌, ◌≤◌, ◌<◌, ◌+◌, ◌*◌, ◌/◌, ℕ, Bool, true, false, not, List, length, Option, Some, None, Bor, bytes_eq, refl, sym, ap, subst, ◌∙◌, arith, MatchBool}
+use Rattle.std.proofs.Common.{inl, inr, ◌≡◌, ◌≢◌, ◌≤◌, ◌<◌, ◌+◌, ◌*◌, ◌/◌, ℕ, Bool, true, false, not, List, length, Option, Some, None, Bor, bytes_eq, refl, sym, ap, subst, ◌∙◌, arith, MatchBool, get_or, ◌⊎◌, codes}
 use Rattle.std.specs.Prelude.{IsSome, is_some}
 use Rattle.std.specs.Option.{option_copied}
 use Rattle.std.proofs.lemmas.Bool.{cases_lt}
@@ -7,7 +7,9 @@ use Rattle.std.proofs.lemmas.List.{append_cancel_left}
 use Rattle.std.proofs.lemmas.Slice.Eq.{bytes_eq-Decides}
 use Rattle.elf_section.specs.Bytes.{IsUnquoted, IsBehind}
 use Rattle.elf_section.specs.File.{header, section, symbol_len, class_of, Fits, IsSymbols, HasSymbols, strings, count, symbol, symbol_name}
-use Rattle.elf_section.specs.Checks.{refusal, Refused, Passed, IsTable, Says, SaysIn, HasMarker, SaysSome, Seen}
+use Rattle.defmt_intern.specs.declared.table.Profile.{Profile}
+use Rattle.defmt_intern.specs.declared.table.Profile.TheVariants as profiles
+use Rattle.elf_section.specs.Checks.{refusal, Refused, Passed, IsTable, Says, SaysIn, SaysAny, IsSaid, SaysOnly, HasMarker, SayProfile, SaysTwo, ProfileIs, profile_front, profile_word, SaysSome, Seen}
 use Rattle.elf_section.specs.Checks as check
 use Rattle.elf_section.specs.declared.file.Class.{Class}
 use Rattle.elf_section.specs.declared.file.Class.TheVariants.{Elf32, Elf64}
@@ -123,3 +125,45 @@ same_by a b false e f = absurd cc
 
 pub same_bytes : (a b : List ℕ) → false ≡ not (bytes_eq a b) → a ≡ b
 same_bytes a b e = same_by a b (bytes_eq a b) refl e
+
+-- ---- the profile
+
+-- no symbol up to this one says the front
+pub none_more : (file : List ℕ) (i : ℕ) (front : List ℕ) (k : ℕ) → ((j : ℕ) → j < k → SaysAny file i front j → ⊥) → (SaysAny file i front k → ⊥) → (j : ℕ) → j < k + 1 → SaysAny file i front j → ⊥
+none_more file i front k before here j l any = elim (cases_lt j k) [
+  | inl less ↦ before j less any
+  | inr le ↦ here (subst (SaysAny file i front) (let same : j ≡ k = omega arith in same) any)
+]
+
+pub only_marked : (file : List ℕ) (i : ℕ) (front value : List ℕ) → IsSaid file i front → SaysOnly file i front value → HasMarker file i front value
+only_marked file i front value said only = record {
+  number = said.0;
+  some = subst (Says file i front said.0) (only.every said.0 said.1.0 said.1.1) said.1.1;
+  every = only.every;
+}
+
+-- what is told of the symbols holds of the file
+pub holds_of : (file : List ℕ) (i : ℕ) (profile : Profile) → SayProfile file i (Some profile) → SaysOnly file i profile_front (profile_word profiles.One) ⊎ SaysOnly file i profile_front (profile_word profiles.Two)
+holds_of file i profiles.One said = inl said
+holds_of file i profiles.Two said = inr (record { every = said.every })
+
+pub holds_not : (file : List ℕ) (i : ℕ) → SayProfile file i None → SaysOnly file i profile_front (profile_word profiles.One) ⊎ SaysOnly file i profile_front (profile_word profiles.Two) → ⊥
+holds_not file i said (inl one) = said.0 one
+holds_not file i said (inr two) = said.1 two
+
+-- where each symbol says 1, none says 2
+pub one_not_two : (file : List ℕ) (i : ℕ) → IsSymbols file i → SaysOnly file i profile_front (profile_word profiles.One) → SaysTwo file → ⊥
+one_not_two file i s only two =
+    let same : two.0 ≡ i = one_first file (HasSymbols file) two.0 i two.2 s in
+    let here : Says file i profile_front two.1 (codes "2") = subst (λ (n : ℕ). Says file n profile_front two.1 (codes "2")) same two.3 in
+    let e : codes "2" ≡ codes "1" = only.every two.1 (codes "2") here in
+    let n : 50 ≡ 49 = ap (λ (t : List ℕ). get_or t 0 0) e in
+    absurd (omega (arith, n))
+
+pub profile_of : (file : List ℕ) (i : ℕ) (profile : Profile) → IsSymbols file i → SayProfile file i (Some profile) → ProfileIs file profile
+profile_of file i profiles.One s said = one_not_two file i s said
+profile_of file i profiles.Two s said = (i, said.number, s, said.some)
+
+pub passed_profile : (file : List ℕ) (i : ℕ) (profile : Profile) → Passed file 17 → IsSymbols file i → SayProfile file i (Some profile) → Passed file 18
+passed_profile file i profile p s said =
+    passed_more file 17 p (λ _ j t. for_symbols file i (λ n. SaysOnly file n profile_front (profile_word profiles.One) ⊎ SaysOnly file n profile_front (profile_word profiles.Two)) s (holds_of file i profile said) j t)

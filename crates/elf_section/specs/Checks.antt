@@ -1,15 +1,18 @@
 -- The checks of a file in their order, and the refusal of each.
--- Fields and types are those of the ELF gABI; the two marker symbols are defmt's (defmt book, "Interning").
+-- Fields and types are those of the ELF gABI; the markers of the version and the encoding are defmt's (defmt book, "Interning"),
+-- that of the profile is this project's own.
 use Rattle.std.specs.Prelude.{◌≡◌, ◌≤◌, ◌<◌, ◌+◌, ◌*◌, ◌%◌, ◌⊎◌, ℕ, List, [], ◌∷◌, ◌++◌, length, take, slice_index, Option, Some, None, IsSome, codes, Result, Ok, Err, ⊤, Bool, true, false}
 use Rattle.std.specs.Borrow.{Bor}
 use Rattle.byte_images.specs.First.{Place, FirstToFail}
+use Rattle.defmt_intern.specs.declared.table.Profile.{Profile}
+use Rattle.defmt_intern.specs.declared.table.Profile.TheVariants as profiles
 use Rattle.elf_section.specs.Bytes.{IsUnquoted}
 use Rattle.elf_section.specs.File.{header_len, section_len, symbol_len, class_of, header, section, Fits, section_name, IsPlain, IsDefmt, IsSymbols, strings, count, symbol_name}
 use Rattle.elf_section.specs.declared.fault.Part.{Part}
 use Rattle.elf_section.specs.declared.fault.Part.TheVariants as parts
 use Rattle.elf_section.specs.declared.fault.Fault.{Fault}
 use Rattle.elf_section.specs.declared.fault.Cause.{Cause}
-use Rattle.elf_section.specs.declared.fault.Cause.TheVariants.{Magic, Class as WrongClass, Order, Bounds, NoSection, NoSymbols, Version as WrongVersion, Encoding as WrongEncoding}
+use Rattle.elf_section.specs.declared.fault.Cause.TheVariants.{Magic, Class as WrongClass, Order, Bounds, NoSection, NoSymbols, Version as WrongVersion, Encoding as WrongEncoding, Profile as WrongProfile}
 
 -- i is the number of the section of the symbols, k that of a symbol
 pub data Check : Type 0 where
@@ -30,6 +33,7 @@ pub data Check : Type 0 where
   has_symbol_name : ℕ → Check
   has_version : Check
   has_encoding : Check
+  has_profile : Check
 
 abbrev pub place : Check → Place
 place is_elf = record { row = 0; index = 0 }
@@ -49,6 +53,7 @@ place (has_strings i) = record { row = 13; index = i }
 place (has_symbol_name k) = record { row = 14; index = k }
 place has_version = record { row = 15; index = 0 }
 place has_encoding = record { row = 16; index = 0 }
+place has_profile = record { row = 17; index = 0 }
 
 -- what a symbol table must have
 pub record IsTable (file : List ℕ) (i : ℕ) : Type 0 where
@@ -79,12 +84,24 @@ pub record HasMarker (file : List ℕ) (i : ℕ) (front value : List ℕ) : Type
   pub some : Says file i front number value
   pub every : (k : ℕ) (rest : List ℕ) → Says file i front k rest → rest ≡ value
 
--- how the names of the two markers begin
+-- every symbol that says `front` says this rest; there may be none
+pub record SaysOnly (file : List ℕ) (i : ℕ) (front value : List ℕ) : Type 0 where
+  pub every : (k : ℕ) (rest : List ℕ) → Says file i front k rest → rest ≡ value
+
+-- how the names of the markers begin
 abbrev pub version_front : List ℕ
 version_front = codes "_defmt_version_ = "
 
 abbrev pub encoding_front : List ℕ
 encoding_front = codes "_defmt_encoding_ = "
+
+abbrev pub profile_front : List ℕ
+profile_front = codes "_defmt_profile_ = "
+
+-- what stands behind the last
+abbrev pub profile_word : Profile → List ℕ
+profile_word profiles.One = codes "1"
+profile_word profiles.Two = codes "2"
 
 abbrev pub Holds : List ℕ → Check → Type 0
 Holds file is_elf = (16 ≤ length file) × (take 4 file ≡ 0x7f ∷ 0x45 ∷ 0x4c ∷ 0x46 ∷ [])
@@ -104,6 +121,17 @@ Holds file (has_strings i) = IsSymbols file i → Fits file (strings file i)
 Holds file (has_symbol_name k) = (i : ℕ) → IsSymbols file i → 0 < k → k < count file i → IsSome (symbol_name file i k)
 Holds file has_version = (i : ℕ) → IsSymbols file i → HasMarker file i version_front (codes "4")
 Holds file has_encoding = (i : ℕ) → IsSymbols file i → HasMarker file i encoding_front (codes "rzcobs")
+Holds file has_profile = (i : ℕ) → IsSymbols file i
+    → SaysOnly file i profile_front (profile_word profiles.One) ⊎ SaysOnly file i profile_front (profile_word profiles.Two)
+
+-- some symbol says the second profile
+abbrev pub SaysTwo : List ℕ → Type 0
+SaysTwo file = (i : ℕ) × (k : ℕ) × IsSymbols file i × Says file i profile_front k (profile_word profiles.Two)
+
+-- the profile that a file says: the second where some symbol says so, else the first
+abbrev pub ProfileIs : List ℕ → Profile → Type 0
+ProfileIs file profiles.One = SaysTwo file → ⊥
+ProfileIs file profiles.Two = SaysTwo file
 
 -- a refusal as it is answered
 pub record Refusal : Type 0 where
@@ -120,6 +148,7 @@ number_of NoSection = 5
 number_of NoSymbols = 6
 number_of WrongVersion = 7
 number_of WrongEncoding = 8
+number_of WrongProfile = 9
 
 abbrev pub refusal_of : Fault → Refusal
 refusal_of fault = record { cause = number_of fault.cause; part = fault.part; place = fault.place }
@@ -150,6 +179,7 @@ refusal file (has_strings i) = outside parts.Strings (section file i).link
 refusal file (has_symbol_name k) = outside parts.SymbolName k
 refusal file has_version = because WrongVersion
 refusal file has_encoding = because WrongEncoding
+refusal file has_profile = because WrongProfile
 
 -- no check refuses the file
 abbrev pub Passes : List ℕ → Type 0
@@ -170,12 +200,33 @@ abbrev pub Goes : List ℕ → ℕ → Result ⊤ Fault → Type 0
 Goes file n (Ok done) = Passed file n
 Goes file n (Err fault) = Refused file (refusal_of fault)
 
+-- all checks hold and the file says this profile, or the file is refused
+abbrev pub Tells : List ℕ → Result Profile Fault → Type 0
+Tells file (Ok profile) = Passed file 18 × ProfileIs file profile
+Tells file (Err fault) = Refused file (refusal_of fault)
+
 -- a number of which this holds, or the file is refused
 abbrev pub Finds : List ℕ → (ℕ → Type 0) → Result ℕ Fault → Type 0
 Finds file Has (Ok i) = Has i
 Finds file Has (Err fault) = Refused file (refusal_of fault)
 
 -- ---- for private clauses
+
+-- symbol k says something behind `front`
+abbrev pub SaysAny : List ℕ → ℕ → List ℕ → ℕ → Type 0
+SaysAny file i front k = (rest : List ℕ) × Says file i front k rest
+
+-- some symbol does
+abbrev pub IsSaid : List ℕ → ℕ → List ℕ → Type 0
+IsSaid file i front = (k : ℕ) × SaysAny file i front k
+
+-- the profile that the symbols say, or that they say what no file may
+abbrev pub SayProfile : List ℕ → ℕ → Option Profile → Type 0
+SayProfile file i None =
+    (SaysOnly file i profile_front (profile_word profiles.One) → ⊥)
+    × (SaysOnly file i profile_front (profile_word profiles.Two) → ⊥)
+SayProfile file i (Some profiles.One) = SaysOnly file i profile_front (profile_word profiles.One)
+SayProfile file i (Some profiles.Two) = HasMarker file i profile_front (profile_word profiles.Two)
 
 -- whether one of the symbols below n says it
 abbrev pub SaysSome : List ℕ → ℕ → List ℕ → List ℕ → ℕ → Bool → Type 0

@@ -2,11 +2,13 @@
 use Rattle.std.specs.Prelude.{◌≡◌, ℕ, zero, suc, ◌+◌, ◌-◌, List, [], ◌∷◌, ◌==◌, ◌&&◌, slice_index, unwrap_or, Bool, Result, Ok, Err, map, Vec}
 use Rattle.std.specs.Global.{Global}
 use Rattle.std.specs.List.{filter}
+use Rattle.defmt_intern.specs.declared.table.Profile.{Profile}
 use Rattle.elf_section.specs.File.{IsDefmt, IsSymbols, count, symbol, symbol_name}
-use Rattle.elf_section.specs.Checks.{Passes, Refused, Refusal}
+use Rattle.elf_section.specs.Checks.{Passes, Refused, Refusal, ProfileIs}
 use Rattle.elf_section.specs.Symbol.{PlainSymbol, plain_all}
 use Rattle.elf_section.specs.declared.fault.ElfFault.{ElfFault}
 use Rattle.elf_section.specs.declared.fault.ElfFault.TheVariants as faults
+use Rattle.elf_section.specs.declared.symbols.Listing.{Listing}
 use Rattle.elf_section.specs.declared.symbols.Symbol.{Symbol}
 
 -- n numbers from this one on
@@ -38,6 +40,14 @@ pub record Lists (file : List ℕ) (symbols : List PlainSymbol) : Type 0 where
   pub is_table : IsSymbols file table
   pub are : symbols ≡ symbols_below file defmt table (count file table)
 
+-- the file passes and says this profile
+abbrev pub HasProfile : List ℕ → Profile → Type 0
+HasProfile file profile = Passes file × ProfileIs file profile
+
+-- the file lists these symbols and says this profile
+abbrev pub Carries : List ℕ → List PlainSymbol → Profile → Type 0
+Carries file symbols profile = Lists file symbols × ProfileIs file profile
+
 -- the symbols, the first refusal, or want of memory
 abbrev pub ReadsSymbols : List ℕ → Result (Vec Symbol Global) ElfFault → Type 0
 ReadsSymbols file (Ok v) = Lists file (plain_all v.items)
@@ -50,9 +60,33 @@ GivesOnly (Ok v) symbols = plain_all v.items ≡ symbols
 GivesOnly (Err (faults.Refused cause part place)) symbols = ⊥
 GivesOnly (Err faults.Memory) symbols = Unit {0}
 
+-- the profile, the first refusal, or want of memory
+abbrev pub ReadsProfile : List ℕ → Result Profile ElfFault → Type 0
+ReadsProfile file (Ok profile) = HasProfile file profile
+ReadsProfile file (Err (faults.Refused cause part place)) = Refused file (record { cause = cause; part = part; place = place })
+ReadsProfile file (Err faults.Memory) = Unit {0}
+
+-- this profile, unless memory runs out
+abbrev pub TellsOnly : Result Profile ElfFault → Profile → Type 0
+TellsOnly (Ok told) profile = told ≡ profile
+TellsOnly (Err (faults.Refused cause part place)) profile = ⊥
+TellsOnly (Err faults.Memory) profile = Unit {0}
+
+-- symbols and profile, the first refusal, or want of memory
+abbrev pub ReadsListing : List ℕ → Result Listing ElfFault → Type 0
+ReadsListing file (Ok listing) = Carries file (plain_all listing.symbols.items) listing.profile
+ReadsListing file (Err (faults.Refused cause part place)) = Refused file (record { cause = cause; part = part; place = place })
+ReadsListing file (Err faults.Memory) = Unit {0}
+
+-- these symbols and this profile, unless memory runs out
+abbrev pub ListsOnly : Result Listing ElfFault → List PlainSymbol → Profile → Type 0
+ListsOnly (Ok listing) symbols profile = (plain_all listing.symbols.items ≡ symbols) × (listing.profile ≡ profile)
+ListsOnly (Err (faults.Refused cause part place)) symbols profile = ⊥
+ListsOnly (Err faults.Memory) symbols profile = Unit {0}
+
 -- this refusal, unless memory runs out
-abbrev pub RefusesOnly : Result (Vec Symbol Global) ElfFault → Refusal → Type 0
-RefusesOnly (Ok v) refusal = ⊥
+abbrev pub RefusesOnly : {A : Type 0} → Result A ElfFault → Refusal → Type 0
+RefusesOnly (Ok found) refusal = ⊥
 RefusesOnly (Err (faults.Refused cause part place)) refusal = refusal ≡ record { cause = cause; part = part; place = place }
 RefusesOnly (Err faults.Memory) refusal = Unit {0}
 

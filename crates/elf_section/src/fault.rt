@@ -36,6 +36,7 @@ pub enum Cause {
     NoSymbols,
     Version,
     Encoding,
+    Profile,
 }
 
 impl Part {
@@ -75,6 +76,7 @@ impl Cause {
             Cause::NoSymbols => 6,
             Cause::Version => 7,
             Cause::Encoding => 8,
+            Cause::Profile => 9,
         }
     }
 }
@@ -87,12 +89,12 @@ pub struct Fault {
     pub place: u32,
 }
 
-/// Why a file gives no symbols.
+/// Why a file gives no symbols and no profile.
 #[derive(Clone, Copy, Debug, Drop, PartialEq, Eq)]
 pub enum ElfFault {
     /// The file is refused: 1 no ELF file, 2 neither ELF32 nor ELF64, 3 not little-endian, 4 a part
     /// that doesn't lie in the file, 5 no section `.defmt`, 6 no symbol table, 7 another wire
-    /// version than 4, 8 another encoding than rzCOBS.
+    /// version than 4, 8 another encoding than rzCOBS, 9 another profile than 1 and 2, or both.
     Refused { cause: u8, part: Part, place: u32 },
     /// Want of memory.
     Memory,

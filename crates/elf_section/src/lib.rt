@@ -1,4 +1,4 @@
-//! The symbols of the section `.defmt` of an ELF file, read and written.
+//! The symbols of the section `.defmt` of an ELF file and the profile that its markers say, read and written.
 #![tactic(auto)]
 
 mod bytes;
@@ -13,5 +13,5 @@ mod table;
 mod writing;
 
 pub use fault::{ElfFault, Part};
-pub use symbols::{Symbol, read_symbols};
+pub use symbols::{Listing, Symbol, read_listing, read_profile, read_symbols};
 pub use writing::write_symbols;

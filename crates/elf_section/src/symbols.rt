@@ -1,17 +1,19 @@
-//! The symbols of `.defmt`.
+//! The symbols of `.defmt`, and the profile.
 
 ghost use Rattle.std.specs.Prelude.{◌≡◌, ◌≤◌, ◌<◌, ◌^◌, List, length, IfOk};
-ghost use Rattle.elf_section.specs.Checks.{Passed, Refusal, Refused};
+ghost use Rattle.defmt_intern.specs.declared.table.Profile.{Profile as AnyProfile};
+ghost use Rattle.elf_section.specs.Checks.{Passed, ProfileIs, Refusal, Refused};
 ghost use Rattle.elf_section.specs.File.{IsDefmt};
-ghost use Rattle.elf_section.specs.Listed.{Lists, Gets, ReadsSymbols, GivesOnly, RefusesOnly, is_listed, symbol_of, symbols_below};
+ghost use Rattle.elf_section.specs.Listed.{Lists, HasProfile, Carries, Gets, ReadsSymbols, ReadsProfile, ReadsListing, GivesOnly, TellsOnly, ListsOnly, RefusesOnly, is_listed, symbol_of, symbols_below};
 ghost use Rattle.elf_section.specs.Symbol.{PlainSymbol, plain, plain_all};
 ghost use Rattle.elf_section.specs.Table.{IsOpen};
 
 use crate::fault::ElfFault;
 use crate::front::check_front;
-use crate::markers::check_markers;
+use crate::markers::{check_markers, check_profile};
 use crate::sections::{check_names, check_section_names, find_defmt, find_symbols, names_of};
 use crate::table::{SymbolTable, check_symbol_names, check_table, open_table, symbol, symbol_name};
+use defmt_intern::Profile;
 use dl_io::{Bytes, Memory};
 use std::alloc::Global;
 
@@ -20,6 +22,20 @@ use std::alloc::Global;
 pub struct Symbol {
     pub name: Bytes,
     pub value: u64,
+}
+
+/// What a file says: its symbols, and its profile.
+#[derive(Debug, Drop)]
+pub struct Listing {
+    pub symbols: Vec<Symbol>,
+    pub profile: Profile,
+}
+
+/// The symbol table of a file that passes, and the file's profile.
+#[derive(Drop)]
+struct Checked<'a> {
+    table: SymbolTable<'a>,
+    profile: Profile,
 }
 
 /// Whether symbol `k` lies in section `defmt` with a name that begins with `{`.
@@ -81,18 +97,21 @@ fn defmt_of(alloc: Global, file: &[u8]) -> Result<u64, ElfFault>
     Ok(find_defmt(file, &names)?)
 }
 
-// The symbol table, behind all checks.
-fn table_of(alloc: Global, file: &[u8]) -> Result<SymbolTable<'_>, ElfFault>
+// The symbol table and the profile, behind all checks.
+fn table_of(alloc: Global, file: &[u8]) -> Result<Checked<'_>, ElfFault>
     requires short { length file.now < 2 ^ 32 }
     requires passed { Passed file.now 10 }
-    ensures { Gets file.now (λ table. IsOpen file.now table × Passed file.now 17) result }
+    ensures { Gets file.now (λ checked. IsOpen file.now checked.table
+        × Passed file.now 18
+        × ProfileIs file.now checked.profile) result }
 {
     let number = find_symbols(file)?;
     check_table(file, number)?;
     let table = open_table(alloc, file, number)?;
     check_symbol_names(file, &table)?;
     check_markers(file, &table)?;
-    Ok(table)
+    let profile = check_profile(file, &table)?;
+    Ok(Checked { table, profile })
 }
 
 fn symbols_of(alloc: Global, file: &[u8]) -> Result<Vec<Symbol>, ElfFault>
@@ -101,8 +120,31 @@ fn symbols_of(alloc: Global, file: &[u8]) -> Result<Vec<Symbol>, ElfFault>
     ensures few { IfOk result (λ v. length v.items ≤ length file.now) }
 {
     let defmt = defmt_of(alloc, file)?;
-    let table = table_of(alloc, file)?;
-    Ok(collect(alloc, file, defmt, &table)?)
+    let checked = table_of(alloc, file)?;
+    Ok(collect(alloc, file, defmt, &checked.table)?)
+}
+
+fn profile_of(alloc: Global, file: &[u8]) -> Result<Profile, ElfFault>
+    requires { length file.now < 2 ^ 32 }
+    ensures { ReadsProfile file.now result }
+{
+    defmt_of(alloc, file)?;
+    let checked = table_of(alloc, file)?;
+    Ok(checked.profile)
+}
+
+fn listing_of(alloc: Global, file: &[u8]) -> Result<Listing, ElfFault>
+    requires { length file.now < 2 ^ 32 }
+    ensures answer { ReadsListing file.now result }
+    ensures few { IfOk result (λ listing. length listing.symbols.items ≤ length file.now) }
+{
+    let defmt = defmt_of(alloc, file)?;
+    let checked = table_of(alloc, file)?;
+    let symbols = collect(alloc, file, defmt, &checked.table)?;
+    Ok(Listing {
+        symbols,
+        profile: checked.profile,
+    })
 }
 
 /// The symbols of the section `.defmt` whose names begin with `{`, in the order of the symbol table,
@@ -123,4 +165,38 @@ pub fn read_symbols(alloc: Global, file: &[u8]) -> Result<Vec<Symbol>, ElfFault>
     ensures few { IfOk result (λ v. length v.items ≤ length file.now) }
 {
     symbols_of(alloc, file)
+}
+
+/// The profile that the markers of a file say: the second where a symbol is `_defmt_profile_ = 2`, plain or in double
+/// quotes, else the first. The file is checked as `read_symbols` checks it. Takes the memory of a sixteenth of the string
+/// tables.
+pub fn read_profile(alloc: Global, file: &[u8]) -> Result<Profile, ElfFault>
+    requires { length file.now < 2 ^ 32 }
+
+    // A profile only where the file passes and says it, and a refusal only where it is the first.
+    ensures answer { ReadsProfile file.now result }
+
+    // Unless memory runs out, the file's profile is answered, and its refusal.
+    ensures told { (profile : AnyProfile) → HasProfile file.now profile → TellsOnly result profile }
+    ensures refused { (refusal : Refusal) → Refused file.now refusal → RefusesOnly result refusal }
+{
+    profile_of(alloc, file)
+}
+
+/// What `read_symbols` and `read_profile` answer, from one reading of the file.
+pub fn read_listing(alloc: Global, file: &[u8]) -> Result<Listing, ElfFault>
+    requires { length file.now < 2 ^ 32 }
+
+    // Symbols and a profile only where the file passes, lists these and says it, and a refusal only where it is the first.
+    ensures answer { ReadsListing file.now result }
+
+    // Unless memory runs out, what the file lists and says is answered, and its refusal.
+    ensures listed { (symbols : List PlainSymbol) (profile : AnyProfile)
+        → Carries file.now symbols profile → ListsOnly result symbols profile }
+    ensures refused { (refusal : Refusal) → Refused file.now refusal → RefusesOnly result refusal }
+
+    // There are no more symbols than bytes.
+    ensures few { IfOk result (λ listing. length listing.symbols.items ≤ length file.now) }
+{
+    listing_of(alloc, file)
 }

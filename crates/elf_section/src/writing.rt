@@ -1,12 +1,13 @@
 //! Writing the file.
 
 ghost use Rattle.std.specs.Prelude.{◌≡◌, ◌≤◌, ◌<◌, ◌+◌, ◌*◌, ◌^◌, ◌++◌, length, replicate, IfOk, OnOk};
-ghost use Rattle.elf_section.specs.Written.{half, word, symbol_bytes, section_bytes, header_bytes, symbol_table, string_table, section_names, headers_for, names, written, IsWritable, AreBraced, braced, KeepsMarkers};
-ghost use Rattle.elf_section.specs.Listed.{Lists};
+ghost use Rattle.elf_section.specs.Written.{half, word, symbol_bytes, section_bytes, header_bytes, listed_all, markers, rows, entries, symbol_table, string_table, section_names, headers_for, names, written, IsWritable, AreBraced, braced, KeepsMarkers};
+ghost use Rattle.elf_section.specs.Listed.{Carries};
 ghost use Rattle.elf_section.specs.Symbol.{plain_all};
 
 use crate::symbols::Symbol;
 use byteorder::{ByteOrder, LittleEndian};
+use defmt_intern::Profile;
 use dl_io::{Bytes, Memory};
 use std::alloc::Global;
 
@@ -80,10 +81,52 @@ fn push_section(
     Ok(())
 }
 
-/// How many bytes the names have, each with its zero.
+/// The names of the markers, each with its zero.
+fn marker_names(profile: Profile) -> &'static [u8]
+    ensures { result.now ≡ names (markers profile) }
+{
+    match profile {
+        Profile::One => b"_defmt_version_ = 4\0_defmt_encoding_ = rzcobs\0",
+        Profile::Two => b"_defmt_version_ = 4\0_defmt_encoding_ = rzcobs\0_defmt_profile_ = 2\0",
+    }
+}
+
+/// How many bytes these are.
+fn markers_len(profile: Profile) -> u32
+    ensures value { result ≡ length (names (markers profile)) }
+    ensures small { result ≤ 66 }
+{
+    match profile {
+        Profile::One => 46,
+        Profile::Two => 66,
+    }
+}
+
+/// How many markers there are.
+fn marker_count(profile: Profile) -> u32
+    ensures value { result ≡ length (markers profile) }
+    ensures small { result ≤ 3 }
+{
+    match profile {
+        Profile::One => 2,
+        Profile::Two => 3,
+    }
+}
+
+/// How many symbols stand behind the null symbol.
+fn count_of(list: &[Symbol], profile: Profile) -> u32
+    requires { IsWritable (plain_all list.now) }
+    ensures value { result ≡ length (rows profile (plain_all list.now)) }
+    ensures small { result ≤ 65539 }
+{
+    let count = marker_count(profile);
+    count + list.len() as u32
+}
+
+/// How many bytes the names of the list have, each with its zero.
 fn names_len(symbols: &[Symbol]) -> u32
     requires { IsWritable (plain_all symbols.now) }
-    ensures { result ≡ length (names (plain_all symbols.now)) }
+    ensures { result ≡ length (names (listed_all (plain_all symbols.now))) }
 {
     let mut len = 0;
     for symbol in symbols {
@@ -92,15 +135,29 @@ fn names_len(symbols: &[Symbol]) -> u32
     len
 }
 
-/// The symbol table: the null symbol, the two markers and the list.
-fn push_symbols(out: &mut Bytes, symbols: &[Symbol]) -> Result<(), Memory>
-    requires { IsWritable (plain_all symbols.now) }
-    ensures { OnOk result (out.new.items ≡ out.old.items ++ symbol_table (plain_all symbols.now)) }
+/// The symbols that are markers.
+fn push_markers(out: &mut Bytes, profile: Profile) -> Result<(), Memory>
+    ensures { OnOk result (out.new.items ≡ out.old.items ++ entries 1 (markers profile)) }
 {
-    push_symbol(out, 0, 0, 0, 0)?;
     push_symbol(out, 1, 1, 16, 0xfff1)?;
     push_symbol(out, 21, 1, 16, 0xfff1)?;
-    let mut at = 47;
+    match profile {
+        Profile::One => Ok(()),
+        Profile::Two => {
+            push_symbol(out, 47, 1, 16, 0xfff1)?;
+            Ok(())
+        }
+    }
+}
+
+/// The symbols of the list, of which the first name stands at this place of the strings.
+fn push_list(out: &mut Bytes, symbols: &[Symbol], first: u32) -> Result<(), Memory>
+    requires writable { IsWritable (plain_all symbols.now) }
+    requires first { first ≤ 67 }
+    ensures { OnOk result (out.new.items
+        ≡ out.old.items ++ entries first (listed_all (plain_all symbols.now))) }
+{
+    let mut at = first;
     for symbol in symbols {
         push_symbol(out, at, symbol.value as u32, 16, 1)?;
         at += symbol.name.as_slice().len() as u32 + 1;
@@ -108,15 +165,39 @@ fn push_symbols(out: &mut Bytes, symbols: &[Symbol]) -> Result<(), Memory>
     Ok(())
 }
 
-/// The strings of the symbol table.
-fn push_strings(out: &mut Bytes, symbols: &[Symbol]) -> Result<(), Memory>
-    ensures { OnOk result (out.new.items ≡ out.old.items ++ string_table (plain_all symbols.now)) }
+/// The symbol table: the null symbol, the markers and the list.
+fn push_symbols(out: &mut Bytes, symbols: &[Symbol], profile: Profile) -> Result<(), Memory>
+    requires { IsWritable (plain_all symbols.now) }
+    ensures { OnOk result (out.new.items
+        ≡ out.old.items ++ symbol_table (rows profile (plain_all symbols.now))) }
 {
-    out.extend_from_slice(b"\0_defmt_version_ = 4\0_defmt_encoding_ = rzcobs\0")?;
+    push_symbol(out, 0, 0, 0, 0)?;
+    push_markers(out, profile)?;
+    let len = markers_len(profile);
+    push_list(out, symbols, 1 + len)?;
+    Ok(())
+}
+
+/// The names of the list, each with its zero.
+fn push_names(out: &mut Bytes, symbols: &[Symbol]) -> Result<(), Memory>
+    ensures { OnOk result (out.new.items
+        ≡ out.old.items ++ names (listed_all (plain_all symbols.now))) }
+{
     for symbol in symbols {
         out.extend_from_slice(symbol.name.as_slice())?;
         out.push(0)?;
     }
+    Ok(())
+}
+
+/// The strings of the symbol table.
+fn push_strings(out: &mut Bytes, symbols: &[Symbol], profile: Profile) -> Result<(), Memory>
+    ensures { OnOk result (out.new.items
+        ≡ out.old.items ++ string_table (rows profile (plain_all symbols.now))) }
+{
+    out.push(0)?;
+    out.extend_from_slice(marker_names(profile))?;
+    push_names(out, symbols)?;
     Ok(())
 }
 
@@ -131,11 +212,11 @@ fn push_zeros(out: &mut Bytes, count: u32) -> Result<(), Memory>
 
 /// The five section headers: none, `.defmt`, `.symtab`, `.strtab` and `.shstrtab`.
 fn push_sections(out: &mut Bytes, count: u32, strings: u32) -> Result<(), Memory>
-    requires count { count ≤ 65536 }
+    requires count { count ≤ 65539 }
     requires strings { strings < 2 ^ 31 }
     ensures { OnOk result (out.new.items ≡ out.old.items ++ headers_for count strings) }
 {
-    let table = 48 + 16 * count;
+    let table = 16 + 16 * count;
     push_section(out, (0, 0), (0, 0), (0, 0), (0, 0))?;
     push_section(out, (1, 1), (52, 0), (0, 0), (1, 0))?;
     push_section(out, (8, 2), (52, table), (3, 1), (4, 16))?;
@@ -149,6 +230,7 @@ fn push_sections(out: &mut Bytes, count: u32, strings: u32) -> Result<(), Memory
 fn push_parts(
     out: &mut Bytes,
     list: &[Symbol],
+    profile: Profile,
     strings: u32,
     padding: u32,
     sections_at: u32,
@@ -156,36 +238,43 @@ fn push_parts(
     requires writable { IsWritable (plain_all list.now) }
     requires strings { strings < 2 ^ 31 }
     requires padding { padding ≤ 3 }
-    ensures { OnOk result (out.new.items ≡ (((((out.old.items ++ header_bytes sections_at) ++ symbol_table (plain_all list.now)) ++ string_table (plain_all list.now)) ++ section_names) ++ replicate padding 0) ++ headers_for (length list.now) strings) }
+    ensures { OnOk result (out.new.items ≡ (((((out.old.items ++ header_bytes sections_at)
+        ++ symbol_table (rows profile (plain_all list.now)))
+        ++ string_table (rows profile (plain_all list.now)))
+        ++ section_names) ++ replicate padding 0)
+        ++ headers_for (length (rows profile (plain_all list.now))) strings) }
 {
     push_header(out, sections_at)?;
-    push_symbols(out, list)?;
-    push_strings(out, list)?;
+    push_symbols(out, list, profile)?;
+    push_strings(out, list, profile)?;
     out.extend_from_slice(b"\0.defmt\0.symtab\0.strtab\0.shstrtab\0")?;
     push_zeros(out, padding)?;
-    push_sections(out, list.len() as u32, strings)?;
+    push_sections(out, count_of(list, profile), strings)?;
     Ok(())
 }
 
-/// The ELF32 file with these symbols in its section `.defmt`, in their order, and the two marker
-/// symbols in front of them. There are at most 65,536 symbols, each value is at most 65,535, no name
-/// has a zero byte, and all names together have at most 1 GiB.
-pub fn write_symbols(alloc: Global, list: &[Symbol]) -> Result<Bytes, Memory>
+/// The ELF32 file with these symbols in its section `.defmt`, in their order, and the markers in front of them: those of the
+/// version and the encoding, and in the second profile its own. There are at most 65,536 symbols, each value is at most
+/// 65,535, no name has a zero byte, and all names together have at most 1 GiB.
+pub fn write_symbols(alloc: Global, list: &[Symbol], profile: Profile) -> Result<Bytes, Memory>
     requires { IsWritable (plain_all list.now) }
-    ensures bytes { IfOk result (λ file. file.items ≡ written (plain_all list.now)) }
+    ensures bytes { IfOk result (λ file. file.items ≡ written profile (plain_all list.now)) }
 
-    // Where no name speaks of another version or encoding, the file passes all checks and lists
-    // those of the symbols whose names begin with `{`. Where each name does, it lists them all.
-    ensures read_back { IfOk result (λ file. KeepsMarkers (plain_all list.now) → Lists file.items (braced (plain_all list.now))) }
-    ensures read_back_whole { IfOk result (λ file. AreBraced (plain_all list.now) → Lists file.items (plain_all list.now)) }
+    // Where no name speaks of another version, encoding or profile, the file passes all checks, lists those of the symbols
+    // whose names begin with `{`, and says the profile. Where each name begins so, it lists them all.
+    ensures read_back { IfOk result (λ file. KeepsMarkers profile (plain_all list.now)
+        → Carries file.items (braced (plain_all list.now)) profile) }
+    ensures read_back_whole { IfOk result (λ file. AreBraced (plain_all list.now)
+        → Carries file.items (plain_all list.now) profile) }
 {
-    let count = list.len() as u32;
-    let strings = 47 + names_len(list);
-    let names_at = 52 + 48 + 16 * count + strings;
+    let count = count_of(list, profile);
+    let front = markers_len(profile);
+    let strings = 1 + front + names_len(list);
+    let names_at = 52 + 16 + 16 * count + strings;
     let padding = (4 - (names_at + 34) % 4) % 4;
     let sections_at = names_at + 34 + padding;
     let mut file = Bytes::new(alloc);
     file.reserve(sections_at as usize + 200)?;
-    push_parts(&mut file, list, strings, padding, sections_at)?;
+    push_parts(&mut file, list, profile, strings, padding, sections_at)?;
     Ok(file)
 }

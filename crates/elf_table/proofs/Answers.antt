@@ -1,17 +1,18 @@
 -- A file names one table, or has one refusal.
 use Rattle.std.proofs.Common.{◌≡◌, ℕ, List, Result, Ok, Err, sym, ap, subst, ◌∙◌}
 use Rattle.defmt_intern.specs.Table.{Map}
+use Rattle.defmt_intern.specs.declared.table.Profile.{Profile}
 use Rattle.defmt_intern.specs.declared.table.Table.{Table}
-use Rattle.elf_section.specs.Checks.{Refused}
+use Rattle.elf_section.specs.Checks.{Refused, ProfileIs}
 use Rattle.elf_section.specs.Checks.{Refusal}
 use Rattle.elf_section.specs.Symbol.{PlainSymbol}
 use Rattle.elf_section.proofs.Stages.{one_refusal, never_both}
-use Rattle.elf_section.proofs.ReadLaws.{one_list}
+use Rattle.elf_section.proofs.ReadLaws.{one_list, one_profile}
 use Rattle.elf_table.specs.declared.fault.LoadFault.{LoadFault}
 use Rattle.elf_table.specs.declared.fault.LoadFault.TheVariants as faults
 use Rattle.elf_table.specs.Names.{IsTableOf, NamesRefused, NamesTable, SymbolRefused, ReadsTable, AnswersOnly, Makes, place, cause_of, NameCheck}
 use Rattle.elf_table.proofs.TableLaws.{one_table, one_check, made_all}
-use Rattle.elf_section.specs.Listed.{Lists}
+use Rattle.elf_section.specs.Listed.{Carries}
 
 abbrev elf : Refusal → Result Table LoadFault
 elf f = Err (faults.Elf f.cause f.part f.place)
@@ -36,7 +37,7 @@ pub names_only : (file : List ℕ) (r : Result Table LoadFault) (table : Table) 
 names_only file (Ok one) table h n =
     ap Ok (same_table one table
     (one_table n.symbols one.entries table.entries (subst (λ (s : List PlainSymbol). IsTableOf s one.entries) (one_list file h.symbols n.symbols h.lists n.lists) h.table_of) n.table_of)
-    (h.profile ∙ sym n.profile))
+    (one_profile file one.profile table.profile h.profile n.profile))
 names_only file (Err (faults.Elf cause part place')) table h n = absurd (never_both file (record { cause = cause; part = part; place = place' }) n.lists.passes h)
 names_only file (Err (faults.Names cause symbol)) table h n =
     absurd (no_refusal n.symbols table.entries cause symbol n.table_of (subst (λ (s : List PlainSymbol). NamesRefused s cause symbol) (one_list file h.symbols n.symbols h.lists n.lists) h.refused))
@@ -56,8 +57,8 @@ symbol_only file (Err (faults.Names cause symbol)) c p h f =
     ap (λ (n : ℕ). names n symbol) same.0 ∙ ap (names c) same.1
 symbol_only file (Err faults.Memory) c p h f = tt
 
-pub reads_by_making : (file : List ℕ) (symbols : List PlainSymbol) (r : Result Table LoadFault) → Lists file symbols → Makes symbols r → ReadsTable file r
-reads_by_making file symbols (Ok table) l m = record { symbols = symbols; lists = l; table_of = made_all symbols table.entries m.0; profile = m.1 }
-reads_by_making file symbols (Err (faults.Elf cause part place')) l m = absurd m
-reads_by_making file symbols (Err (faults.Names cause symbol)) l m = record { symbols = symbols; lists = l; refused = m }
-reads_by_making file symbols (Err faults.Memory) l m = tt
+pub reads_by_making : (file : List ℕ) (symbols : List PlainSymbol) (profile : Profile) (r : Result Table LoadFault) → Carries file symbols profile → Makes symbols profile r → ReadsTable file r
+reads_by_making file symbols profile (Ok table) l m = record { symbols = symbols; lists = l.0; table_of = made_all symbols table.entries m.0; profile = subst (ProfileIs file) (sym m.1) l.1 }
+reads_by_making file symbols profile (Err (faults.Elf cause part place')) l m = absurd m
+reads_by_making file symbols profile (Err (faults.Names cause symbol)) l m = record { symbols = symbols; lists = l.0; refused = m }
+reads_by_making file symbols profile (Err faults.Memory) l m = tt

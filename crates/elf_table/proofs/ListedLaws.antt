@@ -12,9 +12,9 @@ use Rattle.std.specs.Cmp.{nat_cmp_total}
 use Rattle.defmt_intern.specs.declared.entry.Entry.{Entry}
 use Rattle.defmt_intern.specs.Name.{Names}
 use Rattle.defmt_intern.specs.Table.{Map, IsLawful}
-use Rattle.defmt_intern.specs.declared.table.Profile.TheVariants as profiles
+use Rattle.defmt_intern.specs.declared.table.Profile.{Profile}
 use Rattle.defmt_intern.proofs.NameLaws.{one_name}
-use Rattle.elf_section.specs.Listed.{Lists}
+use Rattle.elf_section.specs.Listed.{Lists, Carries}
 use Rattle.elf_section.specs.Symbol.{PlainSymbol, plain, plain_all}
 use Rattle.elf_section.specs.declared.symbols.Symbol.{Symbol}
 use Rattle.std.proofs.lemmas.List.{map-append}
@@ -103,13 +103,13 @@ module _ (table : Map) (lawful : IsLawful table) (spelled : AreSpelled table) (n
     only = only;
   }
 
-pub names_table : (t : Map) → IsLawful t → AreSpelled t → All IsNamed (map.entries t)
-    → (file : List ℕ) (xs : List PlainSymbol) → xs ≡ symbols_in t → Lists file xs → NamesTable file (record { entries = t; profile = profiles.One })
-names_table t lawful spelled named file xs e lists = record {
+pub names_table : (t : Map) (profile : Profile) → IsLawful t → AreSpelled t → All IsNamed (map.entries t)
+    → (file : List ℕ) (xs : List PlainSymbol) → xs ≡ symbols_in t → Carries file xs profile → NamesTable file (record { entries = t; profile = profile })
+names_table t profile lawful spelled named file xs e carries = record {
   symbols = symbols_in t;
-  lists = subst (Lists file) e lists;
+  lists = subst (Lists file) e carries.0;
   table_of = table_listed t lawful spelled named;
-  profile = refl;
+  profile = carries.1;
 }
 
 -- ---- they can be written

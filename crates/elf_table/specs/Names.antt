@@ -6,9 +6,9 @@ use Rattle.defmt_intern.specs.declared.entry.Entry.{Entry}
 use Rattle.defmt_intern.specs.declared.entry.Tag.TheVariants.{Timestamp}
 use Rattle.defmt_intern.specs.Name.{Names}
 use Rattle.defmt_intern.specs.Table.{Map, InsertRefused}
-use Rattle.defmt_intern.specs.declared.table.Profile.TheVariants as profiles
+use Rattle.defmt_intern.specs.declared.table.Profile.{Profile}
 use Rattle.defmt_intern.specs.declared.table.Table.{Table}
-use Rattle.elf_section.specs.Checks.{Refused}
+use Rattle.elf_section.specs.Checks.{Refused, ProfileIs}
 use Rattle.elf_section.specs.Listed.{Lists}
 use Rattle.elf_section.specs.Symbol.{PlainSymbol}
 use Rattle.elf_table.specs.declared.fault.LoadFault.{LoadFault}
@@ -72,12 +72,12 @@ pub record NamesRefused (symbols : List PlainSymbol) (cause : ℕ) (symbol : ℕ
   pub cause_is : cause ≡ cause_of check
   pub symbol_is : symbol ≡ (place check).row
 
--- the file names the table; a file says nothing of a profile, so its table has the first
+-- the file names the table: its symbols are the entries, and its markers say the profile
 pub record NamesTable (file : List ℕ) (table : Table) : Type 0 where
   pub symbols : List PlainSymbol
   pub lists : Lists file symbols
   pub table_of : IsTableOf symbols table.entries
-  pub profile : table.profile ≡ profiles.One
+  pub profile : ProfileIs file table.profile
 
 -- one of its symbols is refused
 pub record SymbolRefused (file : List ℕ) (cause symbol : ℕ) : Type 0 where
@@ -131,8 +131,8 @@ Steps old s (Ok done) new = Puts old new s
 Steps old s (Err (steps.Refused cause)) new = StepRefused old s (cause_number cause)
 Steps old s (Err steps.Memory) new = Unit {0}
 
-abbrev pub Makes : List PlainSymbol → Result Table LoadFault → Type 0
-Makes symbols (Ok table) = Made symbols (length symbols) table.entries × (table.profile ≡ profiles.One)
-Makes symbols (Err (faults.Elf cause part place)) = ⊥
-Makes symbols (Err (faults.Names cause symbol)) = NamesRefused symbols cause symbol
-Makes symbols (Err faults.Memory) = Unit {0}
+abbrev pub Makes : List PlainSymbol → Profile → Result Table LoadFault → Type 0
+Makes symbols profile (Ok table) = Made symbols (length symbols) table.entries × (table.profile ≡ profile)
+Makes symbols profile (Err (faults.Elf cause part place)) = ⊥
+Makes symbols profile (Err (faults.Names cause symbol)) = NamesRefused symbols cause symbol
+Makes symbols profile (Err faults.Memory) = Unit {0}

@@ -8,7 +8,7 @@ use elf_section::Part;
 /// Why a file names no table.
 #[derive(Clone, Copy, Debug, Drop, PartialEq, Eq)]
 pub enum LoadFault {
-    /// The file is refused, as `elf_section::read_symbols` refuses it: with a cause from 1 to 8, a part and a place.
+    /// The file is refused, as `elf_section::read_symbols` refuses it: with a cause from 1 to 9, a part and a place.
     Elf { cause: u8, part: Part, place: u32 },
     /// A symbol is refused, the one at this place in the list of `elf_section::read_symbols`. The causes, of which the
     /// first counts: 3 its name reads as no entry, 6 its value is above 65,535, 2 an earlier symbol has its value, 4 its

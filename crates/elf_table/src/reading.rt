@@ -8,8 +8,8 @@ ghost use Rattle.elf_table.specs.Names.{ReadsTable, AnswersOnly, NamesTable, Sym
 ghost use Rattle.elf_table.specs.declared.fault.LoadFault.TheVariants.{Elf as OfElf, Names as OfNames};
 
 use crate::fault::{Cause, LoadFault, StepFault};
-use defmt_intern::{NameFault, Table, TableFault, read_name};
-use elf_section::{ElfFault, Symbol, read_symbols};
+use defmt_intern::{NameFault, Profile, Table, TableFault, read_name};
+use elf_section::{ElfFault, Symbol, read_listing};
 use std::alloc::Global;
 
 /// Puts the entry that a symbol names into the table.
@@ -36,12 +36,13 @@ fn put_symbol(alloc: Global, table: &mut Table, symbol: &Symbol) -> Result<(), S
     }
 }
 
-/// The table of these symbols.
-fn table_of(alloc: Global, symbols: &[Symbol]) -> Result<Table, LoadFault>
+/// The table of these symbols and this profile.
+fn table_of(alloc: Global, symbols: &[Symbol], profile: Profile) -> Result<Table, LoadFault>
     requires { length symbols.now < 2 ^ 32 }
-    ensures { Makes (plain_all symbols.now) result }
+    ensures { Makes (plain_all symbols.now) profile result }
 {
     let mut table = Table::new(alloc);
+    table.set_profile(profile);
     for (p, symbol) in symbols.iter().enumerate() {
         match put_symbol(alloc, &mut table, symbol) {
             Ok(()) => {}
@@ -61,15 +62,16 @@ fn load(alloc: Global, file: &[u8]) -> Result<Table, LoadFault>
     requires { length file.now < 2 ^ 32 }
     ensures { ReadsTable file.now result }
 {
-    match read_symbols(alloc, file) {
-        Ok(symbols) => table_of(alloc, &symbols),
+    match read_listing(alloc, file) {
+        Ok(listing) => table_of(alloc, &listing.symbols, listing.profile),
         Err(ElfFault::Refused { cause, part, place }) => Err(LoadFault::Elf { cause, part, place }),
         Err(ElfFault::Memory) => Err(LoadFault::Memory),
     }
 }
 
 /// The table that a file names: the symbols of its section `.defmt` whose names begin with `{` are its entries, each at
-/// the index that is the symbol's value (defmt book, "Interning"; ELF gABI, "Symbol Table").
+/// the index that is the symbol's value (defmt book, "Interning"; ELF gABI, "Symbol Table"). Its profile is the one that the
+/// file's markers say.
 ///
 /// The file is checked first, then its symbols one after another. The first refusal is answered.
 pub fn read_table(alloc: Global, file: &[u8]) -> Result<Table, LoadFault>

@@ -5,7 +5,6 @@ ghost use Rattle.std.specs.FinMap as map;
 ghost use Rattle.std.specs.Option.{SomeIff};
 ghost use Rattle.defmt_intern.specs.Table.{Map};
 ghost use Rattle.defmt_intern.specs.declared.entry.Entry.{Entry as AnyEntry};
-ghost use Rattle.defmt_intern.specs.declared.table.Profile.TheVariants as profiles;
 ghost use Rattle.elf_section.specs.Symbol.{plain, plain_all};
 ghost use Rattle.elf_section.specs.Written.{written};
 ghost use Rattle.elf_table.specs.Listed.{symbol_of, symbols_in, entry_size, size_of, AreSpelled, IsNamed};
@@ -81,22 +80,22 @@ fn symbols_of(alloc: Global, table: &Table) -> Result<Vec<Symbol>, Memory>
     Ok(symbols)
 }
 
-/// The ELF32 file that names the table: one symbol for each entry, in the order of their indexes. It says nothing of the
-/// profile.
+/// The ELF32 file that names the table: one symbol for each entry, in the order of their indexes, behind the markers, which
+/// say the profile.
 ///
 /// The packages, texts, disambiguators and names of `Other` tags of all entries together have at most 64 MiB.
 pub fn write_table(alloc: Global, table: &Table) -> Result<Bytes, Memory>
     requires { size_of table.now.entries ≤ 2 ^ 26 }
 
-    // The file has just these symbols.
-    ensures bytes { IfOk result (λ file. file.items ≡ written (symbols_in table.now.entries)) }
+    // The file has just these symbols and this profile.
+    ensures bytes { IfOk result (λ file. file.items
+        ≡ written table.now.profile (symbols_in table.now.entries)) }
 
-    // It names these entries with profile One, so `read_table` gives them back, unless an `Other` spells one of the eleven
-    // tags.
+    // It names the table, so `read_table` gives it back, unless an `Other` spells one of the eleven tags.
     ensures read_back { IfOk result (λ file. AreSpelled table.now.entries
-        → NamesTable file.items (record { entries = table.now.entries; profile = profiles.One })) }
+        → NamesTable file.items table.now) }
 {
     table.lawful();
     let symbols = symbols_of(alloc, table)?;
-    write_symbols(alloc, &symbols)
+    write_symbols(alloc, &symbols, table.profile())
 }

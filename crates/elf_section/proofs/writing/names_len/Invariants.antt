@@ -1,7 +1,7 @@
 use Rattle.std.proofs.Common.{◌≡◌, length, take}
 use Rattle.elf_section.specs.Symbol.{plain_all}
-use Rattle.elf_section.specs.Written.{names}
+use Rattle.elf_section.specs.Written.{listed_all, names}
 use Rattle.elf_section.proofs.writing.names_len.Given as goal
 
 abbrev pub invariant-loop-symbol : goal.invariant-loop-symbol
-invariant-loop-symbol l = l.len ≡ length (names (take l.symbol-index (plain_all l.symbols)))
+invariant-loop-symbol l = l.len ≡ length (names (take l.symbol-index (listed_all (plain_all l.symbols))))

@@ -7,7 +7,7 @@ use Rattle.elf_table.proofs.TableLaws.{made_none, made_more, refuse_step, symbol
 use Rattle.elf_table.proofs.reading.table_of.Goals as goal
 
 pub loop-p-init : goal.loop-p-init
-loop-p-init c = (rw c.new-table.ensures.entries (made_none (plain_all c.args.symbols.now)), c.new-table.ensures.profile)
+loop-p-init c = (rw (c.set_profile.ensures.entries, c.new-table.ensures.entries) (made_none (plain_all c.args.symbols.now)), c.set_profile.ensures.profile)
 
 pub loop-p-preserved : goal.loop-p-preserved
 loop-p-preserved c =

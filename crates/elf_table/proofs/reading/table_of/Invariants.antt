@@ -1,8 +1,7 @@
 use Rattle.std.proofs.Common.{◌≡◌}
-use Rattle.defmt_intern.specs.declared.table.Profile.TheVariants as profiles
 use Rattle.elf_section.specs.Symbol.{plain_all}
 use Rattle.elf_table.specs.Names.{Made}
 use Rattle.elf_table.proofs.reading.table_of.Given as goal
 
 abbrev pub invariant-loop-p : goal.invariant-loop-p
-invariant-loop-p l = Made (plain_all l.symbols) l.p l.table.entries × (l.table.profile ≡ profiles.One)
+invariant-loop-p l = Made (plain_all l.symbols) l.p l.table.entries × (l.table.profile ≡ l.fn.profile)
