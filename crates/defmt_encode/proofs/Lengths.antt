@@ -1,5 +1,5 @@
 -- In few bytes the lengths of values fit in the four bytes that tell them.
-use Rattle.std.proofs.Common.{◌<◌, ◌^◌, ℕ, List, [], ◌∷◌, ◌++◌, length, arith, length-append}
+use Rattle.std.proofs.Common.{◌<◌, ◌^◌, ℕ, List, [], ◌∷◌, ◌++◌, length, Option, arith, length-append}
 use Rattle.byteorder.specs.Endian.{little_bytes}
 use Rattle.defmt_grammar.specs.declared.kind.Kind.TheVariants as kinds
 use Rattle.defmt_grammar.specs.declared.slot.Slot.{Slot}
@@ -8,6 +8,7 @@ use Rattle.defmt_intern.specs.Table.{Map}
 use Rattle.defmt_values.specs.Plain.{Val, uint, int, flag, char, str, istr, bytes, bits, format, seq, Vals, no_vals, val, Elems, no_elems, elem, elems_len}
 use Rattle.defmt_values.specs.Scan.{index_or}
 use Rattle.defmt_encode.specs.Carry.{length_bytes, variant_byte, count_bytes, index_bytes, node_slots, own_slots, stamp_slots, bytes_val, bytes_vals, bytes_elems, message_head, message_of}
+use Rattle.defmt_encode.specs.Placed.{place_bytes}
 use Rattle.defmt_encode.specs.Lengths.{CountFits, LengthFits, LengthsFit, ElemsLengthsFit, MessageLengthsFit}
 use Rattle.defmt_intern.specs.Stamp.{stamp_of}
 
@@ -63,8 +64,9 @@ mutual
       let one : length (variant_byte variant ++ body) < 2 ^ 32 = in_front (variant_byte variant ++ body) (bytes_elems t index es) h in
       (vals_lengths t (node_slots t index variant) vs (behind (variant_byte variant) body one), elems_lengths t index es (behind (variant_byte variant ++ body) (bytes_elems t index es) h))
 
-pub message_lengths : (t : Map) (stamp : Vals) (index : ℕ) (vs : Vals) → length (message_of t stamp index vs) < 2 ^ 32 → MessageLengthsFit t stamp index vs
-message_lengths t stamp index vs h =
+pub message_lengths : (t : Map) (place : Option ℕ) (stamp : Vals) (index : ℕ) (vs : Vals) → length (message_of t place stamp index vs) < 2 ^ 32 → MessageLengthsFit t stamp index vs
+message_lengths t place stamp index vs h =
     let first : List ℕ = bytes_vals t (stamp_slots t (stamp_of t)) stamp in
     let body : List ℕ = bytes_vals t (own_slots t index) vs in
-    (vals_lengths t (stamp_slots t (stamp_of t)) stamp (behind (little_bytes 2 index) first (in_front (message_head index first) body h)), vals_lengths t (own_slots t index) vs (behind (message_head index first) body h))
+    let head : length (place_bytes place ++ first) < 2 ^ 32 = behind (little_bytes 2 index) (place_bytes place ++ first) (in_front (message_head index place first) body h) in
+    (vals_lengths t (stamp_slots t (stamp_of t)) stamp (behind (place_bytes place) first head), vals_lengths t (own_slots t index) vs (behind (message_head index place first) body h))

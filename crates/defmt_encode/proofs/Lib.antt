@@ -14,6 +14,7 @@ pub mod MetFound
 pub mod Most
 pub mod Numbers
 pub mod Own
+pub mod Placing
 pub mod Puts
 pub mod ReadsBack
 pub mod Signed

@@ -6,6 +6,7 @@ use Rattle.defmt_grammar.specs.declared.kind.Kind.TheVariants as kinds
 use Rattle.defmt_grammar.specs.declared.piece.Piece.{Piece}
 use Rattle.defmt_grammar.specs.declared.slot.Slot.{Slot}
 use Rattle.defmt_grammar.specs.declared.slot.Slot.TheVariants as slots
+use Rattle.defmt_intern.specs.Catalog.{Catalog}
 use Rattle.defmt_intern.specs.Table.{Map}
 use Rattle.defmt_intern.specs.declared.parsed.Parsed.{Parsed}
 use Rattle.defmt_intern.specs.declared.parsed.Parsed.TheVariants.{Unsupported, Raw, One, Variants}
@@ -17,8 +18,8 @@ use Rattle.defmt_values.proofs.Forms.{places_are}
 use Rattle.defmt_encode.specs.Carry.{size_bytes, variant_byte, node_slots, slots_at, bytes_val, bytes_vals, bytes_elems}
 use Rattle.defmt_encode.specs.Fields.{IsNumber, IsChunk}
 use Rattle.defmt_encode.specs.Lengths.{LengthsFit, ElemsLengthsFit}
-use Rattle.defmt_encode.specs.Met.{MetBool, MetChar, MetBytes, MetStr, MetIstr, MetVariant, OneMet, Level, no_level, level, MetEach, MetElem, MetElems, MetNode, MetList, MetSome, MetSlot, met_at, MetStamp, MetBehind, Meets}
-use Rattle.defmt_encode.specs.Read.{Read, ◌⇒◌, OneAt, number_at, signed_at, chunk_at, flag_of, char_of, text_of, bytes_at, text_at, interned_of, flag_at, char_at, istr_at, there, variant_of, add, form_of, each_at, elem_at, elems_at, node_at, list_at, some_at, slot_at, value_at, below, logged_of, stamp_form, stamp_at, padded, message_at}
+use Rattle.defmt_encode.specs.Met.{MetBool, MetChar, MetBytes, MetStr, MetIstr, MetVariant, OneMet, Level, no_level, level, MetEach, MetElem, MetElems, MetNode, MetList, MetSome, MetSlot, met_at, MetStamp, MetBehind, MetPlaced, Meets}
+use Rattle.defmt_encode.specs.Read.{Read, ◌⇒◌, OneAt, number_at, signed_at, chunk_at, flag_of, char_of, text_of, bytes_at, text_at, interned_of, flag_at, char_at, istr_at, there, variant_of, add, form_of, each_at, elem_at, elems_at, node_at, list_at, some_at, slot_at, value_at, below, logged_of, stamp_form, stamp_at, place_at, padded, message_at}
 use Rattle.defmt_values.specs.Sound.{AreSound, ElemsSound}
 use Rattle.defmt_intern.specs.Stamp.{stamp_of}
 use Rattle.defmt_encode.specs.declared.cause.Cause.{Cause}
@@ -28,9 +29,10 @@ use Rattle.defmt_encode.proofs.Chains.{done, refused, passes, breaks}
 use Rattle.defmt_encode.proofs.Entries.{interned_refused, form_back_of, form_refused, own_back, own_refused, stamp_refused, node_slots_are}
 use Rattle.defmt_encode.proofs.Finds.{Val3}
 use Rattle.defmt_encode.proofs.FindsAll.{Picked, Args3, Elem3, Elems3, each_rest, elem_args, elem_variant, elems_rest, node_elem, node_form, list_elems, list_form}
-use Rattle.defmt_encode.proofs.Hears.{Message3, rest_end, rest_args, rest_stamp, rest_own, stamp_rest, stamp_back}
+use Rattle.defmt_encode.proofs.Hears.{Message4, rest_end, rest_args, rest_stamp, rest_place, rest_own, stamp_rest, stamp_back}
 use Rattle.defmt_encode.proofs.Joins.{value_is}
 use Rattle.defmt_encode.proofs.Numbers.{number_back, chunk_back, cut_number, cut_chunk}
+use Rattle.defmt_encode.proofs.Placing.{place_back, place_met}
 use Rattle.defmt_encode.proofs.ReadsBack.{adds, variant_back}
 use Rattle.defmt_encode.proofs.Uses.{AreUsed, own_used, form_used, weight_some}
 
@@ -298,12 +300,12 @@ stamp_met t (Some index) from c (inr m) =
     passes (stamp_form (look t index)) (stamp_rest t from) m.1 (refused (Vals × List ℕ) c) e
     (breaks (each_at (value_at t 16) (places_of m.1) 1 0 from) (λ r. Ok (r.0, r.2)) c (args_met t (places_of m.1) from c (own_used m.0 m.1 m.3) m.4))
 
-behind_met : (t : Map) (i : ℕ) (ps : List Piece) (from : List ℕ) (c : Cause) → AreUsed (places_of ps) → MetBehind t ps from c → (stamp_at t (stamp_of t) from ⇒ rest_args t i ps) ≡ refused Message3 c
-behind_met t i ps from c used (inl m) = breaks (stamp_at t (stamp_of t) from) (rest_args t i ps) c (stamp_met t (stamp_of t) from c m)
-behind_met t i ps from c used (inr (inl m)) =
-    passes (stamp_at t (stamp_of t) from) (rest_args t i ps) (m.0, m.1) (refused Message3 c) (stamp_back t m.0 from m.1 m.2)
-    (breaks (each_at (value_at t 16) (places_of ps) 1 0 m.1) (rest_end i m.0) c (args_met t (places_of ps) m.1 c used m.3))
-behind_met t i ps from c used (inr (inr m)) =
+behind_met : (t : Map) (i : ℕ) (ps : List Piece) (place : Option ℕ) (from : List ℕ) (c : Cause) → AreUsed (places_of ps) → MetBehind t ps from c → (stamp_at t (stamp_of t) from ⇒ rest_args t i ps place) ≡ refused Message4 c
+behind_met t i ps place from c used (inl m) = breaks (stamp_at t (stamp_of t) from) (rest_args t i ps place) c (stamp_met t (stamp_of t) from c m)
+behind_met t i ps place from c used (inr (inl m)) =
+    passes (stamp_at t (stamp_of t) from) (rest_args t i ps place) (m.0, m.1) (refused Message4 c) (stamp_back t m.0 from m.1 m.2)
+    (breaks (each_at (value_at t 16) (places_of ps) 1 0 m.1) (rest_end i place m.0) c (args_met t (places_of ps) m.1 c used m.3))
+behind_met t i ps place from c used (inr (inr m)) =
     let stamp : Vals = m.0 in
     let mid : List ℕ = m.1 in
     let vs : Vals = m.2 in
@@ -312,16 +314,22 @@ behind_met t i ps from c used (inr (inr m)) =
     let k = vals_back t 16 (places_of ps) 1 0 rest vs m.6.fits m.6.sound (omega arith) used m.6.lengths (omega (arith, high, m.6.sums.sum)) in
     let k' : each_at (value_at t 16) (places_of ps) 1 0 mid ≡ done (vs, 0 + weigh_vals t (places_of ps) 1 vs, rest) = ap (λ (x : List ℕ). each_at (value_at t 16) (places_of ps) 1 0 x) m.6.carries ∙ k in
     let e : padded rest ≡ refused (Unit {0}) c = rw (m.7, m.8) refl in
-    passes (stamp_at t (stamp_of t) from) (rest_args t i ps) (stamp, mid) (refused Message3 c) (stamp_back t stamp from mid m.5)
-    (passes (each_at (value_at t 16) (places_of ps) 1 0 mid) (rest_end i stamp) (vs, 0 + weigh_vals t (places_of ps) 1 vs, rest) (refused Message3 c) k'
-    (breaks (padded rest) (λ _. Ok (stamp, i, vs)) c e))
+    passes (stamp_at t (stamp_of t) from) (rest_args t i ps place) (stamp, mid) (refused Message4 c) (stamp_back t stamp from mid m.5)
+    (passes (each_at (value_at t 16) (places_of ps) 1 0 mid) (rest_end i place stamp) (vs, 0 + weigh_vals t (places_of ps) 1 vs, rest) (refused Message4 c) k'
+    (breaks (padded rest) (λ _. Ok (place, stamp, i, vs)) c e))
 
-pub met_again : (t : Map) (from : List ℕ) (c : Cause) → Meets t from c → message_at t from ≡ refused Message3 c
+placed_met : (t : Catalog) (i : ℕ) (ps : List Piece) (from : List ℕ) (c : Cause) → AreUsed (places_of ps) → MetPlaced t ps from c → (place_at t.profile from ⇒ rest_stamp t.entries i ps) ≡ refused Message4 c
+placed_met t i ps from c used (inl m) = breaks (place_at t.profile from) (rest_stamp t.entries i ps) c (place_met t.profile from c m)
+placed_met t i ps from c used (inr m) =
+    passes (place_at t.profile from) (rest_stamp t.entries i ps) (m.0, m.1) (refused Message4 c) (place_back t.profile m.0 from m.1 m.2)
+    (behind_met t.entries i ps m.0 m.1 c used m.3)
+
+pub met_again : (t : Catalog) (from : List ℕ) (c : Cause) → Meets t from c → message_at t from ≡ refused Message4 c
 met_again t from c (inl m) = breaks (number_at 2 from) (rest_own t) c (cut_number 2 from c m)
 met_again t from c (inr (inl m)) =
-    passes (number_at 2 from) (rest_own t) (m.0, m.1) (refused Message3 c) (number_again 2 m.0 from m.1 m.2)
-    (breaks (logged_of (look t m.0)) (rest_stamp t (m.0, m.1)) c (own_refused t m.0 c m.3))
+    passes (number_at 2 from) (rest_own t) (m.0, m.1) (refused Message4 c) (number_again 2 m.0 from m.1 m.2)
+    (breaks (logged_of (look t.entries m.0)) (rest_place t (m.0, m.1)) c (own_refused t.entries m.0 c m.3))
 met_again t from c (inr (inr m)) =
-    passes (number_at 2 from) (rest_own t) (m.0, m.1) (refused Message3 c) (number_again 2 m.0 from m.1 m.3)
-    (passes (logged_of (look t m.0)) (rest_stamp t (m.0, m.1)) m.2 (refused Message3 c) (own_back t m.0 m.2 m.4)
-    (behind_met t m.0 m.2 m.1 c (own_used m.4.entry m.2 m.4.body) m.5))
+    passes (number_at 2 from) (rest_own t) (m.0, m.1) (refused Message4 c) (number_again 2 m.0 from m.1 m.3)
+    (passes (logged_of (look t.entries m.0)) (rest_place t (m.0, m.1)) m.2 (refused Message4 c) (own_back t.entries m.0 m.2 m.4)
+    (placed_met t m.0 m.2 m.1 c (own_used m.4.entry m.2 m.4.body) m.5))

@@ -8,6 +8,7 @@ use Rattle.defmt_grammar.specs.declared.kind.Kind.TheVariants as kinds
 use Rattle.defmt_grammar.specs.declared.piece.Piece.{Piece}
 use Rattle.defmt_grammar.specs.declared.slot.Slot.{Slot}
 use Rattle.defmt_grammar.specs.declared.slot.Slot.TheVariants as slots
+use Rattle.defmt_intern.specs.Catalog.{Catalog}
 use Rattle.defmt_intern.specs.Table.{Map}
 use Rattle.defmt_intern.specs.declared.entry.Entry.{Entry}
 use Rattle.defmt_intern.specs.declared.parsed.Parsed.{Parsed}
@@ -16,8 +17,9 @@ use Rattle.defmt_values.specs.Entries.{look, variant_at, Place, places_of}
 use Rattle.defmt_values.specs.Fits.{IsForm}
 use Rattle.defmt_values.specs.Plain.{uint, int, flag, char, str, istr, bytes, bits, format, seq, Vals, no_vals, val, no_elems, elem, elems_len}
 use Rattle.defmt_encode.specs.Carry.{size_bytes, variant_byte, node_slots, stamp_slots, bytes_val, bytes_vals}
-use Rattle.defmt_encode.specs.Met.{IsCut, HasForm, MetBool, MetChar, MetBytes, MetStr, MetIstr, MetVariant, OneMet, Level, no_level, level, MetEach, MetElem, MetElems, MetNode, MetList, MetSome, MetSlot, met_at, MetStamp, MetBehind, Meets}
-use Rattle.defmt_encode.specs.Read.{◌⇒◌, OneAt, number_at, signed_at, chunk_at, flag_of, char_of, text_of, bytes_at, text_at, interned_of, uint_at, int_at, flag_at, char_at, str_at, istr_at, slice_at, array_at, window_at, there, variant_of, add, form_of, each_at, elem_at, elems_at, node_at, list_at, some_at, slot_at, value_at, logged_of, stamp_form, stamp_at, is_padding, padded, message_at}
+use Rattle.defmt_encode.specs.Met.{IsCut, HasForm, MetBool, MetChar, MetBytes, MetStr, MetIstr, MetVariant, OneMet, Level, no_level, level, MetEach, MetElem, MetElems, MetNode, MetList, MetSome, MetSlot, met_at, MetStamp, MetBehind, MetPlaced, Meets}
+use Rattle.defmt_encode.specs.Placed.{place_bytes}
+use Rattle.defmt_encode.specs.Read.{◌⇒◌, OneAt, number_at, signed_at, chunk_at, flag_of, char_of, text_of, bytes_at, text_at, interned_of, uint_at, int_at, flag_at, char_at, str_at, istr_at, slice_at, array_at, window_at, there, variant_of, add, form_of, each_at, elem_at, elems_at, node_at, list_at, some_at, slot_at, value_at, logged_of, stamp_form, stamp_at, place_at, is_padding, padded, message_at}
 use Rattle.defmt_intern.specs.Stamp.{stamp_of}
 use Rattle.defmt_encode.specs.declared.cause.Cause.{Cause}
 use Rattle.defmt_encode.specs.declared.cause.Cause.TheVariants as causes
@@ -25,8 +27,9 @@ use Rattle.defmt_encode.proofs.Chains.{refused, same_cause, bound, broken, not_c
 use Rattle.defmt_encode.proofs.Entries.{interned_broken, form_found, form_broken, own_found, own_broken, stamp_found, stamp_broken}
 use Rattle.defmt_encode.proofs.Finds.{Val3}
 use Rattle.defmt_encode.proofs.FindsAll.{IsReader, Picked, Args3, Elem3, Elems3, variant_found, vals_more, vals_none, each_rest, each_found, elem_args, elem_variant, elem_found, elems_none, elems_more, elems_rest, node_elem, node_form, list_elems, list_form, value_found}
-use Rattle.defmt_encode.proofs.Hears.{Message3, rest_end, rest_args, rest_stamp, rest_own, stamp_rest, found_stamp}
+use Rattle.defmt_encode.proofs.Hears.{Message4, rest_end, rest_args, rest_stamp, rest_place, rest_own, stamp_rest, found_stamp}
 use Rattle.defmt_encode.proofs.Numbers.{AreBytes, bytes_rest, number_found, chunk_found, number_cut, chunk_cut}
+use Rattle.defmt_encode.proofs.Placing.{place_found, place_broken}
 use Rattle.defmt_encode.proofs.Stamps.{stamp_entry}
 
 -- whatever this reader refuses is met
@@ -265,29 +268,37 @@ stamp_broken_by t (Some index) from c s h e =
       | inr k ↦ inr (entry.0, k.0, entry.1, stamp_found entry.0 k.0 k.1, own_broken_args t (places_of k.0) from c h (before_last (each_at (value_at t 16) (places_of k.0) 1 0 from) (λ r. (r.0, r.2)) c k.2))
     ]
 
-behind_broken : (t : Map) (i : ℕ) (ps : List Piece) (from : List ℕ) (c : Cause) → AreBytes from → (stamp_at t (stamp_of t) from ⇒ rest_args t i ps) ≡ refused Message3 c → MetBehind t ps from c
-behind_broken t i ps from c h e = elim (broken (stamp_at t (stamp_of t) from) (rest_args t i ps) c e) [
+behind_broken : (t : Map) (i : ℕ) (ps : List Piece) (place : Option ℕ) (from : List ℕ) (c : Cause) → AreBytes from → (stamp_at t (stamp_of t) from ⇒ rest_args t i ps place) ≡ refused Message4 c → MetBehind t ps from c
+behind_broken t i ps place from c h e = elim (broken (stamp_at t (stamp_of t) from) (rest_args t i ps place) c e) [
   | inl k ↦ inl (stamp_broken_by t (stamp_of t) from c refl h k)
   | inr k ↦
       let s = found_stamp t from k.0 h k.1 in
       let g = bytes_rest from (bytes_vals t (stamp_slots t (stamp_of t)) k.0.0) k.0.1 h s.carries in
-      elim (broken (each_at (value_at t 16) (places_of ps) 1 0 k.0.1) (rest_end i k.0.0) c k.2) [
+      elim (broken (each_at (value_at t 16) (places_of ps) 1 0 k.0.1) (rest_end i place k.0.0) c k.2) [
         | inl l ↦ inr (inl (k.0.0, k.0.1, s, own_broken_args t (places_of ps) k.0.1 c g l))
         | inr l ↦
             let f = each_found t 16 (value_at t 16) (value_found t 16) (places_of ps) 1 0 k.0.1 l.0 g l.1 in
-            let p = not_chosen (is_padding l.0.2) tt causes.Trailing c (before_last (padded l.0.2) (λ _. (k.0.0, i, l.0.0)) c l.2) in
+            let p = not_chosen (is_padding l.0.2) tt causes.Trailing c (before_last (padded l.0.2) (λ _. (place, k.0.0, i, l.0.0)) c l.2) in
             inr (inr (k.0.0, k.0.1, l.0.0, l.0.1, l.0.2, s, f, p.0, sym p.1))
       ]
 ]
 
-pub met_found : (t : Map) (from : List ℕ) (c : Cause) → AreBytes from → message_at t from ≡ refused Message3 c → Meets t from c
+placed_broken : (t : Catalog) (i : ℕ) (ps : List Piece) (from : List ℕ) (c : Cause) → AreBytes from → (place_at t.profile from ⇒ rest_stamp t.entries i ps) ≡ refused Message4 c → MetPlaced t ps from c
+placed_broken t i ps from c h e = elim (broken (place_at t.profile from) (rest_stamp t.entries i ps) c e) [
+  | inl k ↦ inl (place_broken t.profile from c k)
+  | inr k ↦
+      let q = place_found t.profile from k.0 h k.1 in
+      inr (k.0.0, k.0.1, q, behind_broken t.entries i ps k.0.0 k.0.1 c (bytes_rest from (place_bytes k.0.0) k.0.1 h q.carries) k.2)
+]
+
+pub met_found : (t : Catalog) (from : List ℕ) (c : Cause) → AreBytes from → message_at t from ≡ refused Message4 c → Meets t from c
 met_found t from c h e = elim (broken (number_at 2 from) (rest_own t) c e) [
   | inl k ↦ inl (number_cut 2 from c k)
   | inr k ↦
       let i : ℕ = k.0.0 in
       let n = number_found 2 from k.0 h k.1 in
-      elim (broken (logged_of (look t i)) (rest_stamp t k.0) c k.2) [
-        | inl l ↦ inr (inl (i, k.0.1, n, own_broken t i c l))
-        | inr l ↦ inr (inr (i, k.0.1, l.0, n, own_found t i l.0 l.1, behind_broken t i l.0 k.0.1 c (bytes_rest from (little_bytes 2 i) k.0.1 h n.carries) l.2))
+      elim (broken (logged_of (look t.entries i)) (rest_place t k.0) c k.2) [
+        | inl l ↦ inr (inl (i, k.0.1, n, own_broken t.entries i c l))
+        | inr l ↦ inr (inr (i, k.0.1, l.0, n, own_found t.entries i l.0 l.1, placed_broken t i l.0 k.0.1 c (bytes_rest from (little_bytes 2 i) k.0.1 h n.carries) l.2))
       ]
 ]

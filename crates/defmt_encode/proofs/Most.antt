@@ -10,12 +10,14 @@ use Rattle.defmt_intern.specs.Table.{Map}
 use Rattle.defmt_values.specs.Plain.{Val, uint, int, flag, char, str, istr, bytes, Vals, no_vals, val}
 use Rattle.defmt_values.specs.View.{plain, vals_of}
 use Rattle.defmt_values.specs.declared.value.Value.{Value}
-use Rattle.defmt_encode.specs.Carry.{uint_width, int_width, length_bytes, bytes_val, bytes_vals, stamp_slots, stamp_args, own_slots, message_of}
+use Rattle.defmt_encode.specs.Carry.{uint_width, int_width, length_bytes, bytes_val, bytes_vals, stamp_slots, stamp_args, own_slots, message_head, message_of}
 use Rattle.defmt_encode.specs.Out.{HasAtMost, HaveAtMost, Puts, Writes}
+use Rattle.defmt_encode.specs.Placed.{place_bytes}
 use Rattle.defmt_intern.specs.Stamp.{stamp_of}
 use Rattle.defmt_encode.specs.declared.put.Long.{Long}
 use Rattle.defmt_encode.proofs.Finds.{size_few}
 use Rattle.defmt_encode.proofs.Numbers.{length_little}
+use Rattle.defmt_encode.proofs.Placing.{place_few}
 
 uint_small : (slot : Slot) → uint_width slot ≤ 16
 uint_small (slots.One (kinds.Uint size)) = size_few size
@@ -118,11 +120,14 @@ stamp_most : (t : Map) (ss : List Slot) (stamp : Option ℕ) → length (bytes_v
 stamp_most t ss None = omega (arith, none_most t ss)
 stamp_most t ss (Some n) = omega (arith, two_most (uint n) no_vals 16 0 (uint_most n) none_most t ss)
 
-pub message_short : (t : Map) (stamp : Option ℕ) (index : ℕ) (vs : Vals) (most : ℕ) → most ≤ 1982 → HaveAtMost vs most → length (message_of t (stamp_args stamp) index vs) ≤ 2000
-message_short t stamp index vs most few have =
+pub message_short : (t : Map) (place stamp : Option ℕ) (index : ℕ) (vs : Vals) (most : ℕ) → most ≤ 1980 → HaveAtMost vs most → length (message_of t place (stamp_args stamp) index vs) ≤ 2000
+message_short t place stamp index vs most few have =
+    let p : List ℕ = place_bytes place in
     let s : List ℕ = bytes_vals t (stamp_slots t (stamp_of t)) (stamp_args stamp) in
     let a : List ℕ = bytes_vals t (own_slots t index) vs in
-    omega (arith, length-append (little_bytes 2 index) (s ++ a), length-append s a, length_little 2 index, stamp_most t (stamp_slots t (stamp_of t)) stamp, have t (own_slots t index), few)
+    let whole = length-append (message_head index place s) a in
+    let head = length-append (little_bytes 2 index) (p ++ s) in
+    omega (arith, whole, head, length-append p s, length_little 2 index, place_few place, stamp_most t (stamp_slots t (stamp_of t)) stamp, have t (own_slots t index), few)
 
 pub written : (old new message : List ℕ) (r : Result ℕ Long) → length message ≤ 2000 → Puts old new 0 r message → Writes old new r message
 written old new message (Ok n) short w = record { message_is = w.front; length_is = omega (arith, w.end_is); short = w.fits; behind = w.behind }

@@ -14,6 +14,7 @@ use Rattle.defmt_values.specs.Entries.{look, Place}
 use Rattle.defmt_values.specs.Plain.{Val, uint, int, flag, char, str, istr, bytes, bits, format, seq, Vals, no_vals, val, Elems, no_elems, elem, elems_len}
 use Rattle.defmt_values.specs.Scan.{◌>>=◌, form_at, pick, own_form, index_or}
 use Rattle.defmt_intern.specs.Stamp.{stamp_of}
+use Rattle.defmt_encode.specs.Placed.{place_bytes}
 use Rattle.rzcobs_core.specs.Canon.{frame}
 
 -- how many bytes an integer of a size has; native integers are those of a 32-bit device
@@ -112,13 +113,13 @@ abbrev pub stamp_slots : Map → Option ℕ → List Slot
 stamp_slots t None = []
 stamp_slots t (Some index) = own_slots t index
 
--- the head of a message, in front of the statement's own arguments: its index, and the bytes of the stamp
-abbrev pub message_head : ℕ → List ℕ → List ℕ
-message_head index stamp = little_bytes 2 index ++ stamp
+-- the head of a message, in front of the statement's own arguments: its index, its place, and the bytes of the stamp
+abbrev pub message_head : ℕ → Option ℕ → List ℕ → List ℕ
+message_head index place stamp = little_bytes 2 index ++ (place_bytes place ++ stamp)
 
 -- the message of a statement
-abbrev pub message_of : Map → Vals → ℕ → Vals → List ℕ
-message_of t stamp index vs = message_head index (bytes_vals t (stamp_slots t (stamp_of t)) stamp) ++ bytes_vals t (own_slots t index) vs
+abbrev pub message_of : Map → Option ℕ → Vals → ℕ → Vals → List ℕ
+message_of t place stamp index vs = message_head index place (bytes_vals t (stamp_slots t (stamp_of t)) stamp) ++ bytes_vals t (own_slots t index) vs
 
 -- the arguments of a stamp that is one number
 abbrev pub stamp_args : Option ℕ → Vals

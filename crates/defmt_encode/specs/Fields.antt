@@ -1,10 +1,12 @@
 -- Fields that stand in front of bytes.
-use Rattle.std.specs.Prelude.{◌≡◌, ◌<◌, ◌≤◌, ◌+◌, ◌^◌, ℕ, true, List, ◌++◌, length, Some}
+use Rattle.std.specs.Prelude.{◌≡◌, ◌<◌, ◌≤◌, ◌+◌, ◌^◌, ℕ, true, List, ◌++◌, length, Option, Some}
 use Rattle.byteorder.specs.Endian.{little_bytes}
 use Rattle.defmt_grammar.specs.declared.piece.Piece.{Piece}
 use Rattle.defmt_intern.specs.Body.{body_of}
 use Rattle.defmt_intern.specs.Table.{Map}
 use Rattle.defmt_intern.specs.declared.entry.Entry.{Entry}
+use Rattle.defmt_intern.specs.declared.table.Profile.{Profile}
+use Rattle.defmt_encode.specs.Placed.{HasPlace, place_bytes}
 use Rattle.defmt_intern.specs.declared.parsed.Parsed.{Parsed}
 use Rattle.defmt_intern.specs.declared.parsed.Parsed.TheVariants.{One}
 use Rattle.defmt_values.specs.Entries.{look, is_logged, Place}
@@ -54,6 +56,11 @@ pub record FoundElems (t : Map) (left index : ℕ) (form : Parsed) (w s r : ℕ)
   pub lengths : ElemsLengthsFit t index es
   pub sums : Sums s (weigh_elems t index w es) r
   pub carries : bytes ≡ bytes_elems t index es ++ rest
+
+-- the place of a profile, where it has one
+pub record FoundPlace (p : Profile) (place : Option ℕ) (bytes rest : List ℕ) : Type 0 where
+  pub has : HasPlace p place
+  pub carries : bytes ≡ place_bytes place ++ rest
 
 -- a fitting stamp
 pub record FoundStamp (t : Map) (stamp : Vals) (bytes rest : List ℕ) : Type 0 where

@@ -5,5 +5,6 @@ pub mod Heard
 pub mod Lengths
 pub mod Met
 pub mod Out
+pub mod Placed
 pub mod Read
 pub mod Reads

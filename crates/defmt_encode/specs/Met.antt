@@ -8,7 +8,10 @@ use Rattle.defmt_grammar.specs.declared.piece.Piece.{Piece}
 use Rattle.defmt_grammar.specs.declared.slot.Slot.{Slot}
 use Rattle.defmt_grammar.specs.declared.slot.Slot.TheVariants as slots
 use Rattle.defmt_intern.specs.Body.{body_of}
+use Rattle.defmt_intern.specs.Catalog.{Catalog}
 use Rattle.defmt_intern.specs.Table.{Map}
+use Rattle.defmt_intern.specs.declared.table.Profile.{Profile}
+use Rattle.defmt_intern.specs.declared.table.Profile.TheVariants as profiles
 use Rattle.defmt_intern.specs.declared.entry.Entry.{Entry}
 use Rattle.defmt_intern.specs.declared.entry.Tag.{Tag}
 use Rattle.defmt_intern.specs.declared.parsed.Parsed.{Parsed}
@@ -18,7 +21,7 @@ use Rattle.defmt_values.specs.Fits.{IsForm, HasPieces}
 use Rattle.defmt_values.specs.Plain.{Vals, Elems, elems_len}
 use Rattle.defmt_encode.specs.Carry.{size_bytes, variant_byte}
 use Rattle.defmt_encode.specs.Cause.{cause_number}
-use Rattle.defmt_encode.specs.Fields.{IsNumber, IsChunk, FoundVals, FoundElems, FoundStamp, IsOwn}
+use Rattle.defmt_encode.specs.Fields.{IsNumber, IsChunk, FoundVals, FoundElems, FoundStamp, FoundPlace, IsOwn}
 use Rattle.defmt_encode.specs.Read.{tag_cause, is_padding}
 use Rattle.defmt_intern.specs.Stamp.{stamp_of}
 use Rattle.defmt_encode.specs.declared.cause.Cause.{Cause}
@@ -179,18 +182,28 @@ MetStamp t (Some index) bytes c =
     ((e : Entry) × (look t index ≡ Some e) × IsNotOne (body_of e) × (c ≡ causes.Unsupported))
     ⊎ ((e : Entry) × (ps : List Piece) × (look t index ≡ Some e) × (body_of e ≡ One ps) × MetEach t 16 (met_at t 16) (places_of ps) 1 0 bytes c)
 
--- behind a frame's index and its entry: the stamp, an argument, or what follows the last one
+-- behind a frame's place: the stamp, an argument, or what follows the last one
 abbrev pub MetBehind : Map → List Piece → List ℕ → Cause → Type 0
 MetBehind t ps bytes c = MetStamp t (stamp_of t) bytes c
     ⊎ ((stamp : Vals) × (rest : List ℕ) × FoundStamp t stamp bytes rest × MetEach t 16 (met_at t 16) (places_of ps) 1 0 rest c)
     ⊎ ((stamp : Vals) × (mid : List ℕ) × (vs : Vals) × (sum : ℕ) × (rest : List ℕ) × FoundStamp t stamp bytes mid × FoundVals t 16 (places_of ps) 1 0 sum vs mid rest × (is_padding rest ≡ false) × (c ≡ causes.Trailing))
 
+-- the place is cut off, where there is one
+abbrev pub MetPlace : Profile → List ℕ → Cause → Type 0
+MetPlace profiles.One bytes c = ⊥
+MetPlace profiles.Two bytes c = IsCut 2 bytes c
+
+-- behind a frame's index and its entry: the place, or what stands behind it
+abbrev pub MetPlaced : Catalog → List Piece → List ℕ → Cause → Type 0
+MetPlaced t ps bytes c = MetPlace t.profile bytes c
+    ⊎ ((place : Option ℕ) × (rest : List ℕ) × FoundPlace t.profile place bytes rest × MetBehind t.entries ps rest c)
+
 -- a message is refused with this cause
-abbrev pub Meets : Map → List ℕ → Cause → Type 0
+abbrev pub Meets : Catalog → List ℕ → Cause → Type 0
 Meets t bytes c = IsCut 2 bytes c
-    ⊎ ((i : ℕ) × (rest : List ℕ) × IsNumber 2 i bytes rest × MetOwn t i c)
-    ⊎ ((i : ℕ) × (rest : List ℕ) × (ps : List Piece) × IsNumber 2 i bytes rest × IsOwn t i ps × MetBehind t ps rest c)
+    ⊎ ((i : ℕ) × (rest : List ℕ) × IsNumber 2 i bytes rest × MetOwn t.entries i c)
+    ⊎ ((i : ℕ) × (rest : List ℕ) × (ps : List Piece) × IsNumber 2 i bytes rest × IsOwn t.entries i ps × MetPlaced t ps rest c)
 
 -- the same, by the event's number
-abbrev pub IsMet : Map → List ℕ → ℕ → Type 0
+abbrev pub IsMet : Catalog → List ℕ → ℕ → Type 0
 IsMet t bytes number = (c : Cause) × (number ≡ cause_number c) × Meets t bytes c

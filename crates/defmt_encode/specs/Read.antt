@@ -9,7 +9,10 @@ use Rattle.defmt_grammar.specs.declared.piece.Piece.{Piece}
 use Rattle.defmt_grammar.specs.declared.slot.Slot.{Slot}
 use Rattle.defmt_grammar.specs.declared.slot.Slot.TheVariants as slots
 use Rattle.defmt_intern.specs.Body.{body_of}
+use Rattle.defmt_intern.specs.Catalog.{Catalog}
 use Rattle.defmt_intern.specs.Table.{Map}
+use Rattle.defmt_intern.specs.declared.table.Profile.{Profile}
+use Rattle.defmt_intern.specs.declared.table.Profile.TheVariants as profiles
 use Rattle.defmt_intern.specs.declared.entry.Entry.{Entry}
 use Rattle.defmt_intern.specs.declared.entry.Tag.{Tag}
 use Rattle.defmt_intern.specs.declared.entry.Tag.TheVariants as tags
@@ -246,12 +249,18 @@ is_padding bytes = nat_le (length bytes) 6 && all_zero bytes
 abbrev pub padded : List ℕ → Read (Unit {0})
 padded bytes = if is_padding bytes then Ok tt else Err causes.Trailing
 
--- the stamp, the index and the arguments of a message, or the first cause for which there are none
-abbrev pub message_at : Map → List ℕ → Read (Vals × ℕ × Vals)
+-- the place of a profile, where it has one
+abbrev pub place_at : Profile → List ℕ → Read (Option ℕ × List ℕ)
+place_at profiles.One bytes = Ok (None, bytes)
+place_at profiles.Two bytes = number_at 2 bytes ⇒ λ r. Ok (Some r.0, r.1)
+
+-- the place, the stamp, the index and the arguments of a message, or the first cause for which there are none
+abbrev pub message_at : Catalog → List ℕ → Read (Option ℕ × Vals × ℕ × Vals)
 message_at t bytes =
     number_at 2 bytes ⇒ λ i.
-    logged_of (look t i.0) ⇒ λ ps.
-    stamp_at t (stamp_of t) i.1 ⇒ λ s.
-    each_at (value_at t 16) (places_of ps) 1 0 s.1 ⇒ λ r.
+    logged_of (look t.entries i.0) ⇒ λ ps.
+    place_at t.profile i.1 ⇒ λ q.
+    stamp_at t.entries (stamp_of t.entries) q.1 ⇒ λ s.
+    each_at (value_at t.entries 16) (places_of ps) 1 0 s.1 ⇒ λ r.
     padded r.2 ⇒ λ _.
-    Ok (s.0, i.0, r.0)
+    Ok (q.0, s.0, i.0, r.0)

@@ -6,7 +6,7 @@ use Rattle.defmt_grammar.specs.declared.piece.Piece.{Piece}
 use Rattle.defmt_grammar.specs.declared.kind.Kind.TheVariants as kinds
 use Rattle.defmt_grammar.specs.declared.slot.Slot.{Slot}
 use Rattle.defmt_grammar.specs.declared.slot.Slot.TheVariants as slots
-use Rattle.defmt_intern.specs.Table.{Map}
+use Rattle.defmt_intern.specs.Catalog.{Catalog}
 use Rattle.defmt_values.specs.Plain.{Val, Vals, Elems}
 use Rattle.defmt_values.specs.View.{plain}
 use Rattle.defmt_values.specs.declared.value.Item.{Item}
@@ -77,8 +77,8 @@ ReadsStamp (Ok r) expected = Ok (r.0, r.1.now) ≡ expected
 ReadsStamp (Err (Bad c)) expected = Err c ≡ expected
 ReadsStamp (Err Memory) expected = Unit {0}
 
-abbrev pub ReadsMessage : Result Heard Fault → Read (Vals × ℕ × Vals) → Type 0
-ReadsMessage (Ok heard) expected = Ok (heard.stamp, heard.stm.index, heard.stm.args) ≡ expected
+abbrev pub ReadsMessage : Result Heard Fault → Read (Option ℕ × Vals × ℕ × Vals) → Type 0
+ReadsMessage (Ok heard) expected = Ok (heard.place, heard.stamp, heard.stm.index, heard.stm.args) ≡ expected
 ReadsMessage (Err (Bad c)) expected = Err c ≡ expected
 ReadsMessage (Err Memory) expected = Unit {0}
 
@@ -116,16 +116,16 @@ answered (Ok heard) = Ok heard
 answered (Err fault) = Err (answer_of fault)
 
 -- only what is heard is answered, and only a cause that is met
-abbrev pub Answers : Map → List ℕ → Result Heard ReadCause → Type 0
-Answers t bytes (Ok heard) = IsHeard t bytes heard.stamp heard.stm.index heard.stm.args
+abbrev pub Answers : Catalog → List ℕ → Result Heard ReadCause → Type 0
+Answers t bytes (Ok heard) = IsHeard t bytes heard.place heard.stamp heard.stm.index heard.stm.args
 Answers t bytes (Err (answers.Bad cause)) = IsMet t bytes cause
 Answers t bytes (Err answers.Memory) = Unit {0}
 
--- this stamp and statement, unless memory runs out
-abbrev pub GivesOnly : Result Heard ReadCause → Vals → ℕ → Vals → Type 0
-GivesOnly (Ok heard) stamp index vs = (heard.stamp ≡ stamp) × (heard.stm.index ≡ index) × (heard.stm.args ≡ vs)
-GivesOnly (Err (answers.Bad cause)) stamp index vs = ⊥
-GivesOnly (Err answers.Memory) stamp index vs = Unit {0}
+-- this place, stamp and statement, unless memory runs out
+abbrev pub GivesOnly : Result Heard ReadCause → Option ℕ → Vals → ℕ → Vals → Type 0
+GivesOnly (Ok heard) place stamp index vs = (heard.place ≡ place) × (heard.stamp ≡ stamp) × (heard.stm.index ≡ index) × (heard.stm.args ≡ vs)
+GivesOnly (Err (answers.Bad cause)) place stamp index vs = ⊥
+GivesOnly (Err answers.Memory) place stamp index vs = Unit {0}
 
 -- this cause, unless memory runs out
 abbrev pub RefusesOnly : Result Heard ReadCause → ℕ → Type 0

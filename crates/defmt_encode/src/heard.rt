@@ -1,11 +1,11 @@
 //! Messages read from bytes.
-ghost use Rattle.std.specs.Prelude.{◌≡◌, ℕ};
+ghost use Rattle.std.specs.Prelude.{◌≡◌, ℕ, Option};
 ghost use Rattle.defmt_values.specs.Entries.{look};
 ghost use Rattle.defmt_values.specs.Plain.{Vals};
 ghost use Rattle.defmt_encode.specs.Heard.{IsHeard};
 ghost use Rattle.defmt_encode.specs.Met.{IsMet};
-ghost use Rattle.defmt_encode.specs.Read.{one_in, logged_of, stamp_form, stamp_at, all_zero, is_padding, message_at};
-ghost use Rattle.defmt_encode.specs.Reads.{now_of, ReadsStamp, ReadsMessage, Answers, GivesOnly, RefusesOnly, answered, told, with_stamp};
+ghost use Rattle.defmt_encode.specs.Read.{one_in, logged_of, stamp_form, stamp_at, place_at, all_zero, is_padding, message_at};
+ghost use Rattle.defmt_encode.specs.Reads.{now_of, pair_now, ReadsStamp, ReadsMessage, Answers, GivesOnly, RefusesOnly, answered, told, with_stamp};
 ghost use Rattle.defmt_encode.specs.declared.heard.Heard.{Heard as AnyHeard};
 ghost use Rattle.defmt_intern.specs.Stamp.{stamp_of};
 
@@ -13,13 +13,15 @@ use crate::cause::{Cause, Fault};
 use crate::field::index;
 use crate::read::{read_own, suited};
 use defmt_grammar::Pieces;
-use defmt_intern::{Parsed, Table};
+use defmt_intern::{Parsed, Profile, Table};
 use defmt_values::{Args, Statement, cut, is_logged, look_up};
 use std::alloc::Global;
 
 /// What a message says.
 #[derive(Drop)]
 pub struct Heard {
+    /// The number of the message's mark modulo 65,536: there is one exactly in profile Two.
+    pub place: Option<u16>,
     /// The stamp's arguments, none where the table has no timestamp's entry.
     pub stamp: Args,
     /// The statement.
@@ -85,13 +87,26 @@ fn stamp_form(table: &Table, index: u16) -> Result<&Pieces, Cause>
     }
 }
 
+fn read_place<'b>(table: &Table, bytes: &'b [u8]) -> Result<(Option<u16>, &'b [u8]), Cause>
+    ensures { pair_now result ≡ place_at table.now.profile bytes.now }
+{
+    match table.profile() {
+        Profile::One => Ok((None, bytes)),
+        Profile::Two => {
+            let (place, rest) = index(bytes)?;
+            Ok((Some(place), rest))
+        }
+    }
+}
+
 fn read_stamp<'b>(
     alloc: Global,
     table: &Table,
     bytes: &'b [u8],
     stamp: &mut Args,
 ) -> Result<&'b [u8], Fault>
-    ensures { ReadsStamp (with_stamp stamp.new result) (stamp_at table.now.entries (stamp_of table.now.entries) bytes.now) }
+    ensures { ReadsStamp (with_stamp stamp.new result)
+        (stamp_at table.now.entries (stamp_of table.now.entries) bytes.now) }
 {
     match table.stamp() {
         None => {
@@ -122,15 +137,17 @@ fn is_padding(bytes: &[u8]) -> bool
 }
 
 fn read_whole(alloc: Global, table: &Table, bytes: &[u8], heard: &mut Heard) -> Result<(), Fault>
-    ensures { ReadsMessage (told heard.new result) (message_at table.now.entries bytes.now) }
+    ensures { ReadsMessage (told heard.new result) (message_at table.now bytes.now) }
 {
     let (index, rest) = index(bytes)?;
     let pieces = logged(table, index)?;
+    let (place, rest) = read_place(table, rest)?;
     let rest = read_stamp(alloc, table, rest, &mut heard.stamp)?;
     let (_, rest) = read_own(alloc, table, pieces, rest, &mut heard.stm.args)?;
     if !is_padding(rest) {
         return Err(Fault::Bad(Cause::Trailing));
     }
+    heard.place = place;
     heard.stm.index = index;
     Ok(())
 }
@@ -146,19 +163,21 @@ fn answered(read: Result<(), Fault>) -> Result<(), ReadCause>
 }
 
 impl Heard {
-    ghost use Rattle.std.specs.Prelude.{◌≡◌, ℕ};
+    ghost use Rattle.std.specs.Prelude.{◌≡◌, ℕ, Option, None};
     ghost use Rattle.defmt_values.specs.Plain.{Vals, no_vals};
     ghost use Rattle.defmt_encode.specs.Heard.{IsHeard};
     ghost use Rattle.defmt_encode.specs.Met.{IsMet};
     ghost use Rattle.defmt_encode.specs.Reads.{Answers, GivesOnly, RefusesOnly, told};
 
-    /// No stamp, and a statement of the index 0 without arguments. Takes no memory.
+    /// No place and no stamp, and a statement of the index 0 without arguments. Takes no memory.
     pub fn new(alloc: Global) -> Self
+        ensures place { result.place ≡ None }
         ensures stamp { result.stamp ≡ no_vals }
         ensures index { result.stm.index ≡ 0 }
         ensures args { result.stm.args ≡ no_vals }
     {
         Heard {
+            place: None,
             stamp: Args::new(alloc),
             stm: Statement {
                 index: 0,
@@ -175,16 +194,19 @@ impl Heard {
     #[inline(never)]
     pub fn hear(&mut self, alloc: Global, table: &Table, bytes: &[u8]) -> Result<(), ReadCause>
         // A statement is answered only where it is heard, and a cause only where it is met.
-        ensures answer { Answers table.now.entries bytes.now (told self.new result) }
+        ensures answer { Answers table.now bytes.now (told self.new result) }
         // Unless memory runs out, what is heard is answered, and the cause that is met.
-        ensures heard { (stamp : Vals) (index : ℕ) (vs : Vals) → IsHeard table.now.entries bytes.now stamp index vs → GivesOnly (told self.new result) stamp index vs }
-        ensures met { (number : ℕ) → IsMet table.now.entries bytes.now number → RefusesOnly (told self.new result) number }
+        ensures heard { (place : Option ℕ) (stamp : Vals) (index : ℕ) (vs : Vals)
+            → IsHeard table.now bytes.now place stamp index vs
+            → GivesOnly (told self.new result) place stamp index vs }
+        ensures met { (number : ℕ) → IsMet table.now bytes.now number
+            → RefusesOnly (told self.new result) number }
     {
         answered(read_whole(alloc, table, bytes, self))
     }
 }
 
-/// The stamp and the statement of a message, or the first cause for which it has none (defmt book,
+/// The place, the stamp and the statement of a message, or the first cause for which it has none (defmt book,
 /// "Serialization").
 ///
 /// Behind the last argument there may be up to six zeros, which the last block of a code may add.
@@ -194,10 +216,11 @@ impl Heard {
 /// where memory runs out.
 pub fn read_message(alloc: Global, table: &Table, bytes: &[u8]) -> Result<Heard, ReadCause>
     // A statement is answered only where it is heard, and a cause only where it is met.
-    ensures answer { Answers table.now.entries bytes.now result }
+    ensures answer { Answers table.now bytes.now result }
     // Unless memory runs out, what is heard is answered, and the cause that is met.
-    ensures heard { (stamp : Vals) (index : ℕ) (vs : Vals) → IsHeard table.now.entries bytes.now stamp index vs → GivesOnly result stamp index vs }
-    ensures met { (number : ℕ) → IsMet table.now.entries bytes.now number → RefusesOnly result number }
+    ensures heard { (place : Option ℕ) (stamp : Vals) (index : ℕ) (vs : Vals)
+        → IsHeard table.now bytes.now place stamp index vs → GivesOnly result place stamp index vs }
+    ensures met { (number : ℕ) → IsMet table.now bytes.now number → RefusesOnly result number }
 {
     let mut heard = Heard::new(alloc);
     heard.hear(alloc, table, bytes)?;

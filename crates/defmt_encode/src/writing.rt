@@ -1,18 +1,19 @@
 //! The message of a statement.
-ghost use Rattle.std.specs.Prelude.{◌≡◌, ◌≤◌, ◌++◌, ◌/◌, ◌^◌, [], length, nat_lt};
+ghost use Rattle.std.specs.Prelude.{◌≡◌, ◌≤◌, ◌++◌, ◌/◌, ◌^◌, ◌↔◌, [], length, nat_lt, IsTrue};
 ghost use Rattle.byteorder.specs.Endian.{little_bytes};
 ghost use Rattle.defmt_encode.specs.Carry.{size_bytes, uint_width, int_width, length_bytes, window_width, window_first, variant_byte, count_bytes, index_bytes, node_slots, own_slots, stamp_slots, stamp_args, bytes_val, bytes_vals, bytes_elems, message_of};
 ghost use Rattle.defmt_encode.specs.Out.{HasAtMost, HaveAtMost, Puts, Writes};
+ghost use Rattle.defmt_encode.specs.Placed.{HasPlace, place_bytes};
 ghost use Rattle.defmt_intern.specs.Stamp.{stamp_of};
 ghost use Rattle.defmt_values.specs.View.{plain};
 
 use crate::put::{Long, put, put_bytes, put_number};
 use defmt_grammar::{IntSize, Kind, Slot};
-use defmt_intern::Table;
+use defmt_intern::{Profile, Table};
 use defmt_values::{Args, Item, Items, Statement, Value, cut, form_of, own_form, pick, power};
 
-// With at most so many bytes of arguments a message is short, with any stamp.
-const SHORT: usize = 2000 - 18;
+// With at most so many bytes of arguments a message is short, with any place and any stamp.
+const SHORT: usize = 2000 - 20;
 
 /// How many bytes an integer of a size has. Native integers have four. Takes no memory.
 pub fn size_bytes(size: IntSize) -> u8
@@ -117,7 +118,8 @@ pub fn put_slice(out: &mut [u8], at: usize, slot: Slot, bytes: &[u8]) -> Result<
 
 fn put_window(out: &mut [u8], at: usize, slot: Slot, n: u128) -> Result<usize, Long>
     requires { (2000 ≤ length out.old) × (at ≤ 2000) }
-    ensures { Puts out.old out.new at result (little_bytes (window_width slot) (n / 256 ^ window_first slot)) }
+    ensures { Puts out.old out.new at result
+        (little_bytes (window_width slot) (n / 256 ^ window_first slot)) }
 {
     match slot {
         Slot::Bits { first, width } => put_number(out, at, shifted(n, first), width),
@@ -258,7 +260,10 @@ fn put_item(
     at: usize,
 ) -> Result<usize, Long>
     requires { (2000 ≤ length out.old) × (at ≤ 2000) }
-    ensures { Puts out.old out.new at result (variant_byte item.now.variant ++ bytes_vals table.now.entries (node_slots table.now.entries index item.now.variant) item.now.args) }
+    ensures { Puts out.old out.new at result
+        (variant_byte item.now.variant
+        ++ bytes_vals table.now.entries
+        (node_slots table.now.entries index item.now.variant) item.now.args) }
 {
     let at = put_variant(out, at, item.variant)?;
     put_args(
@@ -304,7 +309,9 @@ pub fn stamp_slots(table: &Table) -> &[Slot]
 #[tactic(auto, unfolding(crate::specs::Carry::bytes_vals))]
 fn put_stamp(table: &Table, stamp: Option<u64>, out: &mut [u8], at: usize) -> Result<usize, Long>
     requires { (2000 ≤ length out.old) × (at ≤ 2000) }
-    ensures { Puts out.old out.new at result (bytes_vals table.now.entries (stamp_slots table.now.entries (stamp_of table.now.entries)) (stamp_args stamp)) }
+    ensures { Puts out.old out.new at result
+        (bytes_vals table.now.entries (stamp_slots table.now.entries (stamp_of table.now.entries))
+        (stamp_args stamp)) }
 {
     let Some(n) = stamp else {
         return Ok(at);
@@ -313,6 +320,35 @@ fn put_stamp(table: &Table, stamp: Option<u64>, out: &mut [u8], at: usize) -> Re
         None => Ok(at),
         Some(slot) => put_number(out, at, u128::from(n), uint_width(*slot)),
     }
+}
+
+// Puts a place, where there is one.
+fn put_place(out: &mut [u8], at: usize, place: Option<u16>) -> Result<usize, Long>
+    requires { (2000 ≤ length out.old) × (at ≤ 2000) }
+    ensures { Puts out.old out.new at result (place_bytes place) }
+{
+    match place {
+        None => Ok(at),
+        Some(n) => put_number(out, at, u128::from(n), 2),
+    }
+}
+
+// Puts a place and then a stamp.
+#[tactic(auto, using(crate::proofs::Chain::refused_more))]
+fn put_place_and_stamp(
+    table: &Table,
+    place: Option<u16>,
+    stamp: Option<u64>,
+    out: &mut [u8],
+    at: usize,
+) -> Result<usize, Long>
+    requires { (2000 ≤ length out.old) × (at ≤ 2000) }
+    ensures { Puts out.old out.new at result
+        (place_bytes place ++ bytes_vals table.now.entries
+        (stamp_slots table.now.entries (stamp_of table.now.entries)) (stamp_args stamp)) }
+{
+    let at = put_place(out, at, place)?;
+    put_stamp(table, stamp, out, at)
 }
 
 // The most bytes that a value has in a message, whatever its slot: more than a whole message may have where values stand
@@ -347,15 +383,17 @@ fn most_of(args: &Args) -> usize
 
 fn put_message(
     table: &Table,
+    place: Option<u16>,
     stamp: Option<u64>,
     stm: &Statement,
     out: &mut [u8],
 ) -> Result<usize, Long>
     requires { 2000 ≤ length out.old }
-    ensures { Puts out.old out.new 0 result (message_of table.now.entries (stamp_args stamp) stm.now.index stm.now.args) }
+    ensures { Puts out.old out.new 0 result
+        (message_of table.now.entries place (stamp_args stamp) stm.now.index stm.now.args) }
 {
     let at = put_number(out, 0, u128::from(stm.index), 2)?;
-    let at = put_stamp(table, stamp, out, at)?;
+    let at = put_place_and_stamp(table, place, stamp, out, at)?;
     put_args(table, own_slots(table, stm.index), &stm.args, out, at)
 }
 
@@ -363,62 +401,83 @@ fn put_message(
 #[inline(never)]
 fn message_by_copy(
     table: &Table,
+    place: Option<u16>,
     stamp: Option<u64>,
     stm: &Statement,
     out: &mut [u8],
 ) -> Result<usize, Long>
     requires { 2000 ≤ length out.old }
-    ensures { Writes out.old out.new result (message_of table.now.entries (stamp_args stamp) stm.now.index stm.now.args) }
+    ensures { Writes out.old out.new result
+        (message_of table.now.entries place (stamp_args stamp) stm.now.index stm.now.args) }
 {
     let mut whole = [0u8; 2000];
-    let count = put_message(table, stamp, stm, &mut whole)?;
+    let count = put_message(table, place, stamp, stm, &mut whole)?;
     out[..count].copy_from_slice(&whole[..count]);
     Ok(count)
 }
 
 // The same of a message that is written to a buffer of its own.
 #[inline(never)]
-fn is_long_by_copy(table: &Table, stamp: Option<u64>, stm: &Statement) -> bool
-    ensures { result ≡ nat_lt 2000 (length (message_of table.now.entries (stamp_args stamp) stm.now.index stm.now.args)) }
+fn is_long_by_copy(table: &Table, place: Option<u16>, stamp: Option<u64>, stm: &Statement) -> bool
+    ensures { result ≡ nat_lt 2000
+        (length (message_of table.now.entries place
+        (stamp_args stamp) stm.now.index stm.now.args)) }
 {
     let mut whole = [0u8; 2000];
-    match put_message(table, stamp, stm, &mut whole) {
+    match put_message(table, place, stamp, stm, &mut whole) {
         Ok(_) => false,
         Err(Long) => true,
     }
 }
 
+/// Whether a place suits a table: there is one exactly in profile Two. Takes no memory.
+pub fn place_suits(table: &Table, place: Option<u16>) -> bool
+    ensures { IsTrue result ↔ HasPlace table.now.profile place }
+{
+    match (table.profile(), place) {
+        (Profile::One, None) => true,
+        (Profile::One, Some(_)) => false,
+        (Profile::Two, None) => false,
+        (Profile::Two, Some(_)) => true,
+    }
+}
+
 /// Whether the message of a statement has more than 2,000 bytes: whether `message` refuses it. Takes no memory.
-pub fn is_long(table: &Table, stamp: Option<u64>, stm: &Statement) -> bool
-    ensures { result ≡ nat_lt 2000 (length (message_of table.now.entries (stamp_args stamp) stm.now.index stm.now.args)) }
+pub fn is_long(table: &Table, place: Option<u16>, stamp: Option<u64>, stm: &Statement) -> bool
+    ensures { result ≡ nat_lt 2000
+        (length (message_of table.now.entries place
+        (stamp_args stamp) stm.now.index stm.now.args)) }
 {
     if most_of(&stm.args) <= SHORT {
         return false;
     }
-    is_long_by_copy(table, stamp, stm)
+    is_long_by_copy(table, place, stamp, stm)
 }
 
 /// Writes the message of a statement to the front of a buffer, and answers how many bytes it has
 /// (defmt book, "Serialization").
 ///
-/// A message is the statement's index in two bytes, the stamp where the table has a timestamp's
-/// entry, and the arguments in the order of their positions; numbers come with their lowest byte
-/// first. The buffer has at least 2,000 bytes. What lies behind the message is left as it was.
-/// Takes no memory.
+/// A message is the statement's index in two bytes, in profile Two its place in two more, the stamp
+/// where the table has a timestamp's entry, and the arguments in the order of their positions; numbers
+/// come with their lowest byte first. There is a place exactly in profile Two (`place_suits`). The
+/// buffer has at least 2,000 bytes. What lies behind the message is left as it was. Takes no memory.
 ///
 /// # Errors
 /// `Long` exactly where the message has more than 2,000 bytes. The buffer is then as before.
 pub fn message(
     table: &Table,
+    place: Option<u16>,
     stamp: Option<u64>,
     stm: &Statement,
     out: &mut [u8],
 ) -> Result<usize, Long>
-    requires { 2000 ≤ length out.old }
-    ensures { Writes out.old out.new result (message_of table.now.entries (stamp_args stamp) stm.now.index stm.now.args) }
+    requires place { HasPlace table.now.profile place }
+    requires room { 2000 ≤ length out.old }
+    ensures { Writes out.old out.new result
+        (message_of table.now.entries place (stamp_args stamp) stm.now.index stm.now.args) }
 {
     if most_of(&stm.args) <= SHORT {
-        return put_message(table, stamp, stm, out);
+        return put_message(table, place, stamp, stm, out);
     }
-    message_by_copy(table, stamp, stm, out)
+    message_by_copy(table, place, stamp, stm, out)
 }

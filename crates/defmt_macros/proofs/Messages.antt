@@ -5,6 +5,7 @@ use Rattle.byteorder.specs.Endian.{little_bytes}
 use Rattle.defmt_encode.proofs.Chain.{later}
 use Rattle.defmt_encode.proofs.Entries.{slots_from}
 use Rattle.defmt_encode.specs.Carry.{bytes_val, bytes_vals, message_of, own_slots, slots_at, slots_in, stamp_args, stamp_slots}
+use Rattle.defmt_encode.specs.Placed.{place_bytes}
 use Rattle.defmt_intern.specs.Stamp.{stamp_of}
 use Rattle.defmt_grammar.specs.Slots.{slots_of}
 use Rattle.defmt_grammar.specs.declared.slot.Slot.{Slot}
@@ -28,11 +29,11 @@ stamped t slots None p = refl
 stamped t slots (Some n) p = rw p (append-nil (little_bytes 8 n))
 
 -- a message is its head and the bytes of its arguments
-pub parts : (t : Map) (index : ℕ) (tag : Tag) (slots : List Slot) (stamp : Option ℕ) (vs : Vals) → IsSite t index tag slots → StampSuits t stamp
-    → message_of t (stamp_args stamp) index vs ≡ head_of index stamp ++ bytes_vals t slots vs
-parts t index tag slots stamp vs site suits =
-    ap (λ (b : List ℕ). (little_bytes 2 index ++ b) ++ bytes_vals t (own_slots t index) vs) (stamped t (stamp_slots t (stamp_of t)) stamp suits)
-    ∙ ap (λ (ss : List Slot). head_of index stamp ++ bytes_vals t ss vs) (own t index tag slots site)
+pub parts : (t : Map) (index : ℕ) (tag : Tag) (slots : List Slot) (place stamp : Option ℕ) (vs : Vals) → IsSite t index tag slots → StampSuits t stamp
+    → message_of t place (stamp_args stamp) index vs ≡ head_of index place stamp ++ bytes_vals t slots vs
+parts t index tag slots place stamp vs site suits =
+    ap (λ (b : List ℕ). (little_bytes 2 index ++ (place_bytes place ++ b)) ++ bytes_vals t (own_slots t index) vs) (stamped t (stamp_slots t (stamp_of t)) stamp suits)
+    ∙ ap (λ (ss : List Slot). head_of index place stamp ++ bytes_vals t ss vs) (own t index tag slots site)
 
 -- ---- what lies behind
 
@@ -78,29 +79,29 @@ snoc_len : (vs : Vals) (v : Val) → vals_len (snoc vs v) ≡ vals_len vs + 1
 snoc_len no_vals v = refl
 snoc_len (val w ws) v = ap (λ n. n + 1) (snoc_len ws v)
 
-module _ (t : Map) (index : ℕ) (slots : List Slot) (stamp : Option ℕ) where
+module _ (t : Map) (index : ℕ) (slots : List Slot) (place stamp : Option ℕ) where
   -- a frame that begins holds no values
-  pub begun : (frame : Frame) → bytes_put frame ≡ head_of index stamp → frame.left.now ≡ slots → Holds t index slots stamp no_vals frame
+  pub begun : (frame : Frame) → bytes_put frame ≡ head_of index place stamp → frame.left.now ≡ slots → Holds t index slots place stamp no_vals frame
   unfolding bytes_vals
-  begun frame b e = record { front = []; slots_are = sym e; size = refl; bytes_are = b ∙ sym (append-nil (head_of index stamp)) }
+  begun frame b e = record { front = []; slots_are = sym e; size = refl; bytes_are = b ∙ sym (append-nil (head_of index place stamp)) }
 
   -- a value more is held where its bytes are put
-  pub held : (vs : Vals) (v : Val) (old new : Frame) (slot : Slot) → Holds t index slots stamp vs old → Grows old new slot (bytes_val t slot v) → Holds t index slots stamp (snoc vs v) new
+  pub held : (vs : Vals) (v : Val) (old new : Frame) (slot : Slot) → Holds t index slots place stamp vs old → Grows old new slot (bytes_val t slot v) → Holds t index slots place stamp (snoc vs v) new
   held vs v old new slot h g = record {
     front = h.front ++ slot ∷ [];
     slots_are = h.slots_are ∙ ap (λ (ss : List Slot). h.front ++ ss) g.slots_are ∙ sym (append_assoc h.front (slot ∷ []) new.left.now);
     size = omega (arith, h.size, snoc_len vs v, length-append h.front (slot ∷ []));
-    bytes_are = g.bytes_are ∙ ap (λ (b : List ℕ). b ++ bytes_val t slot v) h.bytes_are ∙ append_assoc (head_of index stamp) (bytes_vals t h.front vs) (bytes_val t slot v)
-        ∙ ap (λ (b : List ℕ). head_of index stamp ++ b) (sym (one_more t h.front slot vs v h.size));
+    bytes_are = g.bytes_are ∙ ap (λ (b : List ℕ). b ++ bytes_val t slot v) h.bytes_are ∙ append_assoc (head_of index place stamp) (bytes_vals t h.front vs) (bytes_val t slot v)
+        ∙ ap (λ (b : List ℕ). head_of index place stamp ++ b) (sym (one_more t h.front slot vs v h.size));
   }
 
   -- a frame to which no slot is to come holds the message of its values
-  pub ended : (tag : Tag) (vs : Vals) (frame : Frame) (n : ℕ) (out : List ℕ) → IsSite t index tag slots → StampSuits t stamp → Holds t index slots stamp vs frame → frame.left.now ≡ [] → n ≡ frame.at → out ≡ frame.buf.now
-      → take n out ≡ message_of t (stamp_args stamp) index vs
+  pub ended : (tag : Tag) (vs : Vals) (frame : Frame) (n : ℕ) (out : List ℕ) → IsSite t index tag slots → StampSuits t stamp → Holds t index slots place stamp vs frame → frame.left.now ≡ [] → n ≡ frame.at → out ≡ frame.buf.now
+      → take n out ≡ message_of t place (stamp_args stamp) index vs
   ended tag vs frame n out site suits h none count same =
       let all : slots ≡ h.front = h.slots_are ∙ ap (λ (ss : List Slot). h.front ++ ss) none ∙ append-nil h.front in
       let taken : take n out ≡ bytes_put frame = ap (λ (k : ℕ). take k out) count ∙ ap (λ (b : List ℕ). take frame.at b) same in
-      taken ∙ h.bytes_are ∙ ap (λ (ss : List Slot). head_of index stamp ++ bytes_vals t ss vs) (sym all) ∙ sym (parts t index tag slots stamp vs site suits)
+      taken ∙ h.bytes_are ∙ ap (λ (ss : List Slot). head_of index place stamp ++ bytes_vals t ss vs) (sym all) ∙ sym (parts t index tag slots place stamp vs site suits)
 
 -- ---- values
 
@@ -121,20 +122,20 @@ fitting t index tag slots vs f site =
 
 -- ---- all values at once
 
-module _ (t : Map) (index : ℕ) (tag : Tag) (slots : List Slot) (stamp : Option ℕ) (vs : Vals) (site : IsSite t index tag slots) where
+module _ (t : Map) (index : ℕ) (tag : Tag) (slots : List Slot) (place stamp : Option ℕ) (vs : Vals) (site : IsSite t index tag slots) where
   pub all_fit : (left : List Slot) → left ≡ slots → Fits t index vs → FitSlots t left vs
   all_fit left e f =
       let P : List Slot → Type 0 = λ ss. FitSlots t ss vs in
       subst P (sym e) (fitting t index tag slots vs f site)
 
   module _ (suits : StampSuits t stamp) (left : List Slot) (e : left ≡ slots) where
-    in_parts : message_of t (stamp_args stamp) index vs ≡ head_of index stamp ++ bytes_vals t left vs
-    in_parts = parts t index tag slots stamp vs site suits ∙ ap (λ (ss : List Slot). head_of index stamp ++ bytes_vals t ss vs) (sym e)
+    in_parts : message_of t place (stamp_args stamp) index vs ≡ head_of index place stamp ++ bytes_vals t left vs
+    in_parts = parts t index tag slots place stamp vs site suits ∙ ap (λ (ss : List Slot). head_of index place stamp ++ bytes_vals t ss vs) (sym e)
 
-    pub whole_length : (at : ℕ) → at ≡ length (head_of index stamp) → at + length (bytes_vals t left vs) ≡ length (message_of t (stamp_args stamp) index vs)
-    whole_length at c = ap (λ (k : ℕ). k + length (bytes_vals t left vs)) c ∙ sym (length-append (head_of index stamp) (bytes_vals t left vs)) ∙ ap length (sym in_parts)
+    pub whole_length : (at : ℕ) → at ≡ length (head_of index place stamp) → at + length (bytes_vals t left vs) ≡ length (message_of t place (stamp_args stamp) index vs)
+    whole_length at c = ap (λ (k : ℕ). k + length (bytes_vals t left vs)) c ∙ sym (length-append (head_of index place stamp) (bytes_vals t left vs)) ∙ ap length (sym in_parts)
 
-    pub whole_message : (old new : Frame) (n : ℕ) (out : List ℕ) → bytes_put old ≡ head_of index stamp → GrowsByAll old new (bytes_vals t left vs) → n ≡ new.at → out ≡ new.buf.now → take n out ≡ message_of t (stamp_args stamp) index vs
+    pub whole_message : (old new : Frame) (n : ℕ) (out : List ℕ) → bytes_put old ≡ head_of index place stamp → GrowsByAll old new (bytes_vals t left vs) → n ≡ new.at → out ≡ new.buf.now → take n out ≡ message_of t place (stamp_args stamp) index vs
     whole_message old new n out b g count same =
         let taken : take n out ≡ bytes_put new = ap (λ (k : ℕ). take k out) count ∙ ap (λ (x : List ℕ). take new.at x) same in
         taken ∙ g.bytes_are ∙ ap (λ (x : List ℕ). x ++ bytes_vals t left vs) b ∙ sym in_parts

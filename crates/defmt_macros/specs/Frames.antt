@@ -47,8 +47,8 @@ stamp_bytes None = []
 stamp_bytes (Some n) = little_bytes 8 n
 
 -- the head of a message whose stamp is sent so
-abbrev pub head_of : ℕ → Option ℕ → List ℕ
-head_of index stamp = message_head index (stamp_bytes stamp)
+abbrev pub head_of : ℕ → Option ℕ → Option ℕ → List ℕ
+head_of index place stamp = message_head index place (stamp_bytes stamp)
 
 -- these bytes were put behind the others, what lies behind them is as before, and the slot is no more
 -- to come
@@ -74,8 +74,8 @@ FitSlots t (s ∷ ss) (val v vs) = FitsVal t 16 s v × FitSlots t ss vs
 
 -- The frame has the head, the bytes of these values for the slots in front, and the other slots to
 -- come.
-pub record Holds (t : Map) (index : ℕ) (slots : List Slot) (stamp : Option ℕ) (vs : Vals) (frame : Frame) : Type 0 where
+pub record Holds (t : Map) (index : ℕ) (slots : List Slot) (place stamp : Option ℕ) (vs : Vals) (frame : Frame) : Type 0 where
   pub front : List Slot
   pub slots_are : slots ≡ front ++ slots_left frame
   pub size : vals_len vs ≡ length front
-  pub bytes_are : bytes_put frame ≡ head_of index stamp ++ bytes_vals t front vs
+  pub bytes_are : bytes_put frame ≡ head_of index place stamp ++ bytes_vals t front vs

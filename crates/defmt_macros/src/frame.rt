@@ -35,20 +35,25 @@ impl<'b, 's> Frame<'b, 's> {
     ghost use Rattle.byteorder.specs.Endian.{little_bytes};
     ghost use Rattle.std.specs.Int.{w128, cast_unsigned};
 
-    /// Begins a message: its index in two bytes and, where there is a stamp, the stamp in eight, each with its
-    /// lowest byte first. All of the site's slots are to come.
+    /// Begins a message: its index in two bytes, its place in two more where there is one, and the stamp in eight where
+    /// there is one, each with its lowest byte first. All of the site's slots are to come.
     #[inline]
     #[tactic(auto, using(crate::proofs::Lengths::head_length))]
-    pub fn begin(buf: &'b mut [u8], site: &'s Site, stamp: Option<u64>) -> Frame<'b, 's>
+    pub fn begin(
+        buf: &'b mut [u8],
+        site: &'s Site,
+        place: Option<u16>,
+        stamp: Option<u64>,
+    ) -> Frame<'b, 's>
         requires { 2000 ≤ length buf.old }
         ensures same_buffer { PutsInto result buf.entry }
-        ensures bytes { bytes_put result ≡ head_of site.now.index stamp }
+        ensures bytes { bytes_put result ≡ head_of site.now.index place stamp }
         ensures behind { drop (count_put result) (buffer_of result) ≡ drop (count_put result) buf.old }
-        ensures count { count_put result ≡ length (head_of site.now.index stamp) }
-        ensures few { count_put result ≤ 10 }
+        ensures count { count_put result ≡ length (head_of site.now.index place stamp) }
+        ensures few { count_put result ≤ 12 }
         ensures slots { slots_left result ≡ site.now.slots }
     {
-        let at = put_head(buf, site.index(), stamp);
+        let at = put_head(buf, site.index(), place, stamp);
         Frame {
             buf,
             at,

@@ -1,9 +1,9 @@
 //! The macros that log a statement: each writes its message into a buffer (defmt book, "Log levels").
 //!
 //! A [`Site`] is a place in a program that logs, checked against the string table when it is made. A macro names its
-//! site, and its arguments by their types: `info!(buf, table, site, stamp; u8 x, str name)`. It expands to
+//! site, and its arguments by their types: `info!(buf, table, site, place, stamp; u8 x, str name)`. It expands to
 //! [`Frame::begin`], one [`put!`] for each argument and [`Frame::end`], and gives the length of the message. The form
-//! `info!(buf, table, site, stamp; all args)` puts a list of values. Only making a site takes memory.
+//! `info!(buf, table, site, place, stamp; all args)` puts a list of values. Only making a site takes memory.
 #![tactic(auto)]
 
 mod frame;

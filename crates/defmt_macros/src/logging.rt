@@ -1,6 +1,7 @@
 // A statement that is logged by the macro of its tag.
 ghost use Rattle.std.specs.Prelude.{◌≡◌, ◌≤◌, length, take, drop};
 ghost use Rattle.defmt_encode.specs.Carry.{message_of, stamp_args};
+ghost use Rattle.defmt_encode.specs.Placed.{HasPlace};
 ghost use Rattle.defmt_values.specs.Fits.{Fits};
 ghost use Rattle.defmt_macros.specs.Sites.{IsSite};
 ghost use Rattle.defmt_macros.specs.Stamps.{StampSuits};
@@ -13,25 +14,36 @@ use defmt_values::Args;
 /// Logs the values of all slots by the macro of the site's tag. Answers the length of the message, which stands at the
 /// buffer's front. What lies behind it is as before.
 ///
-/// The site is of an entry of the table, the values fit it, the stamp suits the table, and the message has at most
-/// 2,000 bytes, as many as the buffer has at least. Takes no memory.
-pub fn log(buf: &mut [u8], table: &Table, site: &Site, stamp: Option<u64>, args: &Args) -> usize
+/// The site is of an entry of the table, the values fit it, the place and the stamp suit the table, and the message has at
+/// most 2,000 bytes, as many as the buffer has at least. Takes no memory.
+pub fn log(
+    buf: &mut [u8],
+    table: &Table,
+    site: &Site,
+    place: Option<u16>,
+    stamp: Option<u64>,
+    args: &Args,
+) -> usize
     requires room { 2000 ≤ length buf.old }
     requires site { IsSite table.now.entries site.now.index site.now.tag site.now.slots }
+    requires place { HasPlace table.now.profile place }
     requires stamp { StampSuits table.now.entries stamp }
     requires fits { Fits table.now.entries site.now.index args.now }
-    requires short { length (message_of table.now.entries (stamp_args stamp) site.now.index args.now) ≤ 2000 }
-    ensures count { result ≡ length (message_of table.now.entries (stamp_args stamp) site.now.index args.now) }
-    ensures message { take result buf.new ≡ message_of table.now.entries (stamp_args stamp) site.now.index args.now }
+    requires short { length (message_of table.now.entries place
+        (stamp_args stamp) site.now.index args.now) ≤ 2000 }
+    ensures count { result ≡ length (message_of table.now.entries place
+        (stamp_args stamp) site.now.index args.now) }
+    ensures message { take result buf.new ≡ message_of table.now.entries place
+        (stamp_args stamp) site.now.index args.now }
     ensures behind { drop result buf.new ≡ drop result buf.old }
 {
     match site.tag() {
-        Tag::Trace => trace!(buf, table, site, stamp; all args),
-        Tag::Debug => debug!(buf, table, site, stamp; all args),
-        Tag::Info => info!(buf, table, site, stamp; all args),
-        Tag::Warn => warn!(buf, table, site, stamp; all args),
-        Tag::Error => error!(buf, table, site, stamp; all args),
-        Tag::Println => println_!(buf, table, site, stamp; all args),
+        Tag::Trace => trace!(buf, table, site, place, stamp; all args),
+        Tag::Debug => debug!(buf, table, site, place, stamp; all args),
+        Tag::Info => info!(buf, table, site, place, stamp; all args),
+        Tag::Warn => warn!(buf, table, site, place, stamp; all args),
+        Tag::Error => error!(buf, table, site, place, stamp; all args),
+        Tag::Println => println_!(buf, table, site, place, stamp; all args),
         _ => unreachable!(),
     }
 }

@@ -73,31 +73,34 @@ macro_rules! put {
 /// Puts a whole message of a tag: what the macros of the levels and of println expand to.
 #[macro_export]
 macro_rules! message_of {
-    ($tag:ident, $buf:expr, $table:expr, $site:expr, $stamp:expr; all $args:expr) => {{
+    ($tag:ident, $buf:expr, $table:expr, $site:expr, $place:expr, $stamp:expr; all $args:expr) => {{
         let table = $table;
+        let place = $place;
         let stamp = $stamp;
         let site = $site;
-        site.suits(table, &$crate::Tag::$tag, stamp);
-        let mut frame = $crate::Frame::begin($buf, site, stamp);
+        site.suits(table, &$crate::Tag::$tag, place, stamp);
+        let mut frame = $crate::Frame::begin($buf, site, place, stamp);
         frame.put_all(table, $args);
         frame.end()
     }};
-    ($tag:ident, $buf:expr, $table:expr, $site:expr, $stamp:expr; $($kind:ident $arg:expr),* $(,)?) => {{
+    ($tag:ident, $buf:expr, $table:expr, $site:expr, $place:expr, $stamp:expr; $($kind:ident $arg:expr),* $(,)?) => {{
         let table = $table;
+        let place = $place;
         let stamp = $stamp;
         let site = $site;
-        site.suits(table, &$crate::Tag::$tag, stamp);
-        let mut frame = $crate::Frame::begin($buf, site, stamp);
+        site.suits(table, &$crate::Tag::$tag, place, stamp);
+        let mut frame = $crate::Frame::begin($buf, site, place, stamp);
         $($crate::put!(frame, table, $kind $arg);)*
         frame.end()
     }};
 }
 
-/// Logs a message of the level trace: `trace!(buf, table, site, stamp; KIND expr, ..)`, or `trace!(buf, table, site, stamp; all args)`
-/// with the values of all slots. Gives the length of the message, which stands at the buffer's front.
+/// Logs a message of the level trace: `trace!(buf, table, site, place, stamp; KIND expr, ..)`, or
+/// `trace!(buf, table, site, place, stamp; all args)` with the values of all slots. Gives the length of the message,
+/// which stands at the buffer's front.
 ///
-/// The site is of an entry of the table with this tag, and the stamp suits the table. The buffer has at least 2,000
-/// bytes.
+/// The site is of an entry of the table with this tag, and the place and the stamp suit the table. The buffer has at
+/// least 2,000 bytes.
 #[macro_export]
 macro_rules! trace {
     ($($rest:tt)*) => {
@@ -105,11 +108,12 @@ macro_rules! trace {
     };
 }
 
-/// Logs a message of the level debug: `debug!(buf, table, site, stamp; KIND expr, ..)`, or `debug!(buf, table, site, stamp; all args)`
-/// with the values of all slots. Gives the length of the message, which stands at the buffer's front.
+/// Logs a message of the level debug: `debug!(buf, table, site, place, stamp; KIND expr, ..)`, or
+/// `debug!(buf, table, site, place, stamp; all args)` with the values of all slots. Gives the length of the message,
+/// which stands at the buffer's front.
 ///
-/// The site is of an entry of the table with this tag, and the stamp suits the table. The buffer has at least 2,000
-/// bytes.
+/// The site is of an entry of the table with this tag, and the place and the stamp suit the table. The buffer has at
+/// least 2,000 bytes.
 #[macro_export]
 macro_rules! debug {
     ($($rest:tt)*) => {
@@ -117,11 +121,12 @@ macro_rules! debug {
     };
 }
 
-/// Logs a message of the level info: `info!(buf, table, site, stamp; KIND expr, ..)`, or `info!(buf, table, site, stamp; all args)`
-/// with the values of all slots. Gives the length of the message, which stands at the buffer's front.
+/// Logs a message of the level info: `info!(buf, table, site, place, stamp; KIND expr, ..)`, or
+/// `info!(buf, table, site, place, stamp; all args)` with the values of all slots. Gives the length of the message,
+/// which stands at the buffer's front.
 ///
-/// The site is of an entry of the table with this tag, and the stamp suits the table. The buffer has at least 2,000
-/// bytes.
+/// The site is of an entry of the table with this tag, and the place and the stamp suit the table. The buffer has at
+/// least 2,000 bytes.
 #[macro_export]
 macro_rules! info {
     ($($rest:tt)*) => {
@@ -129,11 +134,12 @@ macro_rules! info {
     };
 }
 
-/// Logs a message of the level warn: `warn!(buf, table, site, stamp; KIND expr, ..)`, or `warn!(buf, table, site, stamp; all args)`
-/// with the values of all slots. Gives the length of the message, which stands at the buffer's front.
+/// Logs a message of the level warn: `warn!(buf, table, site, place, stamp; KIND expr, ..)`, or
+/// `warn!(buf, table, site, place, stamp; all args)` with the values of all slots. Gives the length of the message,
+/// which stands at the buffer's front.
 ///
-/// The site is of an entry of the table with this tag, and the stamp suits the table. The buffer has at least 2,000
-/// bytes.
+/// The site is of an entry of the table with this tag, and the place and the stamp suit the table. The buffer has at
+/// least 2,000 bytes.
 #[macro_export]
 macro_rules! warn {
     ($($rest:tt)*) => {
@@ -141,11 +147,12 @@ macro_rules! warn {
     };
 }
 
-/// Logs a message of the level error: `error!(buf, table, site, stamp; KIND expr, ..)`, or `error!(buf, table, site, stamp; all args)`
-/// with the values of all slots. Gives the length of the message, which stands at the buffer's front.
+/// Logs a message of the level error: `error!(buf, table, site, place, stamp; KIND expr, ..)`, or
+/// `error!(buf, table, site, place, stamp; all args)` with the values of all slots. Gives the length of the message,
+/// which stands at the buffer's front.
 ///
-/// The site is of an entry of the table with this tag, and the stamp suits the table. The buffer has at least 2,000
-/// bytes.
+/// The site is of an entry of the table with this tag, and the place and the stamp suit the table. The buffer has at
+/// least 2,000 bytes.
 #[macro_export]
 macro_rules! error {
     ($($rest:tt)*) => {
@@ -153,11 +160,12 @@ macro_rules! error {
     };
 }
 
-/// Logs a message without a level: `println_!(buf, table, site, stamp; KIND expr, ..)`, or `println_!(buf, table, site, stamp; all args)`
-/// with the values of all slots. Gives the length of the message, which stands at the buffer's front.
+/// Logs a message without a level: `println_!(buf, table, site, place, stamp; KIND expr, ..)`, or
+/// `println_!(buf, table, site, place, stamp; all args)` with the values of all slots. Gives the length of the message,
+/// which stands at the buffer's front.
 ///
-/// The site is of an entry of the table with this tag, and the stamp suits the table. The buffer has at least 2,000
-/// bytes.
+/// The site is of an entry of the table with this tag, and the place and the stamp suit the table. The buffer has at
+/// least 2,000 bytes.
 #[macro_export]
 macro_rules! println_ {
     ($($rest:tt)*) => {

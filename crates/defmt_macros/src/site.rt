@@ -2,6 +2,7 @@
 ghost use Rattle.std.specs.Prelude.{◌≡◌, ◌≤◌, length, MatchOption, IfOk, IsTrue, ◌↔◌};
 ghost use Rattle.defmt_intern.specs.declared.entry.Tag.{Tag as AnyTag};
 ghost use Rattle.defmt_macros.specs.Sites.{found, DifferAt, Finds, Answers, GivesOnly, RefusesOnly, Refuses, IsSite};
+ghost use Rattle.defmt_encode.specs.Placed.{HasPlace};
 ghost use Rattle.defmt_macros.specs.Stamps.{StampSuits};
 ghost use Rattle.defmt_macros.specs.declared.site.SiteFault.{SiteFault as AnyFault};
 
@@ -131,20 +132,22 @@ impl Site {
         self.slots.as_slice()
     }
 
-    /// Asks of its caller that the site suits a message of this tag with an entry of this table and this stamp, and does
-    /// nothing.
+    /// Asks of its caller that the site suits a message of this tag with an entry of this table, this place and this
+    /// stamp, and does nothing.
     ///
-    /// The site's tag is this one, its index, tag and slots are those of an entry of the table, and the stamp is one
-    /// number where the text of the table's timestamp takes one of 64 bits, and none where it takes nothing. Takes no
-    /// memory.
+    /// The site's tag is this one, its index, tag and slots are those of an entry of the table, there is a place exactly
+    /// in profile Two, and the stamp is one number where the text of the table's timestamp takes one of 64 bits, and none
+    /// where it takes nothing. Takes no memory.
     #[inline]
-    pub fn suits(&self, table: &Table, tag: &Tag, stamp: Option<u64>)
+    pub fn suits(&self, table: &Table, tag: &Tag, place: Option<u16>, stamp: Option<u64>)
         requires tag { self.now.tag ≡ tag.now }
         requires entry { IsSite table.now.entries self.now.index self.now.tag self.now.slots }
+        requires place { HasPlace table.now.profile place }
         requires stamp { StampSuits table.now.entries stamp }
     {
         let _ = table;
         let _ = tag;
+        let _ = place;
         let _ = stamp;
     }
 }

@@ -5,5 +5,5 @@ use Rattle.defmt_encode.proofs.writing.is_long.Goals as goal
 
 pub returns-then-most_of-le-SHORT : goal.returns-then-most_of-le-SHORT
 returns-then-most_of-le-SHORT c =
-    not_long (message_of c.args.table.now.entries (stamp_args c.args.stamp) c.args.stm.now.index c.args.stm.now.args)
-    (message_short c.args.table.now.entries c.args.stamp c.args.stm.now.index c.args.stm.now.args c.most_of.result (omega arith) (c.most_of.ensures (omega arith)))
+    not_long (message_of c.args.table.now.entries c.args.place (stamp_args c.args.stamp) c.args.stm.now.index c.args.stm.now.args)
+    (message_short c.args.table.now.entries c.args.place c.args.stamp c.args.stm.now.index c.args.stm.now.args c.most_of.result (omega arith) (c.most_of.ensures (omega arith)))

@@ -4,7 +4,7 @@ use Rattle.defmt_encode.proofs.Most.{not_long, is_long}
 use Rattle.defmt_encode.proofs.writing.is_long_by_copy.Goals as goal
 
 pub returns-in-Ok : goal.returns-in-Ok
-returns-in-Ok c = not_long (message_of c.args.table.now.entries (stamp_args c.args.stamp) c.args.stm.now.index c.args.stm.now.args) (omega (arith, c.in-Ok.ensures.end_is, c.in-Ok.ensures.fits))
+returns-in-Ok c = not_long (message_of c.args.table.now.entries c.args.place (stamp_args c.args.stamp) c.args.stm.now.index c.args.stm.now.args) (omega (arith, c.in-Ok.ensures.end_is, c.in-Ok.ensures.fits))
 
 pub returns-in-Err : goal.returns-in-Err
-returns-in-Err c = is_long (message_of c.args.table.now.entries (stamp_args c.args.stamp) c.args.stm.now.index c.args.stm.now.args) (omega (arith, c.in-Err.ensures.long))
+returns-in-Err c = is_long (message_of c.args.table.now.entries c.args.place (stamp_args c.args.stamp) c.args.stm.now.index c.args.stm.now.args) (omega (arith, c.in-Err.ensures.long))

@@ -1,0 +1,8 @@
+use Rattle.defmt_encode.specs.Carry.{stamp_slots, stamp_args, bytes_vals}
+use Rattle.defmt_encode.specs.Placed.{place_bytes}
+use Rattle.defmt_intern.specs.Stamp.{stamp_of}
+use Rattle.defmt_encode.proofs.Chain.{chain}
+use Rattle.defmt_encode.proofs.writing.put_place_and_stamp.Goals as goal
+
+pub returns : goal.returns
+returns c = chain c.args.out.now c.put_place.new.out c.put_stamp.new.out c.args.at c.in_ok-at.at c.put_stamp.result (place_bytes c.args.place) (bytes_vals c.args.table.now.entries (stamp_slots c.args.table.now.entries (stamp_of c.args.table.now.entries)) (stamp_args c.args.stamp)) c.in_ok-at.ensures c.put_stamp.ensures
