@@ -6,6 +6,7 @@ use Rattle.defmt_framing.specs.Decoded.{decoded}
 use Rattle.defmt_framing.specs.Told.{of_piece}
 use Rattle.defmt_framing.proofs.Agree.{decoded_found, decoded_none}
 use Rattle.defmt_framing.proofs.Decides.{IsTold, told}
+use Rattle.defmt_intern.specs.Catalog.{Catalog}
 use Rattle.defmt_intern.specs.Table.{Map}
 use Rattle.defmt_values.specs.Plain.{Vals}
 use Rattle.defmt_eager.specs.Line.{eager_line, IsWide}
@@ -16,7 +17,7 @@ use Rattle.defmt_encode.specs.Read.{Read}
 use Rattle.defmt_encode.proofs.Numbers.{AreBytes}
 use Rattle.defmt_encode.proofs.Laws.{heard_found, heard_again, met_found, met_again}
 use Rattle.defmt_decode.proofs.Bytes.{are_bytes, blocks_bytes}
-use Rattle.defmt_decode.specs.Event.{IsEventOf, too_long, no_code, line_told, too_wide, not_heard, is_wide, of_heard, read_of, of_read, of_code, tells, event_of}
+use Rattle.defmt_decode.specs.Event.{IsEventOf, too_long, no_code, line_told, too_wide, not_heard, is_wide, of_heard, read_of, of_read, of_code, tells, event_of, PlaceSuits}
 use Rattle.defmt_decode.specs.declared.event.Event.{Event}
 use Rattle.defmt_decode.specs.declared.event.Event.TheVariants.{Line, Bad}
 
@@ -38,78 +39,87 @@ narrow_test t stamp index vs narrow = elim (cases_Bool (is_wide t stamp index vs
   | inr e ↦ e
 ]
 
-pub heard_wide : (t : Map) (stamp : Vals) (index : ℕ) (vs : Vals) → IsWide t stamp index vs → of_heard t stamp index vs ≡ Bad 14
-heard_wide t stamp index vs wide = ap (λ (b : Bool). cond b (Bad 14) (Line index (eager_line t stamp index vs))) (wide_test t stamp index vs wide)
+pub heard_wide : (t : Catalog) (place : Option ℕ) (stamp : Vals) (index : ℕ) (vs : Vals) → IsWide t.entries stamp index vs → of_heard t place stamp index vs ≡ Bad 14
+heard_wide t place stamp index vs wide = ap (λ (b : Bool). cond b (Bad 14) (Line index place (eager_line t.entries stamp index vs))) (wide_test t.entries stamp index vs wide)
 
-pub heard_narrow : (t : Map) (stamp : Vals) (index : ℕ) (vs : Vals) → (IsWide t stamp index vs → ⊥)
-    → of_heard t stamp index vs ≡ Line index (eager_line t stamp index vs)
-heard_narrow t stamp index vs narrow = ap (λ (b : Bool). cond b (Bad 14) (Line index (eager_line t stamp index vs))) (narrow_test t stamp index vs narrow)
+pub heard_narrow : (t : Catalog) (place : Option ℕ) (stamp : Vals) (index : ℕ) (vs : Vals) → (IsWide t.entries stamp index vs → ⊥)
+    → of_heard t place stamp index vs ≡ Line index place (eager_line t.entries stamp index vs)
+heard_narrow t place stamp index vs narrow = ap (λ (b : Bool). cond b (Bad 14) (Line index place (eager_line t.entries stamp index vs))) (narrow_test t.entries stamp index vs narrow)
 
 -- ---- read
 
-pub heard_read : (t : Map) (bytes : List ℕ) (stamp : Vals) (index : ℕ) (vs : Vals) → IsHeard t bytes stamp index vs
-    → of_read t (read_of t bytes) ≡ of_heard t stamp index vs
+pub heard_read : (t : Catalog) (bytes : List ℕ) (place : Option ℕ) (stamp : Vals) (index : ℕ) (vs : Vals) → IsHeard t bytes place stamp index vs
+    → of_read t (read_of t bytes) ≡ of_heard t place stamp index vs
 unfolding read_of
-heard_read t bytes stamp index vs heard = ap (of_read t) (heard_again t bytes stamp index vs heard)
+heard_read t bytes place stamp index vs heard = ap (of_read t) (heard_again t bytes place stamp index vs heard)
 
-pub met_read : (t : Map) (bytes : List ℕ) (cause : ℕ) → IsMet t bytes cause → of_read t (read_of t bytes) ≡ Bad cause
+pub met_read : (t : Catalog) (bytes : List ℕ) (cause : ℕ) → IsMet t bytes cause → of_read t (read_of t bytes) ≡ Bad cause
 unfolding read_of
 met_read t bytes cause (c, number, meets) = ap (of_read t) (met_again t bytes c meets) ∙ ap (λ (n : ℕ). Bad n) (sym number)
 
 -- ---- by the length and the code
 
-long_is : (t : Map) (piece : List ℕ) → 65536 < length piece → event_of t piece ≡ Bad 13
+long_is : (t : Catalog) (piece : List ℕ) → 65536 < length piece → event_of t piece ≡ Bad 13
 unfolding of_piece tells
 long_is t piece long = ap (λ (b : Bool). cond b (of_code t (decoded piece)) (Bad 13)) (lt-leb (length piece) 65536 long)
 
-short_is : (t : Map) (piece : List ℕ) → length piece ≤ 65536 → event_of t piece ≡ of_code t (decoded piece)
+short_is : (t : Catalog) (piece : List ℕ) → length piece ≤ 65536 → event_of t piece ≡ of_code t (decoded piece)
 unfolding of_piece tells
 short_is t piece short = ap (λ (b : Bool). cond b (of_code t (decoded piece)) (Bad 13)) (le-leb (length piece) 65536 short)
 
-read_is : (t : Map) (piece bytes : List ℕ) → length piece ≤ 65536 → Blocks piece bytes → event_of t piece ≡ of_read t (read_of t bytes)
+read_is : (t : Catalog) (piece bytes : List ℕ) → length piece ≤ 65536 → Blocks piece bytes → event_of t piece ≡ of_read t (read_of t bytes)
 read_is t piece bytes short blocks = short_is t piece short ∙ ap (of_code t) (decoded_found piece bytes blocks)
 
-none_is : (t : Map) (piece : List ℕ) → length piece ≤ 65536 → IsNoCode piece → event_of t piece ≡ Bad 1
+none_is : (t : Catalog) (piece : List ℕ) → length piece ≤ 65536 → IsNoCode piece → event_of t piece ≡ Bad 1
 none_is t piece short none = short_is t piece short ∙ ap (of_code t) (decoded_none piece none)
 
 -- ---- what the relation says is answered
 
-pub only : (t : Map) (piece : List ℕ) (event : Event) → IsEventOf t piece event → event_of t piece ≡ event
+pub only : (t : Catalog) (piece : List ℕ) (event : Event) → IsEventOf t piece event → event_of t piece ≡ event
 only t piece _ (too_long long) = long_is t piece long
 only t piece _ (no_code short none) = none_is t piece short none
-only t piece _ (line_told bytes stamp index vs short blocks heard narrow) =
-    read_is t piece bytes short blocks ∙ heard_read t bytes stamp index vs heard ∙ heard_narrow t stamp index vs narrow
-only t piece _ (too_wide bytes stamp index vs short blocks heard wide) =
-    read_is t piece bytes short blocks ∙ heard_read t bytes stamp index vs heard ∙ heard_wide t stamp index vs wide
+only t piece _ (line_told bytes place stamp index vs short blocks heard narrow) =
+    read_is t piece bytes short blocks ∙ heard_read t bytes place stamp index vs heard ∙ heard_narrow t place stamp index vs narrow
+only t piece _ (too_wide bytes place stamp index vs short blocks heard wide) =
+    read_is t piece bytes short blocks ∙ heard_read t bytes place stamp index vs heard ∙ heard_wide t place stamp index vs wide
 only t piece _ (not_heard bytes cause short blocks met) = read_is t piece bytes short blocks ∙ met_read t bytes cause met
 
 -- ---- what is answered the relation says
 
-by_width : (t : Map) (piece bytes : List ℕ) (stamp : Vals) (index : ℕ) (vs : Vals) → length piece ≤ 65536 → Blocks piece bytes
-    → IsHeard t bytes stamp index vs → IsEventOf t piece (of_heard t stamp index vs)
-by_width t piece bytes stamp index vs short blocks heard = elim (cases_Bool (is_wide t stamp index vs)) [
+by_width : (t : Catalog) (piece bytes : List ℕ) (place : Option ℕ) (stamp : Vals) (index : ℕ) (vs : Vals) → length piece ≤ 65536 → Blocks piece bytes
+    → IsHeard t bytes place stamp index vs → IsEventOf t piece (of_heard t place stamp index vs)
+by_width t piece bytes place stamp index vs short blocks heard = elim (cases_Bool (is_wide t.entries stamp index vs)) [
   | inl e ↦
-      let wide = wide_so t stamp index vs e in
-      subst (IsEventOf t piece) (sym (heard_wide t stamp index vs wide)) (too_wide bytes stamp index vs short blocks heard wide)
+      let wide = wide_so t.entries stamp index vs e in
+      subst (IsEventOf t piece) (sym (heard_wide t place stamp index vs wide)) (too_wide bytes place stamp index vs short blocks heard wide)
   | inr e ↦
-      let narrow = narrow_so t stamp index vs e in
-      subst (IsEventOf t piece) (sym (heard_narrow t stamp index vs narrow)) (line_told bytes stamp index vs short blocks heard narrow)
+      let narrow = narrow_so t.entries stamp index vs e in
+      subst (IsEventOf t piece) (sym (heard_narrow t place stamp index vs narrow)) (line_told bytes place stamp index vs short blocks heard narrow)
 ]
 
-by_read : (t : Map) (piece bytes : List ℕ) (r : Read (Vals × ℕ × Vals)) → AreBytes bytes → read_of t bytes ≡ r → length piece ≤ 65536
+by_read : (t : Catalog) (piece bytes : List ℕ) (r : Read (Option ℕ × Vals × ℕ × Vals)) → AreBytes bytes → read_of t bytes ≡ r → length piece ≤ 65536
     → Blocks piece bytes → IsEventOf t piece (of_read t r)
 unfolding read_of
-by_read t piece bytes (Ok (stamp, index, vs)) all e short blocks = by_width t piece bytes stamp index vs short blocks (heard_found t bytes stamp index vs all e)
+by_read t piece bytes (Ok (place, stamp, index, vs)) all e short blocks = by_width t piece bytes place stamp index vs short blocks (heard_found t bytes place stamp index vs all e)
 by_read t piece bytes (Err cause) all e short blocks = not_heard bytes (cause_number cause) short blocks (cause, refl, met_found t bytes cause all e)
 
-by_code : (t : Map) (piece : List ℕ) (o : Option (List ℕ)) → AreBytes piece → IsTold piece o → length piece ≤ 65536 → IsEventOf t piece (event_of t piece)
+by_code : (t : Catalog) (piece : List ℕ) (o : Option (List ℕ)) → AreBytes piece → IsTold piece o → length piece ≤ 65536 → IsEventOf t piece (event_of t piece)
 by_code t piece (Some bytes) all blocks short =
     subst (IsEventOf t piece) (sym (read_is t piece bytes short blocks))
     (by_read t piece bytes (read_of t bytes) (blocks_bytes piece bytes blocks all) refl short blocks)
 by_code t piece None all none short = subst (IsEventOf t piece) (sym (none_is t piece short none)) (no_code short none)
 
-pub is_event : (t : Map) (piece : List ℕ) → All (λ b. b < 256) piece → IsEventOf t piece (event_of t piece)
+pub is_event : (t : Catalog) (piece : List ℕ) → All (λ b. b < 256) piece → IsEventOf t piece (event_of t piece)
 is_event t piece all = elim (cases_lt 65536 (length piece)) [
   | inl long ↦ subst (IsEventOf t piece) (sym (long_is t piece long)) (too_long long)
   | inr short ↦ by_code t piece (decoded piece) (are_bytes piece all) (told piece) short
 ]
+
+-- ---- places
+
+pub suits : (t : Catalog) (piece : List ℕ) (event : Event) → IsEventOf t piece event → PlaceSuits t.profile event
+suits t piece _ (too_long long) = tt
+suits t piece _ (no_code short none) = tt
+suits t piece _ (line_told bytes place stamp index vs short blocks heard narrow) = heard.placed
+suits t piece _ (too_wide bytes place stamp index vs short blocks heard wide) = tt
+suits t piece _ (not_heard bytes cause short blocks met) = tt

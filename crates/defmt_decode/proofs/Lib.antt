@@ -1,4 +1,5 @@
 mod Bytes
 mod Deciding
+mod Gaps
 mod InFrames
 mod Sending

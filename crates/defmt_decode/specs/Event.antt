@@ -3,7 +3,9 @@ use Rattle.std.specs.Prelude.{◌<◌, ◌≤◌, ◌||◌, ℕ, Bool, nat_lt, L
 use Rattle.rzcobs_core.specs.Blocks.{Blocks, IsNoCode}
 use Rattle.defmt_framing.specs.Told.{Tells, of_piece, events, begun}
 use Rattle.defmt_framing.specs.Decoded.{decoded}
+use Rattle.defmt_intern.specs.Catalog.{Catalog}
 use Rattle.defmt_intern.specs.Table.{Map}
+use Rattle.defmt_intern.specs.declared.table.Profile.{Profile}
 use Rattle.defmt_values.specs.Plain.{Vals}
 use Rattle.defmt_eager.specs.Line.{stamp_text, eager_line, IsWide}
 use Rattle.defmt_intern.specs.Stamp.{stamp_of}
@@ -11,6 +13,7 @@ use Rattle.defmt_eager.specs.Show.{eager_text}
 use Rattle.defmt_encode.specs.Cause.{cause_number}
 use Rattle.defmt_encode.specs.Heard.{IsHeard}
 use Rattle.defmt_encode.specs.Met.{IsMet}
+use Rattle.defmt_encode.specs.Placed.{HasPlace}
 use Rattle.defmt_encode.specs.Read.{Read, message_at}
 use Rattle.defmt_decode.specs.declared.event.Event.{Event}
 use Rattle.defmt_decode.specs.declared.event.Event.TheVariants.{Line, Bad, CutFront, CutTail}
@@ -19,17 +22,24 @@ use Rattle.defmt_decode.specs.declared.event.Event.TheVariants.{Line, Bad, CutFr
 
 -- A piece of more than 65,536 bytes is too long. Another is read as a code, and what it stands for
 -- as a message: a line is told where a stamp and a statement are heard whose texts aren't too wide.
-pub data IsEventOf (t : Map) (piece : List ℕ) : Event → Type 0 where
+pub data IsEventOf (t : Catalog) (piece : List ℕ) : Event → Type 0 where
   too_long : 65536 < length piece → IsEventOf t piece (Bad 13)
   no_code : length piece ≤ 65536 → IsNoCode piece → IsEventOf t piece (Bad 1)
-  line_told : (bytes : List ℕ) (stamp : Vals) (index : ℕ) (vs : Vals) → length piece ≤ 65536
-      → Blocks piece bytes → IsHeard t bytes stamp index vs → (IsWide t stamp index vs → ⊥)
-      → IsEventOf t piece (Line index (eager_line t stamp index vs))
-  too_wide : (bytes : List ℕ) (stamp : Vals) (index : ℕ) (vs : Vals) → length piece ≤ 65536
-      → Blocks piece bytes → IsHeard t bytes stamp index vs → IsWide t stamp index vs
+  line_told : (bytes : List ℕ) (place : Option ℕ) (stamp : Vals) (index : ℕ) (vs : Vals) → length piece ≤ 65536
+      → Blocks piece bytes → IsHeard t bytes place stamp index vs → (IsWide t.entries stamp index vs → ⊥)
+      → IsEventOf t piece (Line index place (eager_line t.entries stamp index vs))
+  too_wide : (bytes : List ℕ) (place : Option ℕ) (stamp : Vals) (index : ℕ) (vs : Vals) → length piece ≤ 65536
+      → Blocks piece bytes → IsHeard t bytes place stamp index vs → IsWide t.entries stamp index vs
       → IsEventOf t piece (Bad 14)
   not_heard : (bytes : List ℕ) (cause : ℕ) → length piece ≤ 65536
       → Blocks piece bytes → IsMet t bytes cause → IsEventOf t piece (Bad cause)
+
+-- a line has a place exactly in the second profile
+abbrev pub PlaceSuits : Profile → Event → Type 0
+PlaceSuits p (Line index place text) = HasPlace p place
+PlaceSuits p (Bad cause) = Unit {0}
+PlaceSuits p (CutFront bytes) = Unit {0}
+PlaceSuits p (CutTail bytes) = Unit {0}
 
 -- ---- the same as a function
 
@@ -38,27 +48,27 @@ abbrev pub is_wide : Map → Vals → ℕ → Vals → Bool
 is_wide t stamp index vs =
     nat_lt 65536 (length (stamp_text t (stamp_of t) stamp)) || nat_lt 65536 (length (eager_text t index vs))
 
--- what is told of a stamp and a statement that are heard
-abbrev pub of_heard : Map → Vals → ℕ → Vals → Event
-of_heard t stamp index vs =
-    if is_wide t stamp index vs then Bad 14 else Line index (eager_line t stamp index vs)
+-- what is told of a place, a stamp and a statement that are heard
+abbrev pub of_heard : Catalog → Option ℕ → Vals → ℕ → Vals → Event
+of_heard t place stamp index vs =
+    if is_wide t.entries stamp index vs then Bad 14 else Line index place (eager_line t.entries stamp index vs)
 
--- the stamp, the index and the arguments that are heard in bytes, or the cause that is met
-unfoldable pub read_of : Map → List ℕ → Read (Vals × ℕ × Vals)
+-- the place, the stamp, the index and the arguments that are heard in bytes, or the cause that is met
+unfoldable pub read_of : Catalog → List ℕ → Read (Option ℕ × Vals × ℕ × Vals)
 read_of t bytes = message_at t bytes
 
 -- what is told of a message that was read, or refused
-abbrev pub of_read : Map → Read (Vals × ℕ × Vals) → Event
-of_read t (Ok heard) = of_heard t heard.0 heard.1 heard.2
+abbrev pub of_read : Catalog → Read (Option ℕ × Vals × ℕ × Vals) → Event
+of_read t (Ok heard) = of_heard t heard.0 heard.1 heard.2 heard.3
 of_read t (Err cause) = Bad (cause_number cause)
 
 -- what is told of the bytes that a piece stands for as a code, where it is one
-abbrev pub of_code : Map → Option (List ℕ) → Event
+abbrev pub of_code : Catalog → Option (List ℕ) → Event
 of_code t None = Bad 1
 of_code t (Some bytes) = of_read t (read_of t bytes)
 
 -- what each part of a stream tells
-unfoldable pub tells : Map → Tells Event
+unfoldable pub tells : Catalog → Tells Event
 tells t = record {
   piece = λ piece. of_code t (decoded piece);
   long = Bad 13;
@@ -66,16 +76,16 @@ tells t = record {
   cut_tail = λ n. CutTail n;
 }
 
-abbrev pub event_of : Map → List ℕ → Event
+abbrev pub event_of : Catalog → List ℕ → Event
 event_of t piece = of_piece (tells t) piece
 
 -- ---- the events of a stream
 
 -- a cut front where the front isn't empty, the events of the pieces, a cut tail where the tail
 -- isn't empty
-abbrev pub events_of : Map → List ℕ → List Event
+abbrev pub events_of : Catalog → List ℕ → List Event
 events_of t stream = events (tells t) stream
 
 -- those of the front and the pieces alone; none where there is no zero
-abbrev pub begun_of : Map → List ℕ → List Event
+abbrev pub begun_of : Catalog → List ℕ → List Event
 begun_of t stream = begun (tells t) stream

@@ -14,6 +14,8 @@ pub enum Event {
     Line {
         /// The index of its entry in the table.
         index: u16,
+        /// The place of its frame, the number of its mark modulo 65,536: there is one exactly in profile Two.
+        place: Option<u16>,
         /// Its printed line, without a newline.
         text: Text,
     },

@@ -60,7 +60,7 @@ impl Host {
         // For each stream that the host stands for: it stands for that stream and the bytes that
         // were taken, the event is what these begin beyond it, and comes by the last of them.
         ensures hears { IfOk result (λ r. (stream : List ℕ) → Stands self.old.framing stream
-            → Hears (tells self.old.table.entries) self.new.framing stream (take r.0 bytes.now) r.1) }
+            → Hears (tells self.old.table) self.new.framing stream (take r.0 bytes.now) r.1) }
         // Something was taken where there was something.
         ensures some { IfOk result (λ r. 0 < length bytes.now → 0 < r.0) }
         // Without an event all was taken.
@@ -75,9 +75,16 @@ impl Host {
     /// something was, a cut tail where bytes follow the last zero, else none. Takes no memory.
     pub fn finish(self) -> Option<Event>
         ensures { (stream : List ℕ) → Stands self.framing stream
-            → events_of self.table.entries stream ≡ begun_of self.table.entries stream ++ option_to_list result }
+            → events_of self.table stream ≡ begun_of self.table stream ++ option_to_list result }
     {
         self.framer.finish(&self.reader)
+    }
+
+    /// Its table. Takes no memory.
+    pub fn table(&self) -> &Table
+        ensures { result.now ≡ self.now.table }
+    {
+        self.reader.table()
     }
 
     /// How many bytes were heard; the last value of its type where there were more. Takes no

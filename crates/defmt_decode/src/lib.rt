@@ -5,12 +5,17 @@
 //! stands between two zeros is decoded, read as a message and printed as its line, or it is
 //! reported with the first fault that stands in it. What comes before the first zero is never
 //! decoded, since its own beginning may be lost.
+//!
+//! In profile Two a line has the place of its frame, and [`gap`] says how many frames are missing between two lines. [`shows`]
+//! says which of the events rules for levels and packages show, and [`Screen`] does so by a judge that is handed in.
 #![tactic(auto)]
 
 mod event;
 mod host;
 mod laws;
+mod places;
 mod reader;
+mod screen;
 
 pub use event::{Event, Events};
 pub use host::Host;
@@ -18,3 +23,5 @@ pub use laws::{
     any_cutting, cut_between_frames, cut_within_a_frame, events_by_parts, frames_read_back,
     intact_frames, one_event, without_end, without_front,
 };
+pub use places::{gap, gaps_count};
+pub use screen::{Screen, level_of, shows, shows_line};

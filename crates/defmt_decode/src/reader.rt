@@ -79,13 +79,19 @@ impl Reader {
             heard: Heard::new(alloc),
         })
     }
+
+    pub(crate) fn table(&self) -> &Table
+        ensures { result.now ≡ self.now }
+    {
+        &self.table
+    }
 }
 
 #[tactic(auto, unfolding(crate::specs::Event::tells))]
 impl Teller for Reader {
     type Told = Event;
 
-    ghost tells = { λ t. tells t.entries };
+    ghost tells = { λ t. tells t };
 
     fn piece(&mut self, piece: &[u8]) -> Result<Event, Memory> {
         match decode_piece(piece, &mut self.buffer) {
@@ -118,7 +124,7 @@ fn event_of_message(
     bytes: &[u8],
     heard: &mut Heard,
 ) -> Result<Event, Memory>
-    ensures { IfOk result (λ event. event ≡ of_read table.now.entries (read_of table.now.entries bytes.now)) }
+    ensures { IfOk result (λ event. event ≡ of_read table.now (read_of table.now bytes.now)) }
 {
     match heard.hear(alloc, table, bytes) {
         Ok(()) => event_of_heard(alloc, table, bytes, heard),
@@ -134,12 +140,15 @@ fn event_of_heard(
     bytes: &[u8],
     heard: &Heard,
 ) -> Result<Event, Memory>
-    requires { IsHeard table.now.entries bytes.now heard.now.stamp heard.now.stm.index heard.now.stm.args }
-    ensures { IfOk result (λ event. event ≡ of_heard table.now.entries heard.now.stamp heard.now.stm.index heard.now.stm.args) }
+    requires { IsHeard table.now bytes.now heard.now.place heard.now.stamp heard.now.stm.index
+        heard.now.stm.args }
+    ensures { IfOk result (λ event. event ≡ of_heard table.now heard.now.place heard.now.stamp
+        heard.now.stm.index heard.now.stm.args) }
 {
     match line(alloc, table, &heard.stamp, &heard.stm) {
         Ok(text) => Ok(Event::Line {
             index: heard.stm.index,
+            place: heard.place,
             text,
         }),
         Err(EagerFault::Wide) => Ok(Refusal::Wide.event()),

@@ -88,6 +88,21 @@ Breaks reports input output Sink = HeardFront reports input output × Rose outpu
 Breaks reports input output Long = HeardTooMuch reports input output
 Breaks reports input output Memory = HeardFront reports input output
 
+-- ---- bytes at hand
+
+-- The lines of the events of these bytes were written, and so many of these are faults.
+pub record ToldAll {S E : Type 0} (reports : Reports S E) (bytes : List ℕ) (output : Output) (count : ℕ) : Type 0 where
+  pub written : Wrote output (lines reports (events reports.tells bytes))
+  pub counted : count ≡ faults reports (events reports.tells bytes)
+
+-- A front of them was written: the sink failed, or memory was wanting.
+abbrev pub ToldFront : {S E : Type 0} → Reports S E → List ℕ → Output → ListenFault → Type 0
+ToldFront reports bytes output Sink =
+    WroteFront output (lines reports (events reports.tells bytes)) × Rose output.faults output.faults_after
+ToldFront reports bytes output Memory = WroteFront output (lines reports (events reports.tells bytes))
+ToldFront reports bytes output Source = ⊥
+ToldFront reports bytes output Long = ⊥
+
 -- From the stream on these bytes were heard, and the reporter went on behind what they tell.
 pub record Reported {S E : Type 0} (tells : Tells E) (reporting : Reporting S E) (after : Framing) (state state_after : S) (stream bytes : List ℕ) : Type 0 where
   pub told : List E

@@ -1,14 +1,63 @@
-// Bytes at hand are heard, and nothing is written.
-ghost use Rattle.std.specs.Prelude.{◌≡◌, ℕ, None, List, OnOk};
+// Bytes at hand are heard.
+ghost use Rattle.std.specs.Prelude.{◌≡◌, ◌≤◌, ℕ, [], Some, None, List, length, IfOk, IfErr, OnOk};
 ghost use Rattle.defmt_framing.specs.Framing.{Stands};
-ghost use Rattle.defmt_listen.specs.Heard.{Reported};
+ghost use Rattle.defmt_listen.specs.Heard.{Reported, ToldAll, ToldFront, recording_limit};
+ghost use Rattle.defmt_listen.specs.Streams.{output_of};
 
 use crate::fault::ListenFault;
 use crate::listener::Listener;
+use crate::listening::listen;
 use crate::part::{Report, hear_part};
 use crate::reporter::Reporter;
-use dl_io::{Bytes, Failed, Memory, Sink};
+use dl_io::{Bytes, Failed, Memory, Sink, Source};
 use std::alloc::Global;
+
+/// Hears the bytes as a whole recording, and writes what the reporter prints of each event to the sink, as [`listen`] does.
+/// Answers how many events are faults. No fault comes but of the sink and for want of memory.
+pub fn listen_bytes<K: Sink, L: Listener + Drop, R: Reporter<L::Event> + Drop>(
+    alloc: Global,
+    bytes: &[u8],
+    out: &mut K,
+    listener: L,
+    reporter: R,
+) -> Result<u64, ListenFault>
+    requires stands { Stands (L.framing listener) [] }
+    requires within { length bytes.now ≤ recording_limit }
+    ensures told { IfOk result (λ count. ToldAll
+        (record { tells = L.tells listener; reporting = R.reporting; start = reporter })
+        bytes.now (output_of K.held K.faults out.old out.new) count) }
+    ensures front { IfErr result (λ fault. ToldFront
+        (record { tells = L.tells listener; reporting = R.reporting; start = reporter })
+        bytes.now (output_of K.held K.faults out.old out.new) fault) }
+    ensures later { K.faults out.old ≤ K.faults out.new }
+{
+    let mut src = AtHand { left: bytes };
+    listen(alloc, &mut src, out, listener, reporter)
+}
+
+// A source of bytes at hand, which never fails.
+#[derive(Drop)]
+struct AtHand<'a> {
+    left: &'a [u8],
+}
+
+impl<'a> Source for AtHand<'a> {
+    ghost left = { λ s. Some s.left.now };
+
+    ghost faults = { λ _. 0 };
+
+    fn read(&mut self, buf: &mut [u8]) -> Result<usize, Failed> {
+        let left = self.left;
+        let count = left.len().min(buf.len());
+        buf[..count].copy_from_slice(&left[..count]);
+        self.left = &left[count..];
+        Ok(count)
+    }
+
+    fn faults(&self) -> u64 {
+        0
+    }
+}
 
 /// Hears all the bytes, and gives the reporter each event. What it prints is written nowhere.
 pub fn hear_bytes<L: Listener, R: Reporter<L::Event>>(

@@ -2,8 +2,8 @@
 //!
 //! `listen` reads a source to its end, gives the bytes to a `Listener`, and writes what a `Reporter` prints of each event to a
 //! sink. A listener cuts the stream of frames at its zeros, as a `Framer` of defmt_framing does, and knows what each part tells.
-//! A reporter knows what is printed of an event, which may depend on the events before it. `hear_bytes` does the same with bytes
-//! that are at hand, of which nothing is written.
+//! A reporter knows what is printed of an event, which may depend on the events before it. `listen_bytes` does the same with a
+//! recording that is at hand, and `hear_bytes` with bytes of one, of which nothing is written.
 #![tactic(auto)]
 
 mod bytes;
@@ -13,7 +13,7 @@ mod listening;
 mod part;
 mod reporter;
 
-pub use bytes::hear_bytes;
+pub use bytes::{hear_bytes, listen_bytes};
 pub use fault::ListenFault;
 pub use listener::Listener;
 pub use listening::listen;

@@ -31,10 +31,14 @@ pub fn listen<S: Source, K: Sink, L: Listener + Drop, R: Reporter<L::Event> + Dr
     reporter: R,
 ) -> Result<u64, ListenFault>
     requires { Stands (L.framing listener) [] }
-    ensures heard { IfOk result (λ count. HeardAll (record { tells = L.tells listener; reporting = R.reporting; start = reporter })
-        (input_of S.left S.faults src.old src.new) (output_of K.held K.faults out.old out.new) count) }
-    ensures breaks { IfErr result (λ fault. Breaks (record { tells = L.tells listener; reporting = R.reporting; start = reporter })
-        (input_of S.left S.faults src.old src.new) (output_of K.held K.faults out.old out.new) fault) }
+    ensures heard { IfOk result (λ count. HeardAll
+        (record { tells = L.tells listener; reporting = R.reporting; start = reporter })
+        (input_of S.left S.faults src.old src.new)
+        (output_of K.held K.faults out.old out.new) count) }
+    ensures breaks { IfErr result (λ fault. Breaks
+        (record { tells = L.tells listener; reporting = R.reporting; start = reporter })
+        (input_of S.left S.faults src.old src.new)
+        (output_of K.held K.faults out.old out.new) fault) }
     ensures source_count { S.faults src.old ≤ S.faults src.new }
     ensures sink_count { K.faults out.old ≤ K.faults out.new }
 {
@@ -76,10 +80,13 @@ fn part_buffer(alloc: Global) -> Result<Vec<u8>, Memory>
 fn next_part<S: Source>(src: &mut S, buf: &mut [u8], taken: usize) -> Result<usize, ListenFault>
     requires room { 0 < length buf.old }
     requires within { taken ≤ recording_limit }
-    ensures within { IfOk result (λ count. (count ≤ length buf.new) × (taken + count ≤ recording_limit)) }
-    ensures bytes { IfOk result (λ count. Consumes (S.left src.old) (S.left src.new) (take count buf.new)) }
+    ensures within { IfOk result
+        (λ count. (count ≤ length buf.new) × (taken + count ≤ recording_limit)) }
+    ensures bytes { IfOk result
+        (λ count. Consumes (S.left src.old) (S.left src.new) (take count buf.new)) }
     ensures end { IfOk result (λ count. count ≡ 0 → IsAtEnd (S.left src.new)) }
-    ensures refused { IfErr result (λ fault. ReadsNo (input_of S.left S.faults src.old src.new) taken fault) }
+    ensures refused { IfErr result
+        (λ fault. ReadsNo (input_of S.left S.faults src.old src.new) taken fault) }
     ensures later { S.faults src.old ≤ S.faults src.new }
 {
     let most = buf.len().min(RECORDING_LIMIT - taken).max(1);

@@ -33,15 +33,19 @@ pub fn hear_part<K: Sink, L: Listener, R: Reporter<L::Event>>(
 ) -> Result<(), ListenFault>
     requires empty { report.old.lines.items ≡ [] }
     requires few { report.old.faults + length bytes.now < 2 ^ 64 }
-    ensures heard { OnOk result ((stream : List ℕ) → Stands (L.framing listener.old) stream → HeardPart
+    ensures heard { OnOk result
+        ((stream : List ℕ) → Stands (L.framing listener.old) stream → HeardPart
         (L.tells listener.old) R.reporting (L.framing listener.new) reporter.old reporter.new
-        (output_of K.held K.faults out.old out.new) stream bytes.now report.old.faults report.new.faults) }
+        (output_of K.held K.faults out.old out.new)
+        stream bytes.now report.old.faults report.new.faults) }
     ensures empty { OnOk result (report.new.lines.items ≡ []) }
     ensures few { OnOk result (report.new.faults ≤ report.old.faults + length bytes.now) }
-    ensures some { OnErr result ((stream : List ℕ) → Stands (L.framing listener.old) stream → HeardSome
+    ensures some { OnErr result
+        ((stream : List ℕ) → Stands (L.framing listener.old) stream → HeardSome
         (L.tells listener.old) R.reporting reporter.old
         (output_of K.held K.faults out.old out.new) stream bytes.now) }
-    ensures fault { IfErr result (λ fault. BreaksPart (Rose (K.faults out.old) (K.faults out.new)) fault) }
+    ensures fault { IfErr result
+        (λ fault. BreaksPart (Rose (K.faults out.old) (K.faults out.new)) fault) }
     ensures same { OnOk result (L.tells listener.new ≡ L.tells listener.old) }
     ensures later { K.faults out.old ≤ K.faults out.new }
 {
@@ -88,7 +92,8 @@ fn write_gathered<K: Sink>(out: &mut K, lines: &mut Bytes) -> Result<(), ListenF
         × (written ++ lines.new.items ≡ lines.old.items)) }
     ensures front { OnErr result ((count : ℕ) × (count ≤ length lines.old.items)
         × Appends (K.held out.old) (K.held out.new) (take count lines.old.items)) }
-    ensures sink { IfErr result (λ fault. (fault ≡ ListenFault.Sink) × Rose (K.faults out.old) (K.faults out.new)) }
+    ensures sink { IfErr result
+        (λ fault. (fault ≡ ListenFault.Sink) × Rose (K.faults out.old) (K.faults out.new)) }
     ensures later { K.faults out.old ≤ K.faults out.new }
 {
     if lines.len() < GATHERED {
@@ -103,7 +108,8 @@ pub fn write_lines<K: Sink>(out: &mut K, lines: &mut Bytes) -> Result<(), Listen
     ensures empty { OnOk result (lines.new.items ≡ []) }
     ensures front { OnErr result ((count : ℕ) × (count ≤ length lines.old.items)
         × Appends (K.held out.old) (K.held out.new) (take count lines.old.items)) }
-    ensures sink { IfErr result (λ fault. (fault ≡ ListenFault.Sink) × Rose (K.faults out.old) (K.faults out.new)) }
+    ensures sink { IfErr result
+        (λ fault. (fault ≡ ListenFault.Sink) × Rose (K.faults out.old) (K.faults out.new)) }
     ensures later { K.faults out.old ≤ K.faults out.new }
 {
     match write_all(out, lines.as_slice()) {

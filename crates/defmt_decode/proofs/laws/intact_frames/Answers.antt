@@ -5,8 +5,8 @@ pub returns-clause-piece : goal.returns-clause-piece
 returns-clause-piece c t p code q none some = piece_intact t p code q none some
 
 pub returns-clause-heard : goal.returns-clause-heard
-returns-clause-heard c t p code q bytes stamp index vs short blocks heard narrow =
-    heard_intact t p code q bytes stamp index vs short blocks heard narrow
+returns-clause-heard c t p code q bytes place stamp index vs short blocks heard narrow =
+    heard_intact t p code q bytes place stamp index vs short blocks heard narrow
 
 pub returns-clause-sent : goal.returns-clause-sent
 returns-clause-sent c t p q s sent = sent_intact t p q s sent

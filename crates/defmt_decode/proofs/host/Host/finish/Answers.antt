@@ -7,4 +7,4 @@ use Rattle.defmt_decode.proofs.host.Host.finish.Goals as goal
 
 pub returns : goal.returns
 returns c =
-    subst (λ (h : Hearing). (stream : List ℕ) → Stands h.framing stream → events_of h.table.entries stream ≡ begun_of h.table.entries stream ++ option_to_list c.finish.result) c.self.view_is c.finish.ensures
+    subst (λ (h : Hearing). (stream : List ℕ) → Stands h.framing stream → events_of h.table stream ≡ begun_of h.table stream ++ option_to_list c.finish.result) c.self.view_is c.finish.ensures
