@@ -3,9 +3,12 @@ use Rattle.std.proofs.Common.{◌≡◌, ℕ, zero, suc, ◌<◌, List, [], ◌�
 use Rattle.std.specs.Prelude.{slice_get, slice_index_or}
 use Rattle.std.specs.List.{AllByRecursion}
 use Rattle.std.proofs.lemmas.Option.{same_Some}
+use Rattle.defmt_encode.proofs.Placing.{placed}
 use Rattle.defmt_encode.specs.Carry.{frame_of, message_of, stamp_args}
+use Rattle.defmt_encode.specs.Placed.{HasPlace, place_in}
 use Rattle.defmt_frames.specs.Frames.{frame_at, frame_with, statements_of}
 use Rattle.defmt_intern.specs.Table.{Map}
+use Rattle.defmt_intern.specs.declared.table.Profile.{Profile}
 use Rattle.defmt_script.specs.Lawful.{IsLawful, IsSound, stamp_in}
 use Rattle.defmt_script.specs.Script.{Script}
 use Rattle.defmt_values.specs.declared.value.Statement.{Statement}
@@ -20,9 +23,9 @@ at_writer P [] w all none = none
 at_writer P (l ∷ ws) zero all none = all.0
 at_writer P (l ∷ ws) (suc w) all none = at_writer P ws w all.1 none
 
-pub sound_at : (s : Script) (w k : ℕ) (stm : Statement) → IsLawful s → slice_get (statements_of s w) k ≡ Some stm → IsSound s.table s.settings.stamp stm
+pub sound_at : (s : Script) (w k : ℕ) (stm : Statement) → IsLawful s → slice_get (statements_of s w) k ≡ Some stm → IsSound s.table s.settings stm
 sound_at s w k stm h is =
-    let P : Statement → Type 0 = IsSound s.table s.settings.stamp in
+    let P : Statement → Type 0 = IsSound s.table s.settings in
     at_place P (statements_of s w) k stm (at_writer (λ l. AllByRecursion P l) s.writers w h.sound tt) is
 
 pub statement_there : (xs : List Statement) (k : ℕ) → k < length xs → slice_get xs k ≡ None → ⊥
@@ -36,10 +39,15 @@ writer_below [] w n h = absurd (omega (arith, h))
 writer_below (l ∷ ws) zero n h = omega arith
 writer_below (l ∷ ws) (suc w) n h = omega (arith, writer_below ws w n h)
 
-pub frame_is : (s : Script) (number w k n : ℕ) (stm : Statement) (table : Map) (o : Option ℕ) → slice_get (statements_of s w) k ≡ Some stm → table ≡ s.table → o ≡ stamp_in s.settings.stamp n
-    → frame_of (message_of table (stamp_args o) stm.index stm.args) ≡ frame_at s number w k n
+pub frame_is : (s : Script) (number w k n : ℕ) (stm : Statement) (table : Map) (c o : Option ℕ) → slice_get (statements_of s w) k ≡ Some stm → table ≡ s.table → c ≡ place_in s.settings.profile number → o ≡ stamp_in s.settings.stamp n
+    → frame_of (message_of table c (stamp_args o) stm.index stm.args) ≡ frame_at s number w k n
 unfolding frame_at
-frame_is s number w k n stm table o there same carried =
-    ap (λ (t : Map). frame_with t o (Some stm)) same
-    ∙ ap (λ (p : Option ℕ). frame_with s.table p (Some stm)) carried
-    ∙ ap (λ (x : Option Statement). frame_with s.table (stamp_in s.settings.stamp n) x) (sym there)
+frame_is s number w k n stm table c o there same counted carried =
+    ap (λ (t : Map). frame_with t c o (Some stm)) same
+    ∙ ap (λ (p : Option ℕ). frame_with s.table p o (Some stm)) counted
+    ∙ ap (λ (p : Option ℕ). frame_with s.table (place_in s.settings.profile number) p (Some stm)) carried
+    ∙ ap (λ (x : Option Statement). frame_with s.table (place_in s.settings.profile number) (stamp_in s.settings.stamp n) x) (sym there)
+
+-- the place of a mark suits the table that its script has
+pub has_place : (p q : Profile) (number : ℕ) (c : Option ℕ) → p ≡ q → c ≡ place_in q number → HasPlace p c
+has_place p q number c same counted = subst (λ (x : Profile). HasPlace x c) (sym same) (subst (λ (o : Option ℕ). HasPlace q o) (sym counted) (placed q number))

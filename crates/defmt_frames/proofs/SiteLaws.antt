@@ -6,6 +6,7 @@ use Rattle.std.proofs.lemmas.List.{get_or_past}
 use Rattle.std.proofs.lemmas.Option.{same_Some}
 use Rattle.defmt_encode.proofs.Hears.{one_entry}
 use Rattle.defmt_encode.specs.Carry.{message_of, stamp_args}
+use Rattle.defmt_encode.specs.Placed.{place_in}
 use Rattle.defmt_frames.proofs.Frames.{sound_at}
 use Rattle.defmt_frames.proofs.Stamps.{suits}
 use Rattle.defmt_frames.specs.Frames.{statements_of}
@@ -23,13 +24,13 @@ use Rattle.defmt_values.specs.declared.value.Statement.{Statement}
 
 -- ---- messages
 
-pub sound_message : (table : Map) (stamp : Option (ℕ × ℕ)) (stm : Statement) → IsSound table stamp stm → IsMessage table stm.index
-sound_message table stamp stm s = record {
-  entry = s.fits.entry;
-  pieces = s.fits.pieces;
-  there = s.fits.there;
-  logged = ap (λ (e : Entry). is_logged e.tag) (one_entry table stm.index s.fits.entry s.logged.entry s.fits.there s.logged.there) ∙ s.logged.tag;
-  body = s.fits.body;
+pub sound_message : (s : Script) (stm : Statement) → IsSound s.table s.settings stm → IsMessage s.table stm.index
+sound_message s stm sound = record {
+  entry = sound.fits.entry;
+  pieces = sound.fits.pieces;
+  there = sound.fits.there;
+  logged = ap (λ (e : Entry). is_logged e.tag) (one_entry s.table stm.index sound.fits.entry sound.logged.entry sound.fits.there sound.logged.there) ∙ sound.logged.tag;
+  body = sound.fits.body;
 }
 
 -- ---- one site more
@@ -76,21 +77,23 @@ site_there s sites w k stm has there none = let clash : false ≡ true = ap is_s
 
 -- ---- what logging asks
 
-writes_own : (s : Script) (sites : Sites) (w k n : ℕ) (stm : Statement) (site : Site) → IsLawful s → HasSites s sites → slice_get (statements_of s w) k ≡ Some stm → site_at sites stm.index ≡ Some site
-    → Writes s.table site (stamp_in s.settings.stamp n) stm.args
-writes_own s sites w k n stm site h has there at =
-    let sound : IsSound s.table s.settings.stamp stm = sound_at s w k stm h there in
+writes_own : (s : Script) (sites : Sites) (number w k n : ℕ) (stm : Statement) (site : Site) → IsLawful s → HasSites s sites → slice_get (statements_of s w) k ≡ Some stm → site_at sites stm.index ≡ Some site
+    → Writes s.table site (place_in s.settings.profile number) (stamp_in s.settings.stamp n) stm.args
+writes_own s sites number w k n stm site h has there at =
+    let sound : IsSound s.table s.settings stm = sound_at s w k stm h there in
     let here : IsSiteOf s.table stm.index site = has.own stm.index site at in
     record {
       own = subst (λ (i : ℕ). IsSite s.table i site.tag site.slots) (sym here.0) here.1;
       suits = suits s n h;
       fits = subst (λ (i : ℕ). Fits s.table i stm.args) (sym here.0) sound.fits;
-      short = subst (λ (i : ℕ). length (message_of s.table (stamp_args (stamp_in s.settings.stamp n)) i stm.args) ≤ message_limit) (sym here.0) (sound.short n);
+      short = subst (λ (i : ℕ). length (message_of s.table (place_in s.settings.profile number) (stamp_args (stamp_in s.settings.stamp n)) i stm.args) ≤ message_limit) (sym here.0) (sound.short number n);
     }
 
-pub writes : (s : Script) (sites : Sites) (w k n : ℕ) (stm : Statement) (site : Site) (table : Map) (o : Option ℕ)
-    → IsLawful s → HasSites s sites → slice_get (statements_of s w) k ≡ Some stm → site_at sites stm.index ≡ Some site → table ≡ s.table → o ≡ stamp_in s.settings.stamp n
-    → Writes table site o stm.args
-writes s sites w k n stm site table o h has there at same carried =
-    let P : Map → Option ℕ → Type 0 = λ t p. Writes t site p stm.args in
-    subst (λ (t : Map). P t o) (sym same) (subst (λ (p : Option ℕ). P s.table p) (sym carried) (writes_own s sites w k n stm site h has there at))
+pub writes : (s : Script) (sites : Sites) (number w k n : ℕ) (stm : Statement) (site : Site) (table : Map) (c o : Option ℕ)
+    → IsLawful s → HasSites s sites → slice_get (statements_of s w) k ≡ Some stm → site_at sites stm.index ≡ Some site → table ≡ s.table → c ≡ place_in s.settings.profile number → o ≡ stamp_in s.settings.stamp n
+    → Writes table site c o stm.args
+writes s sites number w k n stm site table c o h has there at same counted carried =
+    let P : Map → Option ℕ → Option ℕ → Type 0 = λ t p q. Writes t site p q stm.args in
+    subst (λ (t : Map). P t c o) (sym same)
+    (subst (λ (p : Option ℕ). P s.table p o) (sym counted)
+    (subst (λ (p : Option ℕ). P s.table (place_in s.settings.profile number) p) (sym carried) (writes_own s sites number w k n stm site h has there at)))

@@ -1,6 +1,7 @@
--- The frames of a script's statements, and the stamps that they carry.
+-- The frames of a script's statements, and the places and stamps that they carry.
 use Rattle.std.specs.Prelude.{ℕ, ◌+◌, ◌*◌, List, [], length, Option, Some, None, slice_get, slice_index_or}
 use Rattle.defmt_encode.specs.Carry.{frame_of, message_of, stamp_args}
+use Rattle.defmt_encode.specs.Placed.{place_in}
 use Rattle.defmt_hooks.specs.Even.{Pace}
 use Rattle.defmt_intern.specs.Table.{Map}
 use Rattle.defmt_script.specs.Lawful.{stamp_in}
@@ -36,10 +37,11 @@ stamp_number s t = first_stamp s.settings.stamp + stamp_step s.settings.stamp * 
 
 -- ---- frames (defmt book, "Encoding")
 
-abbrev pub frame_with : Map → Option ℕ → Option Statement → List ℕ
-frame_with table stamp None = []
-frame_with table stamp (Some stm) = frame_of (message_of table (stamp_args stamp) stm.index stm.args)
+abbrev pub frame_with : Map → Option ℕ → Option ℕ → Option Statement → List ℕ
+frame_with table place stamp None = []
+frame_with table place stamp (Some stm) = frame_of (message_of table place (stamp_args stamp) stm.index stm.args)
 
--- the frame of the message of a writer's statement, for the mark with this number, with this stamp
+-- the frame of the message of a writer's statement, for the mark with this number, with this stamp; in profile Two the message
+-- carries the number modulo 65,536
 unfoldable pub frame_at : Script → ℕ → ℕ → ℕ → ℕ → List ℕ
-frame_at s number writer place stamp = frame_with s.table (stamp_in s.settings.stamp stamp) (slice_get (statements_of s writer) place)
+frame_at s number writer place stamp = frame_with s.table (place_in s.settings.profile number) (stamp_in s.settings.stamp stamp) (slice_get (statements_of s writer) place)

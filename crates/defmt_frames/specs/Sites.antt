@@ -53,10 +53,10 @@ pub record HasSites (s : Script) (sites : Sites) : Type 0 where
   pub own : AreSitesOf s.table sites
   pub all : (w : ℕ) → HaveSites sites (statements_of s w)
 
--- what logging by a site's macro asks: the site is of an entry of the table, the stamp suits the table, the values fit the
--- entry, and the message isn't too long
-pub record Writes (table : Map) (site : Site) (stamp : Option ℕ) (args : Vals) : Type 0 where
+-- what logging by a site's macro asks beside a place that suits the table: the site is of an entry of the table, the stamp
+-- suits the table, the values fit the entry, and the message isn't too long
+pub record Writes (table : Map) (site : Site) (place stamp : Option ℕ) (args : Vals) : Type 0 where
   pub own : IsSite table site.index site.tag site.slots
   pub suits : StampSuits table stamp
   pub fits : Fits table site.index args
-  pub short : length (message_of table (stamp_args stamp) site.index args) ≤ message_limit
+  pub short : length (message_of table place (stamp_args stamp) site.index args) ≤ message_limit

@@ -1,7 +1,8 @@
 //! The frames of a script's statements, as a device writes them.
 //!
 //! [`Sites`] has a site for each string that a script's statements log. By them [`write_frame`] logs one statement of a writer
-//! by the macro of its string's tag, with a stamp where the script has stamps, and writes the frame of its message.
+//! by the macro of its string's tag, with its mark's number in profile Two and a stamp where the script has stamps, and writes
+//! the frame of its message.
 #![tactic(auto)]
 
 mod framing;

@@ -1,5 +1,5 @@
 -- The five kinds of statements of a generated text.
-use Rattle.std.proofs.Common.{◌≡◌, ◌≢◌, ◌≤◌, ◌<◌, ◌+◌, ◌-◌, ◌/◌, ◌%◌, ◌^◌, ℕ, zero, suc, ℤ, pos, Bool, true, false, List, [], ◌∷◌, ◌++◌, Option, Some, Ok, refl, sym, ap, subst, ◌∙◌, arith, length, append-nil, length-append, inl, lit≤}
+use Rattle.std.proofs.Common.{◌≡◌, ◌≢◌, ◌≤◌, ◌<◌, ◌+◌, ◌-◌, ◌/◌, ◌%◌, ◌^◌, ℕ, zero, suc, ℤ, pos, Bool, true, false, List, [], ◌∷◌, ◌++◌, Option, Some, None, Ok, refl, sym, ap, subst, ◌∙◌, arith, length, append-nil, length-append, inl, lit≤}
 use Rattle.std.specs.Prelude.{◌==◌, codes, encode_utf8_all, if◌then◌else◌, nat_lt}
 use Rattle.std.specs.Char.{IsScalar, digit_value}
 use Rattle.std.specs.Fmt.{decimal, digit_glyph}
@@ -14,7 +14,7 @@ use Rattle.defmt_encode.proofs.Most.{bytes_most as carried_bytes, flag_most, int
 use Rattle.defmt_encode.specs.Carry.{bytes_val, bytes_vals}
 use Rattle.defmt_encode.specs.Out.{HasAtMost, HaveAtMost}
 use Rattle.defmt_generate.specs.Generated.{boot, call, fail, hex, less_thousand, link, temp, tick}
-use Rattle.defmt_generated.proofs.Head.{all_names, entry_there, full_table, name_there}
+use Rattle.defmt_generated.proofs.Head.{all_names, all_settings, entry_there, full_table, name_there}
 use Rattle.defmt_generated.proofs.Words.{boot_pieces, boot_spells, fail_pieces, fail_spells, link_pieces, link_spells, temp_pieces, temp_spells, tick_pieces, tick_spells}
 use Rattle.defmt_grammar.specs.Cut.{cut}
 use Rattle.defmt_grammar.specs.Sizes.{IsSigned, size_bits}
@@ -59,7 +59,7 @@ pub record Call (turn x : ℕ) : Type 0 where
   pub named : map.get all_names name ≡ Some index
   pub logged : is_message full_table index ≡ true
   pub reads : ReadsArguments all_names full_table index args (Ok vs)
-  pub short : length (first_message full_table (Some (1000, 250)) (record { index = index; args = vs })) ≤ message_limit
+  pub short : length (first_message full_table all_settings (record { index = index; args = vs })) ≤ message_limit
   pub narrow : length (eager_text full_table index vs) ≤ text_limit
 
 -- ---- an entry of the table
@@ -142,8 +142,8 @@ module _ (index : ℕ) (size : IntSize) (ps : List Piece) (known : Known index p
     meant = refl;
   })
 
-number_short : (index n : ℕ) → length (first_message full_table (Some (1000, 250)) (record { index = index; args = val (uint n) no_vals })) ≤ message_limit
-number_short index n = message_short full_table (Some 1000) index (val (uint n) no_vals) (16 + 0) (lit≤ tt) (one_most (uint n) 16 (uint_most n))
+number_short : (index n : ℕ) → length (first_message full_table all_settings (record { index = index; args = val (uint n) no_vals })) ≤ message_limit
+number_short index n = message_short full_table None (Some 1000) index (val (uint n) no_vals) (16 + 0) (lit≤ tt) (one_most (uint n) 16 (uint_most n))
 
 boot_known : Known 1 boot_pieces
 boot_known = record {
@@ -349,7 +349,7 @@ temp_call x =
         spelled = two_spelled (less_thousand (x % 2001)) (35 ∷ digits) s.shape (shapes.bytes (three x)) s.spelled (digits, three_spelled x, refl);
         meant = ap (λ (v : Val). val v (val (bytes (three x)) no_vals)) s.meant;
       });
-      short = message_short full_table (Some 1000) 2 vs (16 + (7 + 0)) (lit≤ tt)
+      short = message_short full_table None (Some 1000) 2 vs (16 + (7 + 0)) (lit≤ tt)
           (more_most (int s.value) (val (bytes (three x)) no_vals) 16 (7 + 0) (int_most s.value) (one_most (bytes (three x)) 7 (carried_bytes (three x) 7 (lit≤ tt))));
       narrow = narrow_known 2 temp_pieces vs temp_known (temp_narrow s.value (three x) (three_bytes x) (lit≤ tt));
     }
@@ -431,7 +431,7 @@ link_call x =
         spelled = two_spelled word quoted (shapes.flag even) (shapes.quoted s) (flag_spelled even) (port_spelled (x % 10) (omega arith));
         meant = refl;
       });
-      short = message_short full_table (Some 1000) 3 vs (1 + (9 + 0)) (lit≤ tt)
+      short = message_short full_table None (Some 1000) 3 vs (1 + (9 + 0)) (lit≤ tt)
           (more_most (flag even) (val (str s) no_vals) 1 (9 + 0) (flag_most even) (one_most (str s) 9 (str_most s 9 (lit≤ tt))));
       narrow = narrow_known 3 link_pieces vs link_known (link_narrow even s (lit≤ tt));
     }

@@ -16,6 +16,7 @@ use Rattle.defmt_intern.specs.Table.{Map}
 use Rattle.defmt_intern.specs.declared.entry.Entry.{Entry}
 use Rattle.defmt_intern.specs.declared.entry.Tag.{Tag}
 use Rattle.defmt_intern.specs.declared.entry.Tag.TheVariants as tags
+use Rattle.defmt_intern.specs.declared.table.Profile.TheVariants as profiles
 use Rattle.defmt_lines.specs.Form.{in_order}
 use Rattle.defmt_lines.proofs.SettingLaws.{set_found}
 use Rattle.defmt_lines.specs.Line.{Line, Says, entry, entry_of, field_and_rest, head, one_field, two_fields, worded}
@@ -28,11 +29,13 @@ use Rattle.defmt_lines.specs.declared.cause.Cause.TheVariants as causes
 use Rattle.defmt_lines.specs.declared.form.Form.{Form}
 use Rattle.defmt_lines.specs.declared.form.Form.TheVariants as forms
 use Rattle.defmt_lines.specs.declared.settings.RingMode.TheVariants.{Block}
+use Rattle.defmt_lines.specs.declared.settings.Settings.{Settings}
 use Rattle.defmt_script.proofs.Counts.{len-added, no_names}
 use Rattle.defmt_script.specs.Reads.{ReadsLines, Takes, TakesString, admits_string, sets, string_at, takes_string, with_string}
 use Rattle.defmt_script.specs.Script.{Refusal, Script, count_strings}
 use Rattle.defmt_script.specs.State.{State, entry_at, no_lines, no_statements, stamp_entry, strings_limit}
 use Rattle.defmt_spelling.specs.Names.{NameMap}
+use Rattle.rtt_terminal.specs.Speech.{silence}
 
 abbrev Answer : Type 0
 Answer = Result Script Refusal
@@ -42,20 +45,29 @@ Taken = Result State Cause
 
 -- ---- states
 
+-- the settings with these stamps, profile One and no orders
+abbrev with_stamps : Option (ℕ × ℕ) → Settings
+with_stamps stamps = record { ring = 1024; mode = Block; late = false; stamp = stamps; profile = profiles.One; orders = [] }
+
+-- the settings behind the first four lines
+abbrev pub all_settings : Settings
+all_settings = with_stamps (Some (1000, 250))
+
 -- the settings so far, and no string
 abbrev settled : Form → Option (ℕ × ℕ) → State
 settled form stamps = record {
   first = form;
   script = record {
-    settings = record { ring = 1024; mode = Block; late = false; stamp = stamps };
+    settings = with_stamps stamps;
     table = map.empty;
     names = map.empty;
     writers = no_statements;
+    said = silence 8;
   };
 }
 
 abbrev no_strings : State
-no_strings = settled forms.Entry (Some (1000, 250))
+no_strings = settled forms.Profile (Some (1000, 250))
 
 abbrev one_string : State
 one_string = string_at 1 no_strings (codes "boot") tags.Info (codes "boot {=u8}")

@@ -1,5 +1,5 @@
 -- Statement by statement, a generated text reads as a script.
-use Rattle.std.proofs.Common.{◌≡◌, ◌≤◌, ◌<◌, ◌+◌, ◌%◌, ℕ, zero, suc, Bool, true, false, List, [], ◌∷◌, ◌++◌, Option, Some, Result, Ok, Err, refl, sym, ap, subst, ◌∙◌, arith, length, length-append, inl}
+use Rattle.std.proofs.Common.{◌≡◌, ◌≤◌, ◌<◌, ◌+◌, ◌%◌, ℕ, zero, suc, Bool, true, false, List, [], ◌∷◌, ◌++◌, Some, Result, Ok, Err, refl, sym, ap, subst, ◌∙◌, arith, length, length-append, inl}
 use Rattle.std.specs.Prelude.{if◌then◌else◌, nat_lt, not}
 use Rattle.std.specs.FinMap as map
 use Rattle.std.proofs.lemmas.Bool.Decides.{nat_tests}
@@ -8,7 +8,7 @@ use Rattle.defmt_eager.specs.Show.{eager_text}
 use Rattle.defmt_generate.specs.Generated.{drawn, generated}
 use Rattle.defmt_generated.proofs.Calls.{Call, called}
 use Rattle.defmt_generated.proofs.Fields.{statement_said}
-use Rattle.defmt_generated.proofs.Head.{all_counted, all_names, full_table, head_read, ready}
+use Rattle.defmt_generated.proofs.Head.{all_counted, all_names, all_settings, full_table, head_read, ready}
 use Rattle.defmt_generated.proofs.Lines.{generated_lines, statement_printable}
 use Rattle.defmt_generated.specs.Lines.{head_lines, statement_line, statement_lines}
 use Rattle.defmt_intern.specs.Table.{Map}
@@ -18,6 +18,7 @@ use Rattle.defmt_lines.specs.declared.cause.Cause.{Cause}
 use Rattle.defmt_lines.specs.declared.cause.Cause.TheVariants as causes
 use Rattle.defmt_lines.specs.declared.form.Form.{Form}
 use Rattle.defmt_lines.specs.declared.form.Form.TheVariants as forms
+use Rattle.defmt_lines.specs.declared.settings.Settings.{Settings}
 use Rattle.defmt_script.specs.Lawful.{first_message, message_limit, statements_limit}
 use Rattle.defmt_script.specs.Reads.{Reads, ReadsLines, Takes, TakesStatement, admits_index, admits_statement, is_message, takes_arguments, with_statement}
 use Rattle.defmt_script.specs.Script.{Refusal, Script, add_statement, count_all, count_statements}
@@ -37,7 +38,7 @@ record Follows (count : ℕ) (s : State) : Type 0 where
   shut : (closed s).first ≡ forms.Statement
   table : (closed s).script.table ≡ full_table
   names : (closed s).script.names ≡ all_names
-  stamp : (closed s).script.settings.stamp ≡ Some (1000, 250)
+  settings : (closed s).script.settings ≡ all_settings
   all : count_all (closed s).script.writers ≡ count
   eight : length (closed s).script.writers ≡ 8
 
@@ -46,7 +47,7 @@ follows_ready = record {
   shut = refl;
   table = ap (λ (n : ℕ). let t : Map = map.insert ready.script.table (n + 1) (stamp_entry (n + 1)) in t) all_counted;
   names = refl;
-  stamp = refl;
+  settings = refl;
   all = refl;
   eight = refl;
 }
@@ -77,7 +78,7 @@ follows_next count w s stm lt f =
       shut = ap (λ (t : State). t.first) same ∙ f.shut;
       table = ap (λ (t : State). t.script.table) same ∙ f.table;
       names = ap (λ (t : State). t.script.names) same ∙ f.names;
-      stamp = ap (λ (t : State). t.script.settings.stamp) same ∙ f.stamp;
+      settings = ap (λ (t : State). t.script.settings) same ∙ f.settings;
       all = ap (λ (t : State). count_all t.script.writers) same ∙ more.0 ∙ ap (λ (n : ℕ). n + 1) f.all;
       eight = ap (λ (t : State). length t.script.writers) same ∙ more.1 ∙ f.eight;
     }
@@ -114,10 +115,10 @@ module _ (i x turn w : ℕ) (s : State) (f : Follows i s) (few : i < 4096) (c : 
       subst (λ (t : Map). ReadsArguments (closed s).script.names t c.index c.args (Ok c.vs)) (sym f.table)
       (subst (λ (m : NameMap). ReadsArguments m full_table c.index c.args (Ok c.vs)) (sym f.names) c.reads)
 
-  is_short : length (first_message (closed s).script.table (closed s).script.settings.stamp made) ≤ message_limit
+  is_short : length (first_message (closed s).script.table (closed s).script.settings made) ≤ message_limit
   is_short =
-      subst (λ (t : Map). length (first_message t (closed s).script.settings.stamp made) ≤ message_limit) (sym f.table)
-      (subst (λ (o : Option (ℕ × ℕ)). length (first_message full_table o made) ≤ message_limit) (sym f.stamp) c.short)
+      subst (λ (t : Map). length (first_message t (closed s).script.settings made) ≤ message_limit) (sym f.table)
+      (subst (λ (u : Settings). length (first_message full_table u made) ≤ message_limit) (sym f.settings) c.short)
 
   is_narrow : length (eager_text (closed s).script.table c.index c.vs) ≤ text_limit
   is_narrow = subst (λ (t : Map). length (eager_text t c.index c.vs) ≤ text_limit) (sym f.table) c.narrow
@@ -129,9 +130,9 @@ module _ (i x turn w : ℕ) (s : State) (f : Follows i s) (few : i < 4096) (c : 
   is_taken =
       let taken : Taken = Ok following in
       let here : takes_arguments (closed s) (w, c.index) (Ok c.vs) ≡ taken =
-      accepted (nat_lt message_limit (length (first_message (closed s).script.table (closed s).script.settings.stamp made)))
+      accepted (nat_lt message_limit (length (first_message (closed s).script.table (closed s).script.settings made)))
       (nat_lt text_limit (length (eager_text (closed s).script.table c.index c.vs))) following
-      (not_below message_limit (length (first_message (closed s).script.table (closed s).script.settings.stamp made)) is_short)
+      (not_below message_limit (length (first_message (closed s).script.table (closed s).script.settings made)) is_short)
       (not_below text_limit (length (eager_text (closed s).script.table c.index c.vs)) is_narrow) in
       subst (λ (p : Place). TakesStatement (closed s) c.args p taken) (sym is_admitted) (Ok c.vs, arguments_read, sym here)
 

@@ -15,5 +15,6 @@ pub fn generated_lines()
 
 /// A generated text reads as a script, which has so many statements.
 pub fn generated_reads()
-    ensures { (count : ℕ) → count ≤ 4096 → (script : Script) × Reads (generated count) (Ok script) × (count_all script.writers ≡ count) }
+    ensures { (count : ℕ) → count ≤ 4096
+        → (script : Script) × Reads (generated count) (Ok script) × (count_all script.writers ≡ count) }
 {}

@@ -3,6 +3,7 @@ mod LineCuts
 pub mod LineLaws
 mod NumberLaws
 mod Numbers
+pub mod OrderLaws
 pub mod SettingLaws
 mod Verdicts
 mod Spaces

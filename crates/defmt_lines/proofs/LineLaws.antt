@@ -114,8 +114,11 @@ rest_said forms.Ring rest line e = one_word_found forms.Ring rest line refl e
 rest_said forms.Mode rest line e = one_word_found forms.Mode rest line refl e
 rest_said forms.Reader rest line e = one_word_found forms.Reader rest line refl e
 rest_said forms.Stamp rest line e = two_words_found forms.Stamp rest line refl e
+rest_said forms.Profile rest line e = one_word_found forms.Profile rest line refl e
+rest_said forms.Order rest line e = two_words_found forms.Order rest line refl e
 rest_said forms.Entry rest line e = entry_found rest line e
 rest_said forms.Statement rest line e = act_found forms.Statement rest line refl e
+rest_said forms.Say rest line e = act_found forms.Say rest line refl e
 
 whole : (text rest : Text) (form : Form) (line : Line) → HasForm text form rest → SpellsRest form rest line → Spells text line
 whole text rest form blank h s = absurd s
@@ -171,15 +174,22 @@ head_again forms.Ring (word ∷ []) rest is are = one_word_again forms.Ring rest
 head_again forms.Mode (word ∷ []) rest is are = one_word_again forms.Mode rest word are
 head_again forms.Reader (word ∷ []) rest is are = one_word_again forms.Reader rest word are
 head_again forms.Stamp (word ∷ []) rest is are = absurd (omega (arith, other_count forms.Stamp 2 (length (word ∷ [])) refl is))
+head_again forms.Profile (word ∷ []) rest is are = one_word_again forms.Profile rest word are
+head_again forms.Order (word ∷ []) rest is are = absurd (omega (arith, other_count forms.Order 2 (length (word ∷ [])) refl is))
 head_again forms.Entry (word ∷ []) rest is are = absurd (cc is)
 head_again forms.Statement (word ∷ []) rest is are = absurd (cc is)
+head_again forms.Say (word ∷ []) rest is are = absurd (cc is)
 head_again forms.Ring (word ∷ next ∷ more) rest is are = absurd (omega (arith, other_count forms.Ring 1 (length (word ∷ next ∷ more)) refl is))
 head_again forms.Mode (word ∷ next ∷ more) rest is are = absurd (omega (arith, other_count forms.Mode 1 (length (word ∷ next ∷ more)) refl is))
 head_again forms.Reader (word ∷ next ∷ more) rest is are = absurd (omega (arith, other_count forms.Reader 1 (length (word ∷ next ∷ more)) refl is))
+head_again forms.Profile (word ∷ next ∷ more) rest is are = absurd (omega (arith, other_count forms.Profile 1 (length (word ∷ next ∷ more)) refl is))
 head_again forms.Stamp (first ∷ last ∷ []) rest is are = two_words_again forms.Stamp rest first last are
 head_again forms.Stamp (first ∷ last ∷ next ∷ more) rest is are = absurd (omega (arith, other_count forms.Stamp 2 (length (first ∷ last ∷ next ∷ more)) refl is))
+head_again forms.Order (first ∷ last ∷ []) rest is are = two_words_again forms.Order rest first last are
+head_again forms.Order (first ∷ last ∷ next ∷ more) rest is are = absurd (omega (arith, other_count forms.Order 2 (length (first ∷ last ∷ next ∷ more)) refl is))
 head_again forms.Entry (word ∷ next ∷ more) rest is are = absurd (cc is)
 head_again forms.Statement (word ∷ next ∷ more) rest is are = absurd (cc is)
+head_again forms.Say (word ∷ next ∷ more) rest is are = absurd (cc is)
 
 entry_again : (rest name : Text) (tag : Tag) (body : Text) → IsString rest name tag body → entry_of rest ≡ Some (entry name tag body)
 unfolding entry_of
@@ -197,8 +207,11 @@ action_again forms.Ring rest writer field more is s = absurd (cc is)
 action_again forms.Mode rest writer field more is s = absurd (cc is)
 action_again forms.Reader rest writer field more is s = absurd (cc is)
 action_again forms.Stamp rest writer field more is s = absurd (cc is)
+action_again forms.Profile rest writer field more is s = absurd (cc is)
+action_again forms.Order rest writer field more is s = absurd (cc is)
 action_again forms.Entry rest writer field more is s = absurd (cc is)
 action_again forms.Statement rest writer field more is s = act_again forms.Statement rest writer field more s
+action_again forms.Say rest writer field more is s = act_again forms.Say rest writer field more s
 
 worded_again : (text rest : Text) (form : Form) → HasForm text form rest → worded text ≡ by_form form rest
 unfolding worded

@@ -17,6 +17,10 @@ cause_number (causes.Text inner) = 10
 cause_number causes.Many = 11
 cause_number causes.Wide = 12
 cause_number causes.Stamp = 13
+cause_number causes.Profile = 15
+cause_number causes.Terminal = 16
+cause_number causes.Words = 17
+cause_number causes.Level = 19
 
 -- the number that the reading of the arguments or of the text gives, or 0
 abbrev pub inner_number : Cause → ℕ

@@ -8,7 +8,8 @@ use Rattle.defmt_lines.specs.declared.form.Form.TheVariants as forms
 abbrev pub form_of : List ℕ → Option Form
 form_of word = at_word word (
     (codes "ring", forms.Ring) ∷ (codes "mode", forms.Mode) ∷ (codes "reader", forms.Reader) ∷ (codes "stamp", forms.Stamp)
-    ∷ (codes "s", forms.Entry) ∷ (codes "w", forms.Statement) ∷ [])
+    ∷ (codes "profile", forms.Profile) ∷ (codes "d", forms.Order) ∷ (codes "s", forms.Entry) ∷ (codes "w", forms.Statement)
+    ∷ (codes "t", forms.Say) ∷ [])
 
 -- What stands behind the first word: so many words that set something; the name, the tag and the text of a string; or a writer, a field
 -- and the rest of the line.
@@ -22,25 +23,32 @@ shape_of forms.Ring = setting 1
 shape_of forms.Mode = setting 1
 shape_of forms.Reader = setting 1
 shape_of forms.Stamp = setting 2
+shape_of forms.Profile = setting 1
+shape_of forms.Order = setting 2
 shape_of forms.Entry = string
 shape_of forms.Statement = action
+shape_of forms.Say = action
 
 abbrev pub IsSetting : Form → Type 0
 IsSetting form = (count : ℕ) × (shape_of form ≡ setting count)
 
 -- ---- the order
 
--- the lines of a script stand in this order
+-- the lines of a script stand in this order, but that statements and texts may come in any
 abbrev pub order : List Form
-order = forms.Ring ∷ forms.Mode ∷ forms.Reader ∷ forms.Stamp ∷ forms.Entry ∷ forms.Statement ∷ []
+order =
+    forms.Ring ∷ forms.Mode ∷ forms.Reader ∷ forms.Stamp ∷ forms.Profile ∷ forms.Order ∷ forms.Entry ∷ forms.Statement ∷ forms.Say ∷ []
 
 abbrev pub is_form : Form → Form → Bool
 is_form forms.Ring forms.Ring = true
 is_form forms.Mode forms.Mode = true
 is_form forms.Reader forms.Reader = true
 is_form forms.Stamp forms.Stamp = true
+is_form forms.Profile forms.Profile = true
+is_form forms.Order forms.Order = true
 is_form forms.Entry forms.Entry = true
 is_form forms.Statement forms.Statement = true
+is_form forms.Say forms.Say = true
 is_form one other = false
 
 abbrev pub has_form : Form → List Form → Bool
@@ -56,14 +64,18 @@ from form (one ∷ more) = if is_form form one then one ∷ more else from form 
 abbrev pub in_order : Form → Form → Bool
 in_order first form = has_form form (from first order)
 
--- the first form that may come behind a line of this form: strings and statements may come again, and a setting stands at most once
+-- the first form that may come behind a line of this form: orders, strings, statements and texts may come again, and each other setting
+-- stands at most once
 abbrev pub next : Form → Form
 next forms.Ring = forms.Mode
 next forms.Mode = forms.Reader
 next forms.Reader = forms.Stamp
-next forms.Stamp = forms.Entry
+next forms.Stamp = forms.Profile
+next forms.Profile = forms.Order
+next forms.Order = forms.Order
 next forms.Entry = forms.Entry
 next forms.Statement = forms.Statement
+next forms.Say = forms.Statement
 
 -- ---- where a script stands, by the first form that may come
 
@@ -84,5 +96,8 @@ rank forms.Ring = 0
 rank forms.Mode = 1
 rank forms.Reader = 2
 rank forms.Stamp = 3
-rank forms.Entry = 4
-rank forms.Statement = 5
+rank forms.Profile = 4
+rank forms.Order = 5
+rank forms.Entry = 6
+rank forms.Statement = 7
+rank forms.Say = 8

@@ -5,5 +5,6 @@ pub mod Form
 pub mod Line
 pub mod LineView
 pub mod Number
+pub mod Orders
 pub mod Settings
 pub mod Verdict

@@ -118,8 +118,11 @@ by_form forms.Ring rest = one_word forms.Ring rest
 by_form forms.Mode rest = one_word forms.Mode rest
 by_form forms.Reader rest = one_word forms.Reader rest
 by_form forms.Stamp rest = two_words forms.Stamp rest
+by_form forms.Profile rest = one_word forms.Profile rest
+by_form forms.Order rest = two_words forms.Order rest
 by_form forms.Entry rest = entry_of rest
 by_form forms.Statement rest = act_of forms.Statement rest
+by_form forms.Say rest = act_of forms.Say rest
 
 unfoldable pub worded : List ℕ → Option Line
 worded text = option_and_then (λ p. option_and_then (λ form. by_form form p.1) (form_of p.0)) (cut 32 text)

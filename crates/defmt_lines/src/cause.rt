@@ -27,12 +27,20 @@ pub enum Cause {
     /// 10: the text is refused; the number is that of the grammar of format strings, or 0 where the text has more than
     /// 4,096 bytes or more than 255 variants.
     Text(u8),
-    /// 11: the 65,535th string or the 4,097th statement.
+    /// 11: the 65,535th string, the 4,097th statement, the 4,097th text for a terminal or the 65th order.
     Many,
     /// 12: the text of the line has more than 65,536 bytes.
     Wide,
     /// 13: a number of the stamp isn't a decimal number up to 281,474,976,710,656.
     Stamp,
+    /// 15: the word after `profile` is neither 1 nor 2.
+    Profile,
+    /// 16: the word behind the writer is no terminal's digit.
+    Terminal,
+    /// 17: the text for a terminal has more than 2,000 bytes, or one below `20` or equal to `7f`.
+    Words,
+    /// 19: the number of an order isn't a decimal number up to 4,096, or its level isn't one of the five words.
+    Level,
 }
 
 impl Cause {
@@ -54,6 +62,10 @@ impl Cause {
             Cause::Many => 11,
             Cause::Wide => 12,
             Cause::Stamp => 13,
+            Cause::Profile => 15,
+            Cause::Terminal => 16,
+            Cause::Words => 17,
+            Cause::Level => 19,
         }
     }
 

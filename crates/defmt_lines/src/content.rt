@@ -18,7 +18,8 @@ pub struct EntryLine<'a> {
     ghost of_string: { is_string_tag tag ≡ true },
 }
 
-/// What a writer does: the name and the arguments of its statement in `w WRITER NAME ARGS`.
+/// What a writer does: the name and the arguments of its statement in `w WRITER NAME ARGS`, or a terminal and a text for it
+/// in `t WRITER TERM TEXT`.
 #[derive(Clone, Copy)]
 pub struct ActionLine<'a> {
     /// The writer from 0 to 7, `None` for a number above 7.

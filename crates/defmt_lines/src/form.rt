@@ -3,7 +3,8 @@
 ghost use Rattle.std.specs.Prelude.{◌≡◌};
 ghost use Rattle.defmt_lines.specs.Form.{form_of, in_order, next, rank};
 
-/// The form of a line, by its first word. A script has its lines in this order.
+/// The form of a line, by its first word. A script has its lines in this order, but for the last two forms, which may come in
+/// any.
 #[derive(Clone, Copy, Debug, PartialEq, Eq)]
 pub enum Form {
     /// `ring`
@@ -14,10 +15,16 @@ pub enum Form {
     Reader,
     /// `stamp`
     Stamp,
+    /// `profile`
+    Profile,
+    /// `d`
+    Order,
     /// `s`
     Entry,
     /// `w`
     Statement,
+    /// `t`
+    Say,
 }
 
 impl Form {
@@ -29,12 +36,15 @@ impl Form {
             Form::Mode => 1,
             Form::Reader => 2,
             Form::Stamp => 3,
-            Form::Entry => 4,
-            Form::Statement => 5,
+            Form::Profile => 4,
+            Form::Order => 5,
+            Form::Entry => 6,
+            Form::Statement => 7,
+            Form::Say => 8,
         }
     }
 
-    /// The first form that may stand behind a line of this one: each of the first four stands at most once.
+    /// The first form that may stand behind a line of this one: each of the first five stands at most once.
     pub fn next(self) -> Form
         ensures { result ≡ next self }
     {
@@ -42,8 +52,10 @@ impl Form {
             Form::Ring => Form::Mode,
             Form::Mode => Form::Reader,
             Form::Reader => Form::Stamp,
-            Form::Stamp | Form::Entry => Form::Entry,
-            Form::Statement => Form::Statement,
+            Form::Stamp => Form::Profile,
+            Form::Profile | Form::Order => Form::Order,
+            Form::Entry => Form::Entry,
+            Form::Statement | Form::Say => Form::Statement,
         }
     }
 
@@ -61,11 +73,14 @@ pub fn form_of(word: &str) -> Option<Form>
 {
     match word {
         "w" => Some(Form::Statement),
+        "t" => Some(Form::Say),
         "s" => Some(Form::Entry),
+        "d" => Some(Form::Order),
         "ring" => Some(Form::Ring),
         "mode" => Some(Form::Mode),
         "reader" => Some(Form::Reader),
         "stamp" => Some(Form::Stamp),
+        "profile" => Some(Form::Profile),
         _ => None,
     }
 }

@@ -8,6 +8,7 @@ mod cut;
 mod form;
 mod line;
 mod number;
+mod orders;
 mod settings;
 mod verdict;
 
@@ -16,5 +17,6 @@ pub use content::{ActionLine, EntryLine, Line, Words};
 pub use cut::next_line;
 pub use form::Form;
 pub use line::{one_line, read_line};
+pub use orders::Orders;
 pub use settings::{RingMode, Settings, one_setting};
 pub use verdict::{judge, one_verdict};

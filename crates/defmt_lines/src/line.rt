@@ -75,8 +75,11 @@ fn by_form(form: Form, rest: &str) -> Option<Line<'_>>
         Form::Mode => one_word(Form::Mode, rest),
         Form::Reader => one_word(Form::Reader, rest),
         Form::Stamp => two_words(Form::Stamp, rest),
+        Form::Profile => one_word(Form::Profile, rest),
+        Form::Order => two_words(Form::Order, rest),
         Form::Entry => entry_of(rest),
         Form::Statement => act_of(Form::Statement, rest),
+        Form::Say => act_of(Form::Say, rest),
     }
 }
 

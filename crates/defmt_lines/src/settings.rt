@@ -1,8 +1,8 @@
 //! What the first lines of a script set.
 
-ghost use Rattle.std.specs.Prelude.{◌≡◌, ◌∷◌, [], ℕ, List, Result, IfOk, false};
+ghost use Rattle.std.specs.Prelude.{◌≡◌, ◌∷◌, [], ℕ, List, Result, IfOk, Some, false};
 ghost use Rattle.defmt_lines.specs.LineView.{words_view};
-ghost use Rattle.defmt_lines.specs.Settings.{Sets, is_block, late_of, mode_of, no_settings, with_mode, with_reader, with_ring, with_stamp, with_words};
+ghost use Rattle.defmt_lines.specs.Settings.{Sets, is_block, late_of, level_of, mode_of, no_settings, order_or, profile_of, with_mode, with_order, with_profile, with_reader, with_ring, with_stamp, with_words};
 ghost use Rattle.defmt_lines.specs.declared.cause.Cause.{Cause as AnyCause};
 ghost use Rattle.defmt_lines.specs.declared.form.Form.{Form as AnyForm};
 ghost use Rattle.defmt_lines.specs.declared.settings.Settings.{Settings as AnySettings};
@@ -11,9 +11,18 @@ use crate::cause::Cause;
 use crate::content::Words;
 use crate::form::Form;
 use crate::number::number_within;
+use crate::orders::Orders;
+use defmt_hooks::Level;
+use defmt_intern::Profile;
 
 // The greatest base and step of a stamp.
 const STAMP_LIMIT: u64 = 281_474_976_710_656;
+
+// The greatest number of an order.
+const FRAMES_LIMIT: u64 = 4096;
+
+// The most orders.
+const ORDERS_LIMIT: usize = 64;
 
 /// What a writer does where its frame doesn't fit into the ring (SEGGER RTT, the modes of an up-buffer).
 #[derive(Clone, Copy, Debug, PartialEq, Eq)]
@@ -27,7 +36,7 @@ pub enum RingMode {
 }
 
 /// What the first lines of a script set.
-#[derive(Clone, Copy, Debug)]
+#[derive(Debug, Drop)]
 pub struct Settings {
     /// The ring's size in bytes, from 16 to 65,536.
     pub ring: u32,
@@ -37,10 +46,15 @@ pub struct Settings {
     pub late: bool,
     /// The first stamp and the step from one to the next, in microseconds.
     pub stamp: Option<(u64, u64)>,
+    /// How messages are laid out.
+    pub profile: Profile,
+    /// The orders of levels in their order, at most 64.
+    pub orders: Orders,
 }
 
 impl Settings {
-    /// What a script has without such lines: a ring of 1,024 bytes, blocking mode, a live reader and no stamps.
+    /// What a script has without such lines: a ring of 1,024 bytes, blocking mode, a live reader, no stamps, profile One and
+    /// no orders.
     pub fn new() -> Settings
         ensures { result ≡ no_settings }
     {
@@ -49,22 +63,25 @@ impl Settings {
             mode: RingMode::Block,
             late: false,
             stamp: None,
+            profile: Profile::One,
+            orders: Orders::new(),
         }
     }
 
     /// With what the words of a line of this form say: `ring` and a size, `mode` and a mode, `reader` and whether it is late,
-    /// which it can't be in blocking mode, or `stamp` and two numbers.
+    /// which it can't be in blocking mode, `stamp` and two numbers, `profile` and a profile, or `d`, a number of frames and a
+    /// level, which is one order more.
     ///
     /// # Errors
     /// The cause why the words set nothing, `Cause::Line` for another form and another number of words.
-    pub fn with_words(self, form: Form, words: Words<'_>) -> Result<Settings, Cause>
-        ensures { Sets form (words_view words.entry) self result }
+    pub fn with_words(&self, form: Form, words: Words<'_>) -> Result<Settings, Cause>
+        ensures { Sets form (words_view words.entry) self.now result }
     {
         self.by_words(form, words)
     }
 
-    fn by_words(self, form: Form, words: Words<'_>) -> Result<Settings, Cause>
-        ensures { result ≡ with_words form (words_view words.entry) self }
+    fn by_words(&self, form: Form, words: Words<'_>) -> Result<Settings, Cause>
+        ensures { result ≡ with_words form (words_view words.entry) self.now }
     {
         match words {
             Words::One(word) => self.with_one(form, word),
@@ -72,31 +89,39 @@ impl Settings {
         }
     }
 
-    fn with_one(self, form: Form, word: &str) -> Result<Settings, Cause>
-        ensures { result ≡ with_words form (word.now ∷ []) self }
+    fn with_one(&self, form: Form, word: &str) -> Result<Settings, Cause>
+        ensures { result ≡ with_words form (word.now ∷ []) self.now }
     {
         match form {
             Form::Ring => self.with_ring(word),
             Form::Mode => self.with_mode(word),
             Form::Reader => self.with_reader(word),
-            Form::Stamp | Form::Entry | Form::Statement => Err(Cause::Line),
-        }
-    }
-
-    fn with_two(self, form: Form, first: &str, second: &str) -> Result<Settings, Cause>
-        ensures { result ≡ with_words form (first.now ∷ second.now ∷ []) self }
-    {
-        match form {
-            Form::Stamp => self.with_stamp(first, second),
-            Form::Ring | Form::Mode | Form::Reader | Form::Entry | Form::Statement => {
+            Form::Profile => self.with_profile(word),
+            Form::Stamp | Form::Order | Form::Entry | Form::Statement | Form::Say => {
                 Err(Cause::Line)
             }
         }
     }
 
+    fn with_two(&self, form: Form, first: &str, second: &str) -> Result<Settings, Cause>
+        ensures { result ≡ with_words form (first.now ∷ second.now ∷ []) self.now }
+    {
+        match form {
+            Form::Stamp => self.with_stamp(first, second),
+            Form::Order => self.with_order(first, second),
+            Form::Ring
+            | Form::Mode
+            | Form::Reader
+            | Form::Profile
+            | Form::Entry
+            | Form::Statement
+            | Form::Say => Err(Cause::Line),
+        }
+    }
+
     #[tactic(auto, unfolding(crate::specs::Settings::with_ring))]
-    fn with_ring(self, word: &str) -> Result<Settings, Cause>
-        ensures { result ≡ with_ring self word.now }
+    fn with_ring(&self, word: &str) -> Result<Settings, Cause>
+        ensures { result ≡ with_ring self.now word.now }
     {
         match number_within(16, 65_536, word) {
             Some(ring) => Ok(Settings {
@@ -104,24 +129,29 @@ impl Settings {
                 mode: self.mode,
                 late: self.late,
                 stamp: self.stamp,
+                profile: self.profile,
+                orders: self.orders.copy(),
             }),
             None => Err(Cause::Ring),
         }
     }
 
     #[tactic(auto, unfolding(crate::specs::Settings::with_mode))]
-    fn with_mode(self, word: &str) -> Result<Settings, Cause>
-        ensures { result ≡ with_mode self word.now }
+    fn with_mode(&self, word: &str) -> Result<Settings, Cause>
+        ensures { result ≡ with_mode self.now word.now }
     {
         match mode_of(word) {
-            Some(mode) => Ok(Settings { mode, ..self }),
+            Some(mode) => Ok(Settings {
+                mode,
+                ..self.copy()
+            }),
             None => Err(Cause::Mode),
         }
     }
 
     #[tactic(auto, unfolding(crate::specs::Settings::with_reader))]
-    fn with_reader(self, word: &str) -> Result<Settings, Cause>
-        ensures { result ≡ with_reader self word.now }
+    fn with_reader(&self, word: &str) -> Result<Settings, Cause>
+        ensures { result ≡ with_reader self.now word.now }
     {
         let Some(late) = late_of(word) else {
             return Err(Cause::Mode);
@@ -129,12 +159,15 @@ impl Settings {
         if late && self.mode.is_block() {
             return Err(Cause::Late);
         }
-        Ok(Settings { late, ..self })
+        Ok(Settings {
+            late,
+            ..self.copy()
+        })
     }
 
     #[tactic(auto, unfolding(crate::specs::Settings::with_stamp))]
-    fn with_stamp(self, base: &str, step: &str) -> Result<Settings, Cause>
-        ensures { result ≡ with_stamp self base.now step.now }
+    fn with_stamp(&self, base: &str, step: &str) -> Result<Settings, Cause>
+        ensures { result ≡ with_stamp self.now base.now step.now }
     {
         match (
             number_within(0, STAMP_LIMIT, base),
@@ -142,9 +175,58 @@ impl Settings {
         ) {
             (Some(base), Some(step)) => Ok(Settings {
                 stamp: Some((base, step)),
-                ..self
+                ..self.copy()
             }),
             _ => Err(Cause::Stamp),
+        }
+    }
+
+    #[tactic(auto, unfolding(crate::specs::Settings::with_profile))]
+    fn with_profile(&self, word: &str) -> Result<Settings, Cause>
+        ensures { result ≡ with_profile self.now word.now }
+    {
+        match profile_of(word) {
+            Some(profile) => Ok(Settings {
+                profile,
+                ..self.copy()
+            }),
+            None => Err(Cause::Profile),
+        }
+    }
+
+    #[tactic(auto, unfolding(crate::specs::Settings::with_order))]
+    fn with_order(&self, number: &str, word: &str) -> Result<Settings, Cause>
+        ensures { result ≡ with_order self.now number.now word.now }
+    {
+        match (number_within(0, FRAMES_LIMIT, number), level_of(word)) {
+            (Some(number), Some(level)) => self.ordered(number as u32, level),
+            _ => Err(Cause::Level),
+        }
+    }
+
+    // With an order more.
+    fn ordered(&self, number: u32, level: Level) -> Result<Settings, Cause>
+        ensures { result ≡ order_or self.now (Some number) (Some level) }
+    {
+        if self.orders.len() >= ORDERS_LIMIT {
+            return Err(Cause::Many);
+        }
+        Ok(Settings {
+            orders: self.orders.extended(number, level),
+            ..self.copy()
+        })
+    }
+
+    fn copy(&self) -> Settings
+        ensures { result ≡ self.now }
+    {
+        Settings {
+            ring: self.ring,
+            mode: self.mode,
+            late: self.late,
+            stamp: self.stamp,
+            profile: self.profile,
+            orders: self.orders.copy(),
         }
     }
 }
@@ -183,6 +265,29 @@ fn late_of(word: &str) -> Option<bool>
     match word {
         "live" => Some(false),
         "late" => Some(true),
+        _ => None,
+    }
+}
+
+fn profile_of(word: &str) -> Option<Profile>
+    ensures { result ≡ profile_of word.now }
+{
+    match word {
+        "1" => Some(Profile::One),
+        "2" => Some(Profile::Two),
+        _ => None,
+    }
+}
+
+fn level_of(word: &str) -> Option<Level>
+    ensures { result ≡ level_of word.now }
+{
+    match word {
+        "trace" => Some(Level::Trace),
+        "debug" => Some(Level::Debug),
+        "info" => Some(Level::Info),
+        "warn" => Some(Level::Warn),
+        "error" => Some(Level::Error),
         _ => None,
     }
 }

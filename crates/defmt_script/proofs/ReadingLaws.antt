@@ -80,6 +80,7 @@ module _ (texts : (tag : Tag) (text : List ℕ) (verdict other : Option ℕ) →
   one_action : (before : State) (form : Form) (writer : Option ℕ) (field more : List ℕ) (a b : Result State Cause)
       → TakesAction before form writer field more a → TakesAction before form writer field more b → a ≡ b
   one_action before forms.Statement writer name args a b p q = one_statement (closed before) args (admits_statement (closed before) writer name) a b p q
+  one_action before forms.Say writer term text a b p q = p ∙ sym q
   one_action before form writer field more a b p q = p ∙ sym q
 
   one_set : (before : State) (form : Form) (words : List (List ℕ)) (a b : Result State Cause) → TakesSetting before form words a → TakesSetting before form words b → a ≡ b

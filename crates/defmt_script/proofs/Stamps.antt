@@ -38,17 +38,25 @@ use Rattle.defmt_values.specs.Scan.{own_form, own_in}
 use Rattle.defmt_values.specs.declared.value.Statement.{Statement}
 use Rattle.defmt_eager.specs.Line.{IsWide, stamp_text, text_limit}
 use Rattle.defmt_eager.specs.Show.{eager_text, own_pieces, pieces_in, pieces_text, show_val, shows}
-use Rattle.defmt_encode.proofs.Laws.{stamp_length}
-use Rattle.defmt_encode.specs.Carry.{stamp_args}
+use Rattle.defmt_encode.proofs.Laws.{place_length, stamp_length}
+use Rattle.defmt_encode.specs.Carry.{message_of, stamp_args}
+use Rattle.defmt_encode.specs.Placed.{place_in}
 use Rattle.defmt_intern.specs.Stamp.{stamp_of}
 use Rattle.defmt_script.specs.Lawful.{HasStamp, IsLawful, IsSound, first_message, message_limit, message_with, stamp_in}
-use Rattle.defmt_script.specs.Script.{Script}
+use Rattle.defmt_lines.specs.declared.settings.Settings.{Settings}
+use Rattle.defmt_script.specs.Script.{Script, base_of}
 
--- a message that is short with the first stamp is short with each
-pub short_with : (table : Map) (stamp : Option (ℕ × ℕ)) (stm : Statement) → length (first_message table stamp stm) ≤ message_limit
-    → (n : ℕ) → length (message_with table stamp n stm) ≤ message_limit
-short_with table None stm short n = short
-short_with table (Some p) stm short n = omega (arith, short, stamp_length table n p.0 stm.index stm.args)
+-- with each stamp a message has as many bytes as with the first
+stamped_alike : (table : Map) (place : Option ℕ) (stamp : Option (ℕ × ℕ)) (n : ℕ) (stm : Statement) → length (message_of table place (stamp_args (stamp_in stamp n)) stm.index stm.args) ≡ length (message_of table place (stamp_args (base_of stamp)) stm.index stm.args)
+stamped_alike table place None n stm = refl
+stamped_alike table place (Some p) n stm = stamp_length table place n p.0 stm.index stm.args
+
+-- a message that is short as that of the first mark is short as that of each
+pub short_with : (table : Map) (s : Settings) (stm : Statement) → length (first_message table s stm) ≤ message_limit
+    → (number n : ℕ) → length (message_with table s number n stm) ≤ message_limit
+short_with table s stm short number n =
+    let places = place_length table s.profile number 0 (stamp_args (stamp_in s.stamp n)) stm.index stm.args in
+    omega (arith, short, places, stamped_alike table (place_in s.profile 0) s.stamp n stm)
 
 -- ---- the timestamp's text
 
@@ -177,7 +185,7 @@ pub fits_stamp : (s : Script) (n : ℕ) → IsLawful s → n < 2 ^ 64 → FitsSt
 fits_stamp s n h small =
     subst (λ (o : Option ℕ). FitsStamp s.table o (stamp_args (stamp_in s.settings.stamp n))) (sym (same_index s h)) (at_fits s.settings.stamp s.table n h.stamp h.table small)
 
-pub never_wide : (s : Script) (n : ℕ) (stm : Statement) → IsLawful s → n < 2 ^ 64 → IsSound s.table s.settings.stamp stm
+pub never_wide : (s : Script) (n : ℕ) (stm : Statement) → IsLawful s → n < 2 ^ 64 → IsSound s.table s.settings stm
     → IsWide s.table (stamp_args (stamp_in s.settings.stamp n)) stm.index stm.args → ⊥
 never_wide s n stm h small sound (inl long) =
     let own : text_limit < length (stamp_text s.table (at_in s.settings.stamp s.table h.stamp) (stamp_args (stamp_in s.settings.stamp n))) =

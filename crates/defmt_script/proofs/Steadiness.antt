@@ -25,21 +25,24 @@ use Rattle.defmt_lines.specs.declared.settings.Settings.{Settings}
 use Rattle.defmt_lines.specs.Verdict.{Judges, JudgesBody}
 use Rattle.defmt_script.proofs.Counts.{len-added, no_names, none_named}
 use Rattle.defmt_script.proofs.Stamps.{short_with}
+use Rattle.defmt_script.proofs.TurnLaws.{told_first}
 use Rattle.defmt_script.specs.Lawful.{HasStamp, IsLawful, IsSound, first_message, message_limit}
 use Rattle.defmt_script.specs.Reads.{is_message, is_message_of, string_at, takes_statement, with_statement, with_string}
 use Rattle.defmt_script.specs.Script.{add_statement, count_all, next_index}
 use Rattle.defmt_script.specs.State.{State, closed, entry_at, no_lines, no_statements, stamp_entry, with_stamp_entry}
 use Rattle.defmt_script.specs.Steady.{IsCounted, IsOpen, IsSteady, StaysLawful}
+use Rattle.defmt_script.specs.Turns.{IsTold}
 use Rattle.defmt_spelling.specs.Names.{NameMap}
 use Rattle.defmt_values.specs.Entries.{look}
 use Rattle.defmt_values.specs.Fits.{Fits, IsLogged}
 use Rattle.defmt_values.specs.declared.value.Statement.{Statement}
+use Rattle.rtt_terminal.specs.Speech.{Speech, silence}
 
 -- a state by its parts
-abbrev pub state : Form → Settings → Map → NameMap → List (List Statement) → State
-state first settings table names writers = record {
+abbrev pub state : Form → Settings → Map → NameMap → List (List Statement) → Speech → State
+state first settings table names writers said = record {
   first = first;
-  script = record { settings = settings; table = table; names = names; writers = writers };
+  script = record { settings = settings; table = table; names = names; writers = writers; said = said };
 }
 
 -- strings and statements that may come make a contradiction
@@ -57,6 +60,8 @@ settings_at_first = record {
   most = lit≤ tt;
   not_late = λ _. refl;
   stamp_within = λ p is. absurd (cc is);
+  few_orders = omega arith;
+  orders_within = tt;
 }
 
 open_at_first : IsOpen no_lines
@@ -78,29 +83,30 @@ steady_at_first = record {
   sound = (tt, (tt, (tt, (tt, (tt, (tt, (tt, (tt, tt))))))));
 }
 
-pub begins_steady : (settings : Settings) (table : Map) (names : NameMap) (writers : List (List Statement)) → settings ≡ no_settings → table ≡ map.empty → names ≡ map.empty → writers ≡ no_statements
-    → IsCounted 0 0 (state forms.Ring settings table names writers)
-begins_steady settings table names writers a b c d =
-    let same : state forms.Ring settings table names writers ≡ no_lines = λ i. state forms.Ring (a i) (b i) (c i) (d i) in record {
+pub begins_steady : (settings : Settings) (table : Map) (names : NameMap) (writers : List (List Statement)) (said : Speech) → settings ≡ no_settings → table ≡ map.empty → names ≡ map.empty → writers ≡ no_statements
+    → said ≡ silence 8 → IsCounted 0 0 (state forms.Ring settings table names writers said)
+begins_steady settings table names writers said a b c d e =
+    let same : state forms.Ring settings table names writers said ≡ no_lines = λ i. state forms.Ring (a i) (b i) (c i) (d i) (e i) in record {
       steady = subst IsSteady (sym same) steady_at_first;
       strings_are = sym (none_named names c);
       statements_are = sym (ap count_all d);
+      told = told_first (state forms.Ring settings table names writers said).script e;
     }
 
 -- ---- settings
 
-none_sound : (writers : List (List Statement)) (table : Map) (stamp : Option (ℕ × ℕ)) → writers ≡ no_statements
-    → AllByRecursion (λ list. AllByRecursion (IsSound table stamp) list) writers
-none_sound writers table stamp is =
-    subst (λ (ws : List (List Statement)). AllByRecursion (λ list. AllByRecursion (IsSound table stamp) list) ws) (sym is)
+none_sound : (writers : List (List Statement)) (table : Map) (s : Settings) → writers ≡ no_statements
+    → AllByRecursion (λ list. AllByRecursion (IsSound table s) list) writers
+none_sound writers table s is =
+    subst (λ (ws : List (List Statement)). AllByRecursion (λ list. AllByRecursion (IsSound table s) list) ws) (sym is)
     (tt, (tt, (tt, (tt, (tt, (tt, (tt, (tt, tt))))))))
 
-pub sets_steady : (first after form : Form) (s t : Settings) (table : Map) (names : NameMap) (writers : List (List Statement))
-    → IsSteady (state first s table names writers) → in_order first form ≡ true → StaysLawful form t → after ≡ next form
-    → IsSteady (state after t table names writers)
-sets_steady first after form s t table names writers h order stays is =
-    let o : IsOpen (state first s table names writers) = h.opened (strings_before first form order stays.setting) in
-    subst (λ (f : Form). IsSteady (state f t table names writers)) (sym is) (record {
+pub sets_steady : (first after form : Form) (s t : Settings) (table : Map) (names : NameMap) (writers : List (List Statement)) (said : Speech)
+    → IsSteady (state first s table names writers said) → in_order first form ≡ true → StaysLawful form t → after ≡ next form
+    → IsSteady (state after t table names writers said)
+sets_steady first after form s t table names writers said h order stays is =
+    let o : IsOpen (state first s table names writers said) = h.opened (strings_before first form order stays.setting) in
+    subst (λ (f : Form). IsSteady (state f t table names writers said)) (sym is) (record {
       settings = stays.lawful;
       not_late = stays.not_late;
       strings_fit = h.strings_fit;
@@ -108,15 +114,15 @@ sets_steady first after form s t table names writers h order stays is =
       whole = λ over. absurd (over_or_not (next form) (strings_behind form stays.setting) over);
       eight = h.eight;
       few = h.few;
-      sound = none_sound writers table t.stamp o.no_writers;
+      sound = none_sound writers table t o.no_writers;
     })
 
 -- ---- strings
 
 -- as many names or more, and a table that is the same
-pub kept_steady : (first : Form) (s : Settings) (table same : Map) (names more : NameMap) (writers : List (List Statement))
-    → IsSteady (state first s table names writers) → same ≡ table → map.len names ≤ map.len more → map.len more ≤ 65534 → IsSteady (state first s same more writers)
-kept_steady first s table same names more writers h is most fits = subst (λ (t : Map). IsSteady (state first s t more writers)) (sym is) (record {
+pub kept_steady : (first : Form) (s : Settings) (table same : Map) (names more : NameMap) (writers : List (List Statement)) (said : Speech)
+    → IsSteady (state first s table names writers said) → same ≡ table → map.len names ≤ map.len more → map.len more ≤ 65534 → IsSteady (state first s same more writers said)
+kept_steady first s table same names more writers said h is most fits = subst (λ (t : Map). IsSteady (state first s t more writers said)) (sym is) (record {
   settings = h.settings;
   not_late = h.not_late;
   strings_fit = fits;
@@ -152,14 +158,14 @@ some_or_before table k entry index some = elim (cases_eq index k) [
 pub not_stamp : (tag : Tag) → is_string_tag tag ≡ true → tag ≢ tags.Timestamp
 not_stamp tag is e = let clash : true ≡ false = sym is ∙ ap is_string_tag e in absurd (cc clash)
 
-pub string_steady : (first : Form) (k : ℕ) (s : Settings) (table more : Map) (names : NameMap) (writers : List (List Statement)) (name : List ℕ) (entry : Entry)
-    → IsSteady (state first s table names writers) → StringsMayCome first → map.get names name ≡ None → k ≡ map.len names + 1 → k ≤ 65534 → is_string_tag entry.tag ≡ true
-    → more ≡ map.insert table k entry → IsSteady (state forms.Entry s more (map.insert names name k) writers)
-string_steady first k s table more names writers name entry h may new next_is fits tag more_is =
-    let o : IsOpen (state first s table names writers) = h.opened may in
+pub string_steady : (first : Form) (k : ℕ) (s : Settings) (table more : Map) (names : NameMap) (writers : List (List Statement)) (said : Speech) (name : List ℕ) (entry : Entry)
+    → IsSteady (state first s table names writers said) → StringsMayCome first → map.get names name ≡ None → k ≡ map.len names + 1 → k ≤ 65534 → is_string_tag entry.tag ≡ true
+    → more ≡ map.insert table k entry → IsSteady (state forms.Entry s more (map.insert names name k) writers said)
+string_steady first k s table more names writers said name entry h may new next_is fits tag more_is =
+    let o : IsOpen (state first s table names writers said) = h.opened may in
     let names_more : NameMap = map.insert names name k in
     let len : map.len names_more ≡ k = len-added names name k new ∙ sym next_is in
-    subst (λ (t : Map). IsSteady (state forms.Entry s t names_more writers)) (sym more_is) (record {
+    subst (λ (t : Map). IsSteady (state forms.Entry s t names_more writers said)) (sym more_is) (record {
       settings = h.settings;
       not_late = λ reader. absurd (let clash : false ≡ true = reader in cc clash);
       strings_fit = omega (arith, len, fits);
@@ -177,17 +183,17 @@ string_steady first k s table more names writers name entry h may new next_is fi
       whole = λ over. absurd (over_or_not forms.Entry refl over);
       eight = h.eight;
       few = h.few;
-      sound = none_sound writers (map.insert table k entry) s.stamp o.no_writers;
+      sound = none_sound writers (map.insert table k entry) s o.no_writers;
     })
 
 -- what the reading has behind a string that it puts at the next index
 pub string_added : (old inside : State) (k : ℕ) (name : List ℕ) (tag : Tag) (text : List ℕ) (entry : Entry) (table : Map) (names : NameMap)
     → inside ≡ old → k ≡ next_index inside.script → entry ≡ entry_at k tag text → table ≡ map.insert inside.script.table k entry → names ≡ map.insert inside.script.names name k
-    → state forms.Entry inside.script.settings table names inside.script.writers ≡ with_string old name tag text
+    → state forms.Entry inside.script.settings table names inside.script.writers inside.script.said ≡ with_string old name tag text
 string_added old inside k name tag text entry table names inside_is next_is entry_is table_is names_are =
     let more : table ≡ map.insert inside.script.table k (entry_at k tag text) = table_is ∙ ap (map.insert inside.script.table k) entry_is in
-    ap (λ (t : Map). state forms.Entry inside.script.settings t names inside.script.writers) more
-    ∙ ap (λ (m : NameMap). state forms.Entry inside.script.settings (map.insert inside.script.table k (entry_at k tag text)) m inside.script.writers) names_are
+    ap (λ (t : Map). state forms.Entry inside.script.settings t names inside.script.writers inside.script.said) more
+    ∙ ap (λ (m : NameMap). state forms.Entry inside.script.settings (map.insert inside.script.table k (entry_at k tag text)) m inside.script.writers inside.script.said) names_are
     ∙ ap (λ (n : ℕ). string_at n inside name tag text) next_is
     ∙ ap (λ (s : State). with_string s name tag text) inside_is
 
@@ -208,14 +214,14 @@ stamped_table (Some p) k table some = refl
 -- what the reading has behind the timestamp's entry that it puts at the next index
 pub stamp_added : (old inside : State) (k : ℕ) (entry : Entry) (table : Map) → inside ≡ old → k ≡ next_index inside.script → StringsMayCome inside.first
     → is_some inside.script.settings.stamp ≡ true → entry ≡ stamp_entry k → table ≡ map.insert inside.script.table k entry
-    → state forms.Statement inside.script.settings table inside.script.names inside.script.writers ≡ closed old
+    → state forms.Statement inside.script.settings table inside.script.names inside.script.writers inside.script.said ≡ closed old
 stamp_added old inside k entry table inside_is next_is may some entry_is table_is =
     let put : table ≡ map.insert inside.script.table k (stamp_entry k) = table_is ∙ ap (map.insert inside.script.table k) entry_is in
     let next : map.insert inside.script.table k (stamp_entry k) ≡ map.insert inside.script.table (next_index inside.script) (stamp_entry (next_index inside.script)) =
     ap (λ (n : ℕ). map.insert inside.script.table n (stamp_entry n)) next_is in
     let whole : table ≡ with_stamp_entry inside.script.settings.stamp (next_index inside.script) inside.script.table =
     put ∙ next ∙ stamped_table inside.script.settings.stamp (next_index inside.script) inside.script.table some in
-    ap (λ (t : Map). state forms.Statement inside.script.settings t inside.script.names inside.script.writers) whole
+    ap (λ (t : Map). state forms.Statement inside.script.settings t inside.script.names inside.script.writers inside.script.said) whole
     ∙ sym (cond-true (in_order inside.first forms.Entry) _ inside may) ∙ ap closed inside_is
 
 -- behind the strings no reader may come, and no string
@@ -225,10 +231,10 @@ no_reader may = absurd (let clash : false ≡ true = may in cc clash)
 no_string : {P : Type 0} → StringsMayCome forms.Statement → P
 no_string may = absurd (over_or_not forms.Statement may refl)
 
-pub unstamped_steady : (first : Form) (s : Settings) (table : Map) (names : NameMap) (writers : List (List Statement))
-    → IsSteady (state first s table names writers) → StringsMayCome first → is_some s.stamp ≡ false → IsSteady (state forms.Statement s table names writers)
-unstamped_steady first s table names writers h may none =
-    let o : IsOpen (state first s table names writers) = h.opened may in record {
+pub unstamped_steady : (first : Form) (s : Settings) (table : Map) (names : NameMap) (writers : List (List Statement)) (said : Speech)
+    → IsSteady (state first s table names writers said) → StringsMayCome first → is_some s.stamp ≡ false → IsSteady (state forms.Statement s table names writers said)
+unstamped_steady first s table names writers said h may none =
+    let o : IsOpen (state first s table names writers said) = h.opened may in record {
       settings = h.settings;
       not_late = λ reader. no_reader reader;
       strings_fit = h.strings_fit;
@@ -239,12 +245,12 @@ unstamped_steady first s table names writers h may none =
       sound = h.sound;
     }
 
-pub stamped_steady : (first : Form) (k : ℕ) (s : Settings) (table more : Map) (names : NameMap) (writers : List (List Statement))
-    → IsSteady (state first s table names writers) → StringsMayCome first → is_some s.stamp ≡ true → more ≡ map.insert table k (stamp_entry k)
-    → IsSteady (state forms.Statement s more names writers)
-stamped_steady first k s table more names writers h may some more_is =
-    let o : IsOpen (state first s table names writers) = h.opened may in
-    subst (λ (t : Map). IsSteady (state forms.Statement s t names writers)) (sym more_is) (record {
+pub stamped_steady : (first : Form) (k : ℕ) (s : Settings) (table more : Map) (names : NameMap) (writers : List (List Statement)) (said : Speech)
+    → IsSteady (state first s table names writers said) → StringsMayCome first → is_some s.stamp ≡ true → more ≡ map.insert table k (stamp_entry k)
+    → IsSteady (state forms.Statement s more names writers said)
+stamped_steady first k s table more names writers said h may some more_is =
+    let o : IsOpen (state first s table names writers said) = h.opened may in
+    subst (λ (t : Map). IsSteady (state forms.Statement s t names writers said)) (sym more_is) (record {
       settings = h.settings;
       not_late = λ reader. no_reader reader;
       strings_fit = h.strings_fit;
@@ -252,7 +258,7 @@ stamped_steady first k s table more names writers h may some more_is =
       whole = λ _. has_its_stamp s.stamp table k some;
       eight = h.eight;
       few = h.few;
-      sound = none_sound writers (map.insert table k (stamp_entry k)) s.stamp o.no_writers;
+      sound = none_sound writers (map.insert table k (stamp_entry k)) s o.no_writers;
     })
 
 over_if : (b : Bool) (s t : State) → StringsAreOver t.first → (b ≡ false → StringsAreOver s.first) → StringsAreOver (cond b t s).first
@@ -263,14 +269,16 @@ over_if false s t new old = old refl
 pub over_closed : (s : State) → StringsAreOver (closed s).first
 over_closed s = over_if (in_order s.first forms.Entry) s _ refl (λ is. is)
 
-pub lawful_closed : (s : State) → IsSteady s → StringsAreOver s.first → IsLawfulTable s.script.table → IsLawful s.script
-lawful_closed s h over table = record {
+pub lawful_closed : (s : State) → IsSteady s → StringsAreOver s.first → IsLawfulTable s.script.table → IsTold s.script → IsLawful s.script
+lawful_closed s h over table told = record {
   settings = h.settings;
   table = table;
   stamp = h.whole over;
   eight = h.eight;
   few = h.few;
   sound = h.sound;
+  said = told.0;
+  turns = told.1;
 }
 
 -- ---- statements
@@ -298,24 +306,24 @@ count-added writer stm [] lt = absurd (omega (arith, lt))
 count-added zero stm (list ∷ more) lt = omega (arith, length-append list (stm ∷ []))
 count-added (suc writer) stm (list ∷ more) lt = omega (arith, count-added writer stm more (omega (arith, lt)))
 
-sound_behind : (table : Map) (stamp : Option (ℕ × ℕ)) (list : List Statement) (stm : Statement) → AllByRecursion (IsSound table stamp) list → IsSound table stamp stm
-    → AllByRecursion (IsSound table stamp) (list ++ stm ∷ [])
-sound_behind table stamp [] stm h new = (new, tt)
-sound_behind table stamp (first ∷ list) stm h new = (h.0, sound_behind table stamp list stm h.1 new)
+sound_behind : (table : Map) (s : Settings) (list : List Statement) (stm : Statement) → AllByRecursion (IsSound table s) list → IsSound table s stm
+    → AllByRecursion (IsSound table s) (list ++ stm ∷ [])
+sound_behind table s [] stm h new = (new, tt)
+sound_behind table s (first ∷ list) stm h new = (h.0, sound_behind table s list stm h.1 new)
 
-sound_added : (table : Map) (stamp : Option (ℕ × ℕ)) (writer : ℕ) (stm : Statement) (writers : List (List Statement))
-    → AllByRecursion (λ list. AllByRecursion (IsSound table stamp) list) writers → IsSound table stamp stm
-    → AllByRecursion (λ list. AllByRecursion (IsSound table stamp) list) (add_statement writer stm writers)
-sound_added table stamp writer stm [] h new = tt
-sound_added table stamp zero stm (list ∷ more) h new = (sound_behind table stamp list stm h.0 new, h.1)
-sound_added table stamp (suc writer) stm (list ∷ more) h new = (h.0, sound_added table stamp writer stm more h.1 new)
+sound_added : (table : Map) (s : Settings) (writer : ℕ) (stm : Statement) (writers : List (List Statement))
+    → AllByRecursion (λ list. AllByRecursion (IsSound table s) list) writers → IsSound table s stm
+    → AllByRecursion (λ list. AllByRecursion (IsSound table s) list) (add_statement writer stm writers)
+sound_added table s writer stm [] h new = tt
+sound_added table s zero stm (list ∷ more) h new = (sound_behind table s list stm h.0 new, h.1)
+sound_added table s (suc writer) stm (list ∷ more) h new = (h.0, sound_added table s writer stm more h.1 new)
 
-pub statement_steady : (first : Form) (s : Settings) (table : Map) (names : NameMap) (writers more : List (List Statement)) (writer : ℕ) (stm : Statement)
-    → IsSteady (state first s table names writers) → StringsAreOver first → writer < 8 → count_all writers < 4096 → IsSound table s.stamp stm → more ≡ add_statement writer stm writers
-    → IsSteady (state first s table names more)
-statement_steady first s table names writers more writer stm h over lt room new more_is =
+pub statement_steady : (first : Form) (s : Settings) (table : Map) (names : NameMap) (writers more : List (List Statement)) (said : Speech) (writer : ℕ) (stm : Statement)
+    → IsSteady (state first s table names writers said) → StringsAreOver first → writer < 8 → count_all writers < 4096 → IsSound table s stm → more ≡ add_statement writer stm writers
+    → IsSteady (state first s table names more said)
+statement_steady first s table names writers more said writer stm h over lt room new more_is =
     let added : count_all (add_statement writer stm writers) ≡ count_all writers + 1 = count-added writer stm writers (omega (arith, lt, h.eight)) in
-    subst (λ (ws : List (List Statement)). IsSteady (state first s table names ws)) (sym more_is) (record {
+    subst (λ (ws : List (List Statement)). IsSteady (state first s table names ws said)) (sym more_is) (record {
       settings = h.settings;
       not_late = h.not_late;
       strings_fit = h.strings_fit;
@@ -323,7 +331,7 @@ statement_steady first s table names writers more writer stm h over lt room new 
       whole = h.whole;
       eight = length-added writer stm writers ∙ h.eight;
       few = omega (arith, added, room);
-      sound = sound_added table s.stamp writer stm writers h.sound new;
+      sound = sound_added table s writer stm writers h.sound new;
     })
 
 -- one statement more, as it is counted
@@ -331,6 +339,21 @@ pub statement_counted : (writers more : List (List Statement)) (writer m : ℕ) 
     → m + 1 ≡ count_all more
 statement_counted writers more writer m stm is eight lt more_is =
     ap (λ (n : ℕ). n + 1) is ∙ sym (count-added writer stm writers (omega (arith, lt, eight))) ∙ sym (ap count_all more_is)
+
+-- ---- texts for terminals
+
+-- texts change nothing of the rest
+pub said_steady : (s : State) (said : Speech) → IsSteady s → IsSteady (record s { script = record s.script { said = said } })
+said_steady s said h = record {
+  settings = h.settings;
+  not_late = h.not_late;
+  strings_fit = h.strings_fit;
+  opened = λ may. let o = h.opened may in record { within = o.within; no_stamp = o.no_stamp; no_writers = o.no_writers };
+  whole = h.whole;
+  eight = h.eight;
+  few = h.few;
+  sound = h.sound;
+}
 
 -- ---- counts
 
@@ -348,16 +371,16 @@ logged_by : (table : Map) (index : ℕ) (o : Option Entry) → look table index 
 logged_by table index None is logged = absurd (cc logged)
 logged_by table index (Some entry) is logged = record { entry = entry; there = is; tag = logged }
 
-pub sound_of : (table : Map) (stamp : Option (ℕ × ℕ)) (stm : Statement) → Fits table stm.index stm.args → is_message table stm.index ≡ true
-    → nat_lt message_limit (length (first_message table stamp stm)) ≡ false → nat_lt text_limit (length (eager_text table stm.index stm.args)) ≡ false → IsSound table stamp stm
-sound_of table stamp stm fits logged short narrow = record {
+pub sound_of : (table : Map) (s : Settings) (stm : Statement) → Fits table stm.index stm.args → is_message table stm.index ≡ true
+    → nat_lt message_limit (length (first_message table s stm)) ≡ false → nat_lt text_limit (length (eager_text table stm.index stm.args)) ≡ false → IsSound table s stm
+sound_of table s stm fits logged short narrow = record {
   fits = fits;
   logged = logged_by table stm.index (look table stm.index) refl logged;
-  short = short_with table stamp stm (below message_limit (length (first_message table stamp stm)) short);
+  short = short_with table s stm (below message_limit (length (first_message table s stm)) short);
   narrow = below text_limit (length (eager_text table stm.index stm.args)) narrow;
 }
 
-pub taken : (before : State) (writer : ℕ) (stm : Statement) → nat_lt message_limit (length (first_message before.script.table before.script.settings.stamp stm)) ≡ false
+pub taken : (before : State) (writer : ℕ) (stm : Statement) → nat_lt message_limit (length (first_message before.script.table before.script.settings stm)) ≡ false
     → nat_lt text_limit (length (eager_text before.script.table stm.index stm.args)) ≡ false → takes_statement before writer stm ≡ Ok (with_statement before writer stm)
 taken before writer stm short narrow = rw (short, narrow) refl
 

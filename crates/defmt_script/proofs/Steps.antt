@@ -3,7 +3,7 @@ use Rattle.std.proofs.Common.{◌≡◌, ◌≤◌, ◌<◌, ◌+◌, inl, inr, 
 use Rattle.std.specs.Prelude.{codes, is_some, nat_lt, unwrap_or}
 use Rattle.std.specs.FinMap as map
 use Rattle.std.specs.List.{AllByRecursion}
-use Rattle.std.specs.Str.{bytes_eq}
+use Rattle.std.specs.Str.{IsUtf8, bytes_eq}
 use Rattle.std.specs.Str.Lines.{lines}
 use Rattle.std.proofs.lemmas.Bool.Decides.{nat_tests}
 use Rattle.std.proofs.lemmas.Option.{same_Some}
@@ -24,22 +24,28 @@ use Rattle.defmt_lines.specs.declared.cause.Cause.TheVariants as causes
 use Rattle.defmt_lines.specs.declared.form.Form.{Form}
 use Rattle.defmt_lines.specs.declared.form.Form.TheVariants as forms
 use Rattle.defmt_lines.specs.declared.settings.Settings.{Settings}
+use Rattle.defmt_script.proofs.Behind.{action_text}
 use Rattle.defmt_script.proofs.Steadiness.{judged_short, over_closed}
 use Rattle.defmt_script.specs.Lawful.{first_message, message_limit, statements_limit}
-use Rattle.defmt_script.specs.Reads.{Reads, ReadsLines, Takes, TakesAction, TakesString, TakesStatement, admits_index, admits_statement, admits_string, is_message, sets, takes_arguments, takes_string, with_settings, with_statement, with_string}
-use Rattle.defmt_script.specs.Script.{Script, count_statements, count_strings}
+use Rattle.defmt_script.specs.Reads.{Reads, ReadsLines, Takes, TakesAction, TakesString, TakesStatement, admits_index, admits_statement, admits_string, admits_terminal, admits_text, is_message, sets, takes_arguments, takes_string, takes_text, with_settings, with_statement, with_string, with_text}
+use Rattle.defmt_script.specs.Script.{Script, count_statements, count_strings, statements_by}
 use Rattle.defmt_script.specs.State.{State, closed, no_lines, strings_limit}
 use Rattle.defmt_spelling.specs.Spelling.{ReadsArguments}
 use Rattle.defmt_values.specs.Fits.{Fits}
 use Rattle.defmt_values.specs.Plain.{Vals}
 use Rattle.defmt_values.specs.declared.value.Statement.{Statement}
+use Rattle.rtt_terminal.proofs.SayableLaws.{sayable_found}
+use Rattle.rtt_terminal.proofs.Taken.{named_small}
+use Rattle.rtt_terminal.specs.Reading.{terminal_named}
+use Rattle.rtt_terminal.specs.Sayable.{is_sayable}
+use Rattle.rtt_terminal.specs.Speech.{CanBeSaid, count_texts, saying, texts_limit}
 
 -- ---- what a line says
 
--- A string's text has at most so many bytes, and its tag is a string's; a writer's number is below 8.
+-- A string's text has at most so many bytes, and its tag is a string's; a writer's number is below 8, and what stands behind its field is a text.
 abbrev Bounds : ℕ → Line → Type 0
 Bounds n (entry name tag text) = (length text ≤ n) × (is_string_tag tag ≡ true)
-Bounds n (act form writer field more) = unwrap_or writer 0 < 8
+Bounds n (act form writer field more) = (unwrap_or writer 0 < 8) × IsUtf8 more
 Bounds n line = Unit {0}
 
 begins_len : (text field rest : List ℕ) → Begins text field rest → length rest ≤ length text
@@ -78,7 +84,10 @@ line_bounds : (bytes : List ℕ) (line : Line) → Says bytes line → Bounds (l
 line_bounds bytes blank says = tt
 line_bounds bytes (head form words) says = tt
 line_bounds bytes (entry name tag text) says = string_bounds bytes says.1.0 name tag text says.1.1 says.1.2
-line_bounds bytes (act form writer field more) says = writer_small says.1.3.digits writer says.1.3.writer_is
+line_bounds bytes (act form writer field more) says = (
+  writer_small says.1.3.digits writer says.1.3.writer_is,
+  action_text bytes says.1.0 says.1.1.word says.1.3.digits says.1.3.behind field more says.1.1.begins says.1.3.first says.1.3.follows says.0,
+)
 line_bounds bytes other says = tt
 
 -- ---- what is taken of a line
@@ -145,8 +154,14 @@ pub record IsTaken (s : State) (writer : ℕ) (stm : Statement) : Type 0 where
   pub room : count_statements s.script < statements_limit
   pub message : is_message s.script.table stm.index ≡ true
   pub fits : Fits s.script.table stm.index stm.args
-  pub short : nat_lt message_limit (length (first_message s.script.table s.script.settings.stamp stm)) ≡ false
+  pub short : nat_lt message_limit (length (first_message s.script.table s.script.settings stm)) ≡ false
   pub narrow : nat_lt text_limit (length (eager_text s.script.table stm.index stm.args)) ≡ false
+
+-- a text that is taken
+pub record IsSaid (s : State) (writer terminal : ℕ) (text : List ℕ) : Type 0 where
+  pub eight : writer < 8
+  pub can : CanBeSaid (saying (length (statements_by s.script writer)) terminal text)
+  pub room : count_texts s.script.said < texts_limit
 
 -- It is kept by what lines change. Beside the state stands a number of bytes that were read.
 pub record Keeps (P : State → ℕ → Type 0) : Type 0 where
@@ -155,6 +170,7 @@ pub record Keeps (P : State → ℕ → Type 0) : Type 0 where
   pub string : (s : State) (name : List ℕ) (tag : Tag) (text : List ℕ) (b n : ℕ) → IsAdded s name tag text n → P s b → P (with_string s name tag text) (b + n)
   pub closes : (s : State) (b : ℕ) → P s b → P (closed s) b
   pub statement : (s : State) (writer : ℕ) (stm : Statement) (b : ℕ) → IsTaken s writer stm → P s b → P (with_statement s writer stm) b
+  pub text : (s : State) (writer terminal : ℕ) (text : List ℕ) (b : ℕ) → IsSaid s writer terminal text → P s b → P (with_text s writer terminal text) b
 
 -- the writer and the index of a statement
 record IsAdmitted (s : State) (p : ℕ × ℕ) : Type 0 where
@@ -180,6 +196,28 @@ admitted_index s writer (Some index) p is small = admitted_by s writer index (is
 admitted : (s : State) (writer : Option ℕ) (name : List ℕ) (p : ℕ × ℕ) → admits_statement s writer name ≡ Ok p → unwrap_or writer 0 < 8 → IsAdmitted s p
 admitted s None name p is small = absurd (cc is)
 admitted s (Some writer) name p is small = admitted_index s writer (map.get s.script.names name) p is small
+
+-- the writer and the terminal of a text
+said_by_tests : (s : State) (writer terminal : ℕ) (text : List ℕ) (b r : Bool) (p : ℕ × ℕ) → is_sayable text ≡ b → nat_lt (count_texts s.script.said) texts_limit ≡ r
+    → cond (not b) (Err causes.Words) (cond r (Ok (writer, terminal)) (Err causes.Many)) ≡ Ok p → writer < 8 → terminal < 16 → IsUtf8 text → IsSaid s p.0 p.1 text
+said_by_tests s writer terminal text true true p sayable room is small one utf8 =
+    let same : (writer, terminal) ≡ p = cc is in
+    subst (λ (q : ℕ × ℕ). IsSaid s q.0 q.1 text) same (record {
+      eight = small;
+      can = record { one = one; utf8 = utf8; sayable = sayable_found text sayable };
+      room = below (count_texts s.script.said) texts_limit room;
+    })
+said_by_tests s writer terminal text true false p sayable room is small one utf8 = absurd (cc is)
+said_by_tests s writer terminal text false r p sayable room is small one utf8 = absurd (cc is)
+
+said_on : (s : State) (writer : ℕ) (term text : List ℕ) (o : Option ℕ) (p : ℕ × ℕ) → o ≡ terminal_named term → admits_terminal s writer text o ≡ Ok p → writer < 8 → IsUtf8 text → IsSaid s p.0 p.1 text
+said_on s writer term text None p named is small utf8 = absurd (cc is)
+said_on s writer term text (Some terminal) p named is small utf8 =
+    said_by_tests s writer terminal text (is_sayable text) (nat_lt (count_texts s.script.said) texts_limit) p refl refl is small (named_small term (Some terminal) named) utf8
+
+said : (s : State) (writer : Option ℕ) (term text : List ℕ) (p : ℕ × ℕ) → admits_text s writer term text ≡ Ok p → unwrap_or writer 0 < 8 → IsUtf8 text → IsSaid s p.0 p.1 text
+said s None term text p is small utf8 = absurd (cc is)
+said s (Some writer) term text p is small utf8 = said_on s writer term text (terminal_named term) p refl is small utf8
 
 -- the bytes of all lines
 abbrev pub total : List (List ℕ) → ℕ
@@ -234,7 +272,7 @@ module _ (P : State → ℕ → Type 0) (keeps : Keeps P) where
   arguments_kept before after text p (Err inner) b a over reads is h = absurd (cc is)
   arguments_kept before after text p (Ok args) b a over reads is h =
       let stm : Statement = record { index = p.1; args = args } in
-      let long : Bool = nat_lt message_limit (length (first_message before.script.table before.script.settings.stamp stm)) in
+      let long : Bool = nat_lt message_limit (length (first_message before.script.table before.script.settings stm)) in
       let wide : Bool = nat_lt text_limit (length (eager_text before.script.table stm.index stm.args)) in
       let taken : Answer = Ok (with_statement before p.0 stm) in
       let short = if_not long causes.Long (cond wide (Err causes.Wide) taken) after is in
@@ -257,11 +295,20 @@ module _ (P : State → ℕ → Type 0) (keeps : Keeps P) where
   statement_kept before after writer name text (Ok p) b is small over taken h =
       arguments_kept before after text p taken.0 b (admitted before writer name p is small) over taken.1 taken.2 h
 
-  action_kept : (before after : State) (form : Form) (writer : Option ℕ) (field more : List ℕ) (b n : ℕ) → unwrap_or writer 0 < 8
+  text_kept : (before after : State) (writer : Option ℕ) (term text : List ℕ) (admits : Result (ℕ × ℕ) Cause) (b : ℕ) → admits_text before writer term text ≡ admits
+      → unwrap_or writer 0 < 8 → IsUtf8 text → Ok after ≡ takes_text before text admits → P before b → P after b
+  text_kept before after writer term text (Err cause) b is small utf8 taken h = absurd (cc taken)
+  text_kept before after writer term text (Ok p) b is small utf8 taken h =
+      let same : after ≡ with_text before p.0 p.1 text = cc taken in
+      subst (λ (s : State). P s b) (sym same) (keeps.text before p.0 p.1 text b (said before writer term text p is small utf8) h)
+
+  action_kept : (before after : State) (form : Form) (writer : Option ℕ) (field more : List ℕ) (b n : ℕ) → unwrap_or writer 0 < 8 → IsUtf8 more
       → TakesAction before form writer field more (Ok after) → P before b → P after (b + n)
-  action_kept before after forms.Statement writer name args b n small taken h =
+  action_kept before after forms.Say writer term text b n small utf8 taken h =
+      keeps.more after b n (text_kept (closed before) after writer term text (admits_text (closed before) writer term text) b refl small utf8 taken (keeps.closes before b h))
+  action_kept before after forms.Statement writer name args b n small utf8 taken h =
       keeps.more after b n (statement_kept (closed before) after writer name args (admits_statement (closed before) writer name) b refl small (over_closed before) taken (keeps.closes before b h))
-  action_kept before after form writer field more b n small taken h = absurd (cc taken)
+  action_kept before after form writer field more b n small utf8 taken h = absurd (cc taken)
 
   line_kept : (before after : State) (line : Line) (b n : ℕ) → Bounds n line → Takes before line (Ok after) → P before b → P after (b + n)
   line_kept before after blank b n bounds taken h =
@@ -269,7 +316,7 @@ module _ (P : State → ℕ → Type 0) (keeps : Keeps P) where
       subst (λ (a : State). P a (b + n)) (sym same) (keeps.more before b n h)
   line_kept before after (head form words) b n bounds taken h = sets_kept before after form words taken.0 b n taken.1 taken.2 h
   line_kept before after (entry name tag text) b n bounds taken h = entry_kept before after name tag text (admits_string before name) b n refl bounds.0 bounds.1 taken h
-  line_kept before after (act form writer field more) b n bounds taken h = action_kept before after form writer field more b n bounds taken h
+  line_kept before after (act form writer field more) b n bounds taken h = action_kept before after form writer field more b n bounds.0 bounds.1 taken h
   line_kept before after other b n bounds taken h = absurd (cc taken)
 
   lines_kept : (ls : List (List ℕ)) (before : State) (number : ℕ) (script : Script) (b : ℕ) → ReadsLines before number ls (Ok script) → P before b → Ends P script (b + total ls)

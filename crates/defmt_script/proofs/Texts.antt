@@ -136,6 +136,7 @@ module _ (count : Map → ℕ) (counts : CountsTexts count) where
     string = string_within;
     closes = closed_within;
     statement = λ s writer stm b taken h. record { few = h.few; free = h.free; opened = h.opened; whole = h.whole };
+    text = λ s writer terminal text b said h. record { few = h.few; free = h.free; opened = h.opened; whole = h.whole };
   }
 
   begins_within : IsWithin count no_lines 0

@@ -13,6 +13,8 @@ use Rattle.defmt_script.specs.State.{State}
 use Rattle.defmt_spelling.specs.Names.{NameMap}
 use Rattle.defmt_values.specs.contracts.value.Statement.{the_row as statement_row}
 use Rattle.defmt_values.specs.declared.value.Statement.{Statement}
+use Rattle.rtt_terminal.specs.Codes.{coded_speech}
+use Rattle.rtt_terminal.specs.Speech.{Speech}
 
 abbrev coded_table : Coded Map
 coded_table = map.code coded_ℕ entry_row.coded
@@ -24,10 +26,10 @@ abbrev pub coded_statements : Coded (List Statement)
 coded_statements = coded_list statement_row.coded
 
 abbrev pub coded_script : Coded Script
-coded_script = code_by (Settings × (Map × (NameMap × List (List Statement))))
-    (coded× settings_row.coded (coded× coded_table (coded× coded_names (coded_list coded_statements))))
-    (λ s. (s.settings, (s.table, (s.names, s.writers))))
-    (λ p. record { settings = p.0; table = p.1.0; names = p.1.1.0; writers = p.1.1.1 })
+coded_script = code_by (Settings × (Map × (NameMap × (List (List Statement) × Speech))))
+    (coded× settings_row.coded (coded× coded_table (coded× coded_names (coded× (coded_list coded_statements) coded_speech))))
+    (λ s. (s.settings, (s.table, (s.names, (s.writers, s.said)))))
+    (λ p. record { settings = p.0; table = p.1.0; names = p.1.1.0; writers = p.1.1.1.0; said = p.1.1.1.1 })
     (λ _. refl)
 
 abbrev pub coded_state : Coded State

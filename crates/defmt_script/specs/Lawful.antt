@@ -5,13 +5,17 @@ use Rattle.std.specs.List.{AllByRecursion}
 use Rattle.defmt_eager.specs.Line.{text_limit}
 use Rattle.defmt_eager.specs.Show.{eager_text}
 use Rattle.defmt_encode.specs.Carry.{message_of, stamp_args}
+use Rattle.defmt_encode.specs.Placed.{place_in}
 use Rattle.defmt_intern.specs.Table.{Map, IsStamp, IsLawful as IsLawfulTable}
 use Rattle.defmt_intern.specs.declared.entry.Entry.{Entry}
 use Rattle.defmt_intern.specs.declared.entry.Tag.TheVariants.{Timestamp}
 use Rattle.defmt_lines.specs.Settings.{AreLawful}
+use Rattle.defmt_lines.specs.declared.settings.Settings.{Settings}
 use Rattle.defmt_script.specs.Script.{Script, base_of, count_all}
+use Rattle.defmt_script.specs.Turns.{HasTurns}
 use Rattle.defmt_values.specs.Fits.{Fits, IsLogged}
 use Rattle.defmt_values.specs.declared.value.Statement.{Statement}
+use Rattle.rtt_terminal.specs.Speech.{IsSpeech}
 
 -- the most statements, and the most bytes of a message
 abbrev pub statements_limit : ℕ
@@ -24,19 +28,19 @@ message_limit = 2000
 abbrev pub stamp_in : Option (ℕ × ℕ) → ℕ → Option ℕ
 stamp_in stamp n = option_map (λ p. n) stamp
 
--- the message of a statement with this stamp, where there are stamps
-abbrev pub message_with : Map → Option (ℕ × ℕ) → ℕ → Statement → List ℕ
-message_with table stamp n stm = message_of table (stamp_args (stamp_in stamp n)) stm.index stm.args
+-- the message of a statement as the mark with this number, with this stamp where there are stamps
+abbrev pub message_with : Map → Settings → ℕ → ℕ → Statement → List ℕ
+message_with table s number n stm = message_of table (place_in s.profile number) (stamp_args (stamp_in s.stamp n)) stm.index stm.args
 
--- the message of a statement with the first stamp, where there are stamps
-abbrev pub first_message : Map → Option (ℕ × ℕ) → Statement → List ℕ
-first_message table stamp stm = message_of table (stamp_args (base_of stamp)) stm.index stm.args
+-- the message of a statement as the first mark, with the first stamp where there are stamps
+abbrev pub first_message : Map → Settings → Statement → List ℕ
+first_message table s stm = message_of table (place_in s.profile 0) (stamp_args (base_of s.stamp)) stm.index stm.args
 
--- The statement fits the table, is a message's, and neither its message, whatever the stamp, nor its text is too long.
-pub record IsSound (table : Map) (stamp : Option (ℕ × ℕ)) (stm : Statement) : Type 0 where
+-- The statement fits the table, is a message's, and neither its message, whatever its mark and its stamp, nor its text is too long.
+pub record IsSound (table : Map) (s : Settings) (stm : Statement) : Type 0 where
   pub fits : Fits table stm.index stm.args
   pub logged : IsLogged table stm.index
-  pub short : (n : ℕ) → length (message_with table stamp n stm) ≤ message_limit
+  pub short : (number n : ℕ) → length (message_with table s number n stm) ≤ message_limit
   pub narrow : length (eager_text table stm.index stm.args) ≤ text_limit
 
 -- The table has a timestamp's entry exactly where there are stamps, and its text is `{=u64:us}`.
@@ -50,4 +54,6 @@ pub record IsLawful (s : Script) : Type 0 where
   pub stamp : HasStamp s.settings.stamp s.table
   pub eight : length s.writers ≡ 8
   pub few : count_all s.writers ≤ statements_limit
-  pub sound : AllByRecursion (λ list. AllByRecursion (IsSound s.table s.settings.stamp) list) s.writers
+  pub sound : AllByRecursion (λ list. AllByRecursion (IsSound s.table s.settings) list) s.writers
+  pub said : IsSpeech s.said
+  pub turns : HasTurns s

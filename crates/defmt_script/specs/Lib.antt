@@ -6,3 +6,4 @@ pub mod Script
 pub mod State
 pub mod Steady
 pub mod Texts
+pub mod Turns

@@ -18,13 +18,16 @@ use Rattle.defmt_lines.specs.declared.form.Form.{Form}
 use Rattle.defmt_lines.specs.declared.form.Form.TheVariants as forms
 use Rattle.defmt_lines.specs.declared.settings.Settings.{Settings}
 use Rattle.defmt_script.specs.Lawful.{first_message, message_limit, statements_limit}
-use Rattle.defmt_script.specs.Script.{Script, Refusal, add_statement, count_statements, count_strings, next_index}
+use Rattle.defmt_script.specs.Script.{Script, Refusal, add_statement, count_statements, count_strings, next_index, statements_by}
 use Rattle.defmt_script.specs.State.{State, closed, entry_at, no_lines, strings_limit}
 use Rattle.defmt_shapes.specs.Shape.{is_name}
 use Rattle.defmt_spelling.specs.Spelling.{ReadsArguments}
 use Rattle.defmt_values.specs.Entries.{look, is_logged}
 use Rattle.defmt_values.specs.Plain.{Vals}
 use Rattle.defmt_values.specs.declared.value.Statement.{Statement}
+use Rattle.rtt_terminal.specs.Reading.{terminal_named}
+use Rattle.rtt_terminal.specs.Sayable.{is_sayable}
+use Rattle.rtt_terminal.specs.Speech.{count_texts, saying, texts_limit, with_saying}
 
 -- Each line gives the script with that line, or the first cause why it is refused.
 
@@ -100,7 +103,7 @@ with_statement before writer stm = record before { script = record before.script
 -- the message, and then the text, may be too long
 abbrev pub takes_statement : State → ℕ → Statement → Result State Cause
 takes_statement before writer stm =
-    if nat_lt message_limit (length (first_message before.script.table before.script.settings.stamp stm)) then Err causes.Long
+    if nat_lt message_limit (length (first_message before.script.table before.script.settings stm)) then Err causes.Long
     else if nat_lt text_limit (length (eager_text before.script.table stm.index stm.args)) then Err causes.Wide
     else Ok (with_statement before writer stm)
 
@@ -114,11 +117,37 @@ TakesStatement before text (Err cause) taken = taken ≡ Err cause
 TakesStatement before text (Ok p) taken =
     (args : Result Vals ℕ) × ReadsArguments before.script.names before.script.table p.1 text args × (taken ≡ takes_arguments before p args)
 
+-- ---- texts for terminals: `t WRITER TERM TEXT`
+
+-- the terminal, and then the text, may be none
+abbrev pub admits_terminal : State → ℕ → List ℕ → Option ℕ → Result (ℕ × ℕ) Cause
+admits_terminal before writer text None = Err causes.Terminal
+admits_terminal before writer text (Some terminal) =
+    if not (is_sayable text) then Err causes.Words
+    else if nat_lt (count_texts before.script.said) texts_limit then Ok (writer, terminal)
+    else Err causes.Many
+
+-- the writer and the terminal
+abbrev pub admits_text : State → Option ℕ → List ℕ → List ℕ → Result (ℕ × ℕ) Cause
+admits_text before None term text = Err causes.Writer
+admits_text before (Some writer) term text = admits_terminal before writer text (terminal_named term)
+
+-- behind the statements and the texts that the writer has by now
+abbrev pub with_text : State → ℕ → ℕ → List ℕ → State
+with_text before writer terminal text = record before {
+  script = record before.script { said = with_saying before.script.said writer (saying (length (statements_by before.script writer)) terminal text) };
+}
+
+abbrev pub takes_text : State → List ℕ → Result (ℕ × ℕ) Cause → Result State Cause
+takes_text before text (Err cause) = Err cause
+takes_text before text (Ok p) = Ok (with_text before p.0 p.1 text)
+
 -- ---- lines
 
 -- what a writer does, by the form of its line
 abbrev pub TakesAction : State → Form → Option ℕ → List ℕ → List ℕ → Result State Cause → Type 0
 TakesAction before forms.Statement writer name args taken = TakesStatement (closed before) args (admits_statement (closed before) writer name) taken
+TakesAction before forms.Say writer term text taken = taken ≡ takes_text (closed before) text (admits_text (closed before) writer term text)
 TakesAction before form writer field more taken = taken ≡ Err causes.Line
 
 abbrev pub Takes : State → Line → Result State Cause → Type 0

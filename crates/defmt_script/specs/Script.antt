@@ -1,18 +1,20 @@
 -- A script as plain data.
-use Rattle.std.specs.Prelude.{◌+◌, ℕ, zero, suc, List, [], ◌∷◌, ◌++◌, length, Option, option_map}
+use Rattle.std.specs.Prelude.{◌+◌, ℕ, zero, suc, List, [], ◌∷◌, ◌++◌, length, Option, option_map, slice_index_or}
 use Rattle.std.specs.FinMap as map
 use Rattle.defmt_intern.specs.Table.{Map}
 use Rattle.defmt_lines.specs.declared.settings.Settings.{Settings}
 use Rattle.defmt_spelling.specs.Names.{NameMap}
 use Rattle.defmt_values.specs.declared.value.Statement.{Statement}
+use Rattle.rtt_terminal.specs.Speech.{Speech}
 
 -- What the first lines set, the table with the strings from index 1 on, the names of these, and for each of the writers 0 to 7
--- its statements in their order.
+-- its statements in their order, and the texts that it has to say on terminals.
 pub record Script : Type 0 where
   pub settings : Settings
   pub table : Map
   pub names : NameMap
   pub writers : List (List Statement)
+  pub said : Speech
 
 -- how many strings it has: each has a name of its own
 abbrev pub count_strings : Script → ℕ
@@ -21,6 +23,10 @@ count_strings s = map.len s.names
 -- the index of the next string
 abbrev pub next_index : Script → ℕ
 next_index s = count_strings s + 1
+
+-- the statements of a writer, none where there is no such writer
+abbrev pub statements_by : Script → ℕ → List Statement
+statements_by s writer = slice_index_or s.writers writer []
 
 -- one statement more of a writer
 abbrev pub add_statement : ℕ → Statement → List (List Statement) → List (List Statement)

@@ -12,6 +12,7 @@ use Rattle.defmt_lines.specs.declared.form.Form.{Form}
 use Rattle.defmt_lines.specs.declared.form.Form.TheVariants as forms
 use Rattle.defmt_script.specs.Script.{Script, next_index}
 use Rattle.defmt_values.specs.declared.value.Statement.{Statement}
+use Rattle.rtt_terminal.specs.Speech.{silence}
 
 -- The first form of line that may come, and the script so far.
 pub record State : Type 0 where
@@ -26,7 +27,7 @@ abbrev pub no_statements : List (List Statement)
 no_statements = [] ∷ [] ∷ [] ∷ [] ∷ [] ∷ [] ∷ [] ∷ [] ∷ []
 
 abbrev pub empty_script : Script
-empty_script = record { settings = no_settings; table = map.empty; names = map.empty; writers = no_statements }
+empty_script = record { settings = no_settings; table = map.empty; names = map.empty; writers = no_statements; said = silence 8 }
 
 abbrev pub no_lines : State
 no_lines = record { first = forms.Ring; script = empty_script }
@@ -43,7 +44,7 @@ abbrev pub with_stamp_entry : Option (ℕ × ℕ) → ℕ → Map → Map
 with_stamp_entry None index table = table
 with_stamp_entry (Some p) index table = map.insert table index (stamp_entry index)
 
--- No string comes any more: the table is whole. A first statement or the end of the text makes it so.
+-- No string comes any more: the table is whole. A first statement, a first text for a terminal or the end of the text makes it so.
 abbrev pub closed : State → State
 closed s = if in_order s.first forms.Entry then record s {
   first = forms.Statement;

@@ -10,6 +10,7 @@ use Rattle.defmt_lines.specs.declared.settings.Settings.{Settings}
 use Rattle.defmt_script.specs.Lawful.{HasStamp, IsSound, statements_limit}
 use Rattle.defmt_script.specs.Script.{count_statements, count_strings}
 use Rattle.defmt_script.specs.State.{State, no_statements, strings_limit}
+use Rattle.defmt_script.specs.Turns.{IsTold}
 
 -- No statement was yet: the table has strings alone.
 pub record IsOpen (s : State) : Type 0 where
@@ -25,7 +26,7 @@ pub record IsSteady (s : State) : Type 0 where
   pub whole : StringsAreOver s.first → HasStamp s.script.settings.stamp s.script.table
   pub eight : length s.script.writers ≡ 8
   pub few : count_statements s.script ≤ statements_limit
-  pub sound : AllByRecursion (λ list. AllByRecursion (IsSound s.script.table s.script.settings.stamp) list) s.script.writers
+  pub sound : AllByRecursion (λ list. AllByRecursion (IsSound s.script.table s.script.settings) list) s.script.writers
 
 -- settings behind a line of this form: a reader may be late only behind its own line
 pub record StaysLawful (form : Form) (s : Settings) : Type 0 where
@@ -33,8 +34,9 @@ pub record StaysLawful (form : Form) (s : Settings) : Type 0 where
   pub lawful : AreLawful s
   pub not_late : ReaderMayCome (next form) → s.late ≡ false
 
--- What holds of a reading, which keeps how many strings and statements there are beside the script.
+-- What holds of a reading, which keeps how many strings and statements there are beside the script, and of its texts.
 pub record IsCounted (strings statements : ℕ) (s : State) : Type 0 where
   pub steady : IsSteady s
   pub strings_are : strings ≡ count_strings s.script
   pub statements_are : statements ≡ count_statements s.script
+  pub told : IsTold s.script

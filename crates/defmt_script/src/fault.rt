@@ -6,7 +6,7 @@ use dl_io::Memory;
 /// Why a text isn't read as a script.
 #[derive(Clone, Copy, Debug, PartialEq, Eq)]
 pub enum ScriptFault {
-    /// The first line that is refused, from 1, the number of its cause from 1 to 13 (`defmt_lines::Cause`), and the number
+    /// The first line that is refused, from 1, the number of its cause from 1 to 19 (`defmt_lines::Cause`), and the number
     /// of the arguments' or the text's own cause, or 0.
     Refused { line: u32, cause: u8, inner: u8 },
     /// Want of memory.

@@ -1,14 +1,20 @@
-//! Scripts: a ring, a table of strings and the statements of eight writers, read from a text line by line.
+//! Scripts: a ring, a table of strings, and the statements of eight writers with what they say on terminals, read from a text
+//! line by line.
 #![tactic(auto)]
 
 mod fault;
 mod laws;
+mod parts;
 mod reading;
 mod script;
+mod step;
 mod top;
 
 pub use defmt_lines::RingMode;
 pub use fault::ScriptFault;
-pub use laws::{scripts_are_lawful, stamps_are_alike, stamps_fit, texts_are_few};
+pub use laws::{
+    scripts_are_lawful, stamps_are_alike, stamps_fit, steps_are_counted, texts_are_few,
+};
 pub use script::{Script, Statements};
+pub use step::Step;
 pub use top::{one_reading, read};

@@ -1,34 +1,34 @@
 //! A script of which some lines are read.
 
-ghost use Rattle.std.specs.Prelude.{◌≡◌, ◌≤◌, ◌<◌, ℕ, length, nat_lt, None, Ok, OnOk, OnErr, IfOk, true};
+ghost use Rattle.std.specs.Prelude.{◌≡◌, ◌≤◌, ◌<◌, length, nat_lt, None, Ok, OnOk, IfOk, true};
 ghost use Rattle.std.specs.FinMap as map;
-ghost use Rattle.std.specs.Fmt.{decimal};
-ghost use Rattle.defmt_eager.specs.Line.{text_limit};
-ghost use Rattle.defmt_eager.specs.Show.{eager_text};
-ghost use Rattle.defmt_intern.specs.Table.{InsertRefused};
 ghost use Rattle.defmt_lines.specs.Form.{StringsAreOver, StringsMayCome, in_order};
 ghost use Rattle.defmt_lines.specs.Line.{act, entry, is_string_tag};
 ghost use Rattle.defmt_lines.specs.LineView.{line_view};
-ghost use Rattle.defmt_lines.specs.declared.form.Form.TheVariants.{Statement as StatementForm};
+ghost use Rattle.defmt_lines.specs.declared.form.Form.TheVariants.{Say as SayForm, Statement as StatementForm};
 ghost use Rattle.defmt_lines.specs.declared.settings.Settings.{Settings as AnySettings};
 ghost use Rattle.defmt_script.specs.Answers.{Becomes, TakesLine};
-ghost use Rattle.defmt_script.specs.Lawful.{first_message, message_limit, statements_limit};
-ghost use Rattle.defmt_script.specs.Reads.{admits_statement, admits_string, is_message, sets, takes_statement, with_string};
-ghost use Rattle.defmt_script.specs.Script.{base_of, count_statements, count_strings, next_index};
-ghost use Rattle.defmt_script.specs.State.{closed, entry_at, no_lines, no_statements, strings_limit};
+ghost use Rattle.defmt_script.specs.Lawful.{statements_limit};
+ghost use Rattle.defmt_script.specs.Reads.{admits_statement, admits_string, admits_text, is_message, sets, takes_statement, with_string, with_text};
+ghost use Rattle.defmt_script.specs.Script.{count_statements, count_strings, next_index, statements_by};
+ghost use Rattle.defmt_script.specs.State.{closed, no_lines, strings_limit};
 ghost use Rattle.defmt_script.specs.Steady.{StaysLawful};
-ghost use Rattle.defmt_spelling.specs.Spelling.{ReadsArguments};
 ghost use Rattle.defmt_values.specs.Fits.{Fits};
+ghost use Rattle.rtt_terminal.specs.Speech.{count_texts, texts_limit};
+ghost use Rattle.rtt_terminal.specs.Stream.{IsSayable};
 
 use crate::fault::LineFault;
+use crate::parts::{
+    arguments_of, entry_of, is_long, is_message, is_wide, no_statements, no_texts, put_entry,
+};
 use crate::script::{Script, Statements};
-use defmt_grammar::Text;
-use defmt_intern::{Entry, Table, TableFault, Tag};
+use defmt_intern::{Table, Tag};
 use defmt_lines::{ActionLine, Cause, EntryLine, Form, Line, Settings, judge};
 use defmt_shapes::is_name;
-use defmt_spelling::{ArgFault, Names, read_args};
-use defmt_values::{Args, Statement, is_logged};
+use defmt_spelling::Names;
+use defmt_values::Statement;
 use dl_io::Memory;
+use rtt_terminal::{Speech, is_sayable, terminal_named};
 use std::alloc::Global;
 use std::marker::Model;
 
@@ -36,6 +36,8 @@ use std::marker::Model;
 const STRINGS_LIMIT: u16 = 65_534;
 
 const STATEMENTS_LIMIT: u16 = 4096;
+
+const TEXTS_LIMIT: u32 = 4096;
 
 /// A script of which some lines are read, and how many strings and statements it has by now.
 #[derive(Drop)]
@@ -48,6 +50,7 @@ pub struct Reading {
     table: Table,
     names: Names,
     writers: Vec<Statements>,
+    said: Speech,
 }
 
 impl Model for Reading {
@@ -61,126 +64,25 @@ impl Model for Reading {
 
     ghost view = { λ r. record {
       first = r.first;
-      script = record { settings = r.settings; table = r.table.entries; names = r.names; writers = r.writers.items };
+      script = record {
+        settings = r.settings;
+        table = r.table.entries;
+        names = r.names;
+        writers = r.writers.items;
+        said = r.said;
+      };
     } };
 
     ghost invariant = { λ r. IsCounted r.strings r.statements (record {
       first = r.first;
-      script = record { settings = r.settings; table = r.table.entries; names = r.names; writers = r.writers.items };
+      script = record {
+        settings = r.settings;
+        table = r.table.entries;
+        names = r.names;
+        writers = r.writers.items;
+        said = r.said;
+      };
     }) };
-}
-
-// Eight writers without statements.
-fn no_statements(alloc: Global) -> Result<Vec<Statements>, Memory>
-    ensures { IfOk result (λ writers. writers.items ≡ no_statements) }
-{
-    Ok(vec![in alloc;
-        Statements::new(alloc),
-        Statements::new(alloc),
-        Statements::new(alloc),
-        Statements::new(alloc),
-        Statements::new(alloc),
-        Statements::new(alloc),
-        Statements::new(alloc),
-        Statements::new(alloc),
-    ]?)
-}
-
-fn copy_of(alloc: Global, text: &str) -> Result<Text, Memory>
-    ensures { IfOk result (λ copy. copy ≡ text.now) }
-{
-    let mut copy = Text::new(alloc);
-    match copy.push_str(text) {
-        Ok(()) => Ok(copy),
-        Err(_) => Err(Memory),
-    }
-}
-
-// A number in decimal digits.
-fn digits_of(alloc: Global, number: u16) -> Result<Text, Memory>
-    ensures { IfOk result (λ text. text ≡ decimal number) }
-{
-    Ok(Text::from_string(format!(in alloc; "{number}")?))
-}
-
-// An entry of a script.
-fn entry_of(alloc: Global, index: u16, tag: Tag, text: &str) -> Result<Entry, Memory>
-    ensures { IfOk result (λ entry. entry ≡ entry_at index tag text.now) }
-{
-    Ok(Entry {
-        tag,
-        package: copy_of(alloc, "script")?,
-        text: copy_of(alloc, text)?,
-        disambiguator: digits_of(alloc, index)?,
-    })
-}
-
-// Puts an entry at a free index.
-fn put_entry(table: &mut Table, index: u16, entry: Entry) -> Result<(), Memory>
-    requires { (cause : ℕ) → InsertRefused table.old.entries index entry cause → ⊥ }
-    ensures ok { OnOk result (table.new.entries ≡ map.insert table.old.entries index entry) }
-    ensures err { OnErr result (table.new.entries ≡ table.old.entries) }
-{
-    match table.insert(index, entry) {
-        Ok(()) => Ok(()),
-        Err(TableFault::Refused { .. }) => unreachable!(),
-        Err(TableFault::Memory) => Err(Memory),
-    }
-}
-
-// Whether the entry at an index is a level's or println's.
-fn is_message(table: &Table, index: u16) -> bool
-    ensures { result ≡ is_message table.now.entries index }
-{
-    match table.get(index) {
-        Some(entry) => is_logged(&entry.tag),
-        None => false,
-    }
-}
-
-// The arguments that a text spells, or the cause why it spells none.
-fn arguments_of(
-    alloc: Global,
-    names: &Names,
-    table: &Table,
-    index: u16,
-    text: &str,
-) -> Result<Result<Args, u8>, Memory>
-    ensures reads { IfOk result (λ args. ReadsArguments names.now table.now.entries index text.now args) }
-    ensures fits { IfOk result (λ read. IfOk read (λ args. Fits table.now.entries index args)) }
-{
-    match read_args(alloc, names, table, index, text) {
-        Ok(args) => Ok(Ok(args)),
-        Err(ArgFault::Refused { cause }) => Ok(Err(cause)),
-        Err(ArgFault::Memory) => Err(Memory),
-    }
-}
-
-// Whether the message of a statement has more than 2,000 bytes.
-fn is_long(table: &Table, stamp: Option<(u64, u64)>, stm: &Statement) -> bool
-    ensures { result ≡ nat_lt message_limit (length (first_message table.now.entries stamp stm.now)) }
-{
-    defmt_encode::is_long(table, base_of(stamp), stm)
-}
-
-fn base_of(stamp: Option<(u64, u64)>) -> Option<u64>
-    ensures { result ≡ base_of stamp }
-{
-    match stamp {
-        Some((base, _)) => Some(base),
-        None => None,
-    }
-}
-
-// Whether the text of a statement has more than 65,536 bytes.
-fn is_wide(alloc: Global, table: &Table, stm: &Statement) -> Result<bool, Memory>
-    requires { Fits table.now.entries stm.now.index stm.now.args }
-    ensures { IfOk result (λ wide. wide ≡ nat_lt text_limit (length (eager_text table.now.entries stm.now.index stm.now.args))) }
-{
-    match defmt_eager::is_wide(alloc, table, stm) {
-        Ok(wide) => Ok(wide),
-        Err(_) => Err(Memory),
-    }
 }
 
 impl Reading {
@@ -197,6 +99,7 @@ impl Reading {
             table: Table::new(alloc),
             names: Names::new(alloc),
             writers: no_statements(alloc)?,
+            said: no_texts(alloc)?,
         })
     }
 
@@ -221,13 +124,48 @@ impl Reading {
         self.statements < STATEMENTS_LIMIT
     }
 
+    // Whether another text may come.
+    fn has_room_for_text(&self) -> bool
+        ensures { result ≡ nat_lt (count_texts self.now.script.said) texts_limit }
+    {
+        self.said.len() < TEXTS_LIMIT
+    }
+
+    // The statements of a writer, none for a number above 7.
+    fn statements_by(&self, writer: u8) -> &[Statement]
+        ensures { result.now ≡ statements_by self.now.script writer }
+    {
+        match self.writers.get(usize::from(writer)) {
+            Some(statements) => statements.as_slice(),
+            None => &[],
+        }
+    }
+
+    // No reading has more than 4,096 statements.
+    fn has_few(&self)
+        ensures { count_statements self.now.script ≤ statements_limit }
+    {
+        let _ = &self.writers;
+    }
+
+    // How many statements a writer has by now.
+    fn count(&self, writer: u8) -> u32
+        ensures { result ≡ length (statements_by self.now.script writer) }
+    {
+        self.has_few();
+        self.statements_by(writer).len() as u32
+    }
+
     /// Takes one line more.
     pub fn take_line(&mut self, line: Line<'_>) -> Result<(), LineFault>
         ensures { TakesLine self.old (line_view line.entry) result self.new }
     {
         match line {
             Line::Blank => Ok(()),
-            Line::Head(form, words) => self.set(form, self.settings.with_words(form, words)),
+            Line::Head(form, words) => {
+                let settings = self.settings.with_words(form, words);
+                self.set(form, settings)
+            }
             Line::Entry(line) => self.take_string(line),
             Line::Act(form, line) => self.take_action(form, line),
             Line::Other => Err(LineFault::Refused(Cause::Line)),
@@ -236,7 +174,8 @@ impl Reading {
 
     // Takes the settings of a line of this form.
     fn set(&mut self, form: Form, settings: Result<Settings, Cause>) -> Result<(), LineFault>
-        requires { (s : AnySettings) → settings ≡ Ok s → in_order self.old.first form ≡ true → StaysLawful form s }
+        requires { (s : AnySettings)
+            → settings ≡ Ok s → in_order self.old.first form ≡ true → StaysLawful form s }
         ensures { Becomes (sets self.old form settings) result self.new }
     {
         if !form.is_in_order(self.first) {
@@ -268,7 +207,8 @@ impl Reading {
     }
 
     fn take_string(&mut self, line: EntryLine<'_>) -> Result<(), LineFault>
-        ensures { TakesLine self.old (entry line.entry.name.now line.entry.tag line.entry.text.now) result self.new }
+        ensures { TakesLine self.old
+            (entry line.entry.name.now line.entry.tag line.entry.text.now) result self.new }
     {
         if let Err(cause) = self.admit_string(line.name) {
             return Err(LineFault::Refused(cause));
@@ -339,19 +279,27 @@ impl Reading {
     }
 
     fn take_action(&mut self, form: Form, line: ActionLine<'_>) -> Result<(), LineFault>
-        ensures { TakesLine self.old (act form line.entry.writer line.entry.field.now line.entry.rest.now) result self.new }
+        ensures { TakesLine self.old
+            (act form line.entry.writer line.entry.field.now line.entry.rest.now) result self.new }
     {
         match form {
             Form::Statement => self.take_statement(line),
-            Form::Ring | Form::Mode | Form::Reader | Form::Stamp | Form::Entry => {
-                Err(LineFault::Refused(Cause::Line))
-            }
+            Form::Say => self.take_text(line),
+            Form::Ring
+            | Form::Mode
+            | Form::Reader
+            | Form::Stamp
+            | Form::Profile
+            | Form::Order
+            | Form::Entry => Err(LineFault::Refused(Cause::Line)),
         }
     }
 
     // Takes a statement: the field is the name of its string, and the rest are its arguments.
     fn take_statement(&mut self, line: ActionLine<'_>) -> Result<(), LineFault>
-        ensures { TakesLine self.old (act StatementForm line.entry.writer line.entry.field.now line.entry.rest.now) result self.new }
+        ensures { TakesLine self.old
+            (act StatementForm line.entry.writer line.entry.field.now line.entry.rest.now)
+            result self.new }
     {
         self.close()?;
         let (writer, index) = match self.admit_statement(&line) {
@@ -373,7 +321,7 @@ impl Reading {
         requires fits { Fits self.old.script.table stm.index stm.args }
         ensures { Becomes (takes_statement self.old writer stm) result self.new }
     {
-        if is_long(&self.table, self.settings.stamp, &stm) {
+        if is_long(&self.table, &self.settings, &stm) {
             return Err(LineFault::Refused(Cause::Long));
         }
         if is_wide(self.alloc, &self.table, &stm)? {
@@ -382,6 +330,57 @@ impl Reading {
         self.writers[usize::from(writer)].push(stm)?;
         self.statements += 1;
         Ok(())
+    }
+
+    // The writer of a text, and the terminal of its field: the rest may be spoken, and there is room.
+    fn admit_text(&self, line: &ActionLine<'_>) -> Result<(u8, u8), Cause>
+        ensures value { result
+            ≡ admits_text self.now line.now.writer line.now.field.now line.now.rest.now }
+        ensures writer { IfOk result (λ p. p.0 < 8) }
+        ensures terminal { IfOk result (λ p. p.1 < 16) }
+        ensures sayable { IfOk result (λ p. IsSayable line.now.rest.now) }
+        ensures room { IfOk result (λ p. count_texts self.now.script.said < texts_limit) }
+    {
+        let Some(writer) = line.writer else {
+            return Err(Cause::Writer);
+        };
+        let Some(terminal) = terminal_named(line.field) else {
+            return Err(Cause::Terminal);
+        };
+        if !is_sayable(line.rest) {
+            return Err(Cause::Words);
+        }
+        if !self.has_room_for_text() {
+            return Err(Cause::Many);
+        }
+        Ok((writer, terminal))
+    }
+
+    // Takes a text for a terminal: the field is the terminal's digit, and the rest is the text.
+    fn take_text(&mut self, line: ActionLine<'_>) -> Result<(), LineFault>
+        ensures { TakesLine self.old
+            (act SayForm line.entry.writer line.entry.field.now line.entry.rest.now)
+            result self.new }
+    {
+        self.close()?;
+        let (writer, terminal) = match self.admit_text(&line) {
+            Ok(admitted) => admitted,
+            Err(cause) => return Err(LineFault::Refused(cause)),
+        };
+        self.put_text(writer, terminal, line.rest)?;
+        Ok(())
+    }
+
+    // Puts a text behind the statements and the texts that its writer has by now.
+    fn put_text(&mut self, writer: u8, terminal: u8, text: &str) -> Result<(), Memory>
+        requires writer { writer < 8 }
+        requires terminal { terminal < 16 }
+        requires text { IsSayable text.now }
+        requires room { count_texts self.old.script.said < texts_limit }
+        ensures { OnOk result (self.new ≡ with_text self.old writer terminal text.now) }
+    {
+        let behind = self.count(writer);
+        self.said.push(writer, behind, terminal, text)
     }
 
     /// The script, of which all lines are read.
@@ -398,8 +397,9 @@ impl Reading {
             table,
             names,
             writers,
+            said,
         } = self;
         table.lawful();
-        Ok(Script::new(settings, table, names, writers))
+        Ok(Script::new(settings, table, names, writers, said))
     }
 }

@@ -1,15 +1,19 @@
 //! Scripts.
 
 ghost use Rattle.std.specs.Prelude.{◌≡◌, ◌++◌, ◌∷◌, ◌<◌, [], length, slice_get, slice_index_or, OnOk, OnErr};
-ghost use Rattle.std.specs.Option.{option_copied};
-ghost use Rattle.defmt_intern.specs.declared.table.Profile.TheVariants.{One};
+ghost use Rattle.std.specs.Option.{option_copied, option_map};
 ghost use Rattle.defmt_script.specs.Lawful.{IsLawful};
+ghost use Rattle.defmt_script.specs.Turns.{steps_of, told, told_of};
+ghost use Rattle.rtt_terminal.specs.Speech.{count_said, said_by};
 
+use crate::step::{Step, step_at};
+use defmt_hooks::Level;
 use defmt_intern::{Profile, Table};
 use defmt_lines::{RingMode, Settings};
 use defmt_spelling::Names;
 use defmt_values::Statement;
 use dl_io::Memory;
+use rtt_terminal::Speech;
 use std::alloc::Global;
 use std::marker::Model;
 
@@ -58,22 +62,24 @@ impl Statements {
     }
 }
 
-/// What a script says: a ring, a table of strings with their names, and the statements of the writers 0 to 7.
+/// What a script says: a ring, orders of levels, a table of strings with their names and a profile, and the statements of
+/// the writers 0 to 7 with the texts that they have to say on terminals.
 ///
-/// Every script is lawful: its ring and stamps are within their limits, its reader isn't late in blocking mode, its table has
-/// a timestamp exactly where it has stamps, and each of its at most 4,096 statements fits the table, is a message's, and has
-/// a message of at most 2,000 and a text of at most 65,536 bytes.
+/// Every script is lawful: its ring and stamps are within their limits, and so are its at most 64 orders; its reader isn't
+/// late in blocking mode, its table has a timestamp exactly where it has stamps, and each of its at most 4,096 statements
+/// fits the table, is a message's, and has a message of at most 2,000 and a text of at most 65,536 bytes. Its at most 4,096
+/// texts may be spoken on one of 16 terminals, and each writer's stand among its statements in their order.
 #[derive(Drop)]
 pub struct Script {
     settings: Settings,
     table: Table,
     names: Names,
     writers: Vec<Statements>,
+    said: Speech,
 }
 
 impl Model for Script {
     ghost use Rattle.std.specs.Prelude.{◌≡◌};
-    ghost use Rattle.defmt_intern.specs.declared.table.Profile.TheVariants.{One};
     ghost use Rattle.defmt_script.specs.Lawful.{IsLawful as HoldsOfScripts};
     ghost use Rattle.defmt_script.specs.Script.{Script as Read};
     ghost use Rattle.defmt_script.specs.Codes.{coded_script};
@@ -82,28 +88,54 @@ impl Model for Script {
 
     ghost coded = { coded_script };
 
-    ghost view = { λ s. record { settings = s.settings; table = s.table.entries; names = s.names; writers = s.writers.items } };
+    ghost view = { λ s. record {
+      settings = s.settings;
+      table = s.table.entries;
+      names = s.names;
+      writers = s.writers.items;
+      said = s.said;
+    } };
 
-    ghost invariant = { λ s. HoldsOfScripts (record { settings = s.settings; table = s.table.entries; names = s.names; writers = s.writers.items }) × (s.table.profile ≡ One) };
+    ghost invariant = { λ s. HoldsOfScripts (record {
+      settings = s.settings;
+      table = s.table.entries;
+      names = s.names;
+      writers = s.writers.items;
+      said = s.said;
+    }) × (s.table.profile ≡ s.settings.profile) };
 }
 
 impl Script {
-    /// A script of these parts. Its table gets profile One, whatever it had.
+    /// A script of these parts. Its table gets the profile of the settings, whatever it had.
     pub(crate) fn new(
         settings: Settings,
         mut table: Table,
         names: Names,
         writers: Vec<Statements>,
+        said: Speech,
     ) -> Self
-        requires { IsLawful (record { settings = settings; table = table.entries; names = names; writers = writers.items }) }
-        ensures { result ≡ record { settings = settings; table = table.entries; names = names; writers = writers.items } }
+        requires { IsLawful (record {
+          settings = settings;
+          table = table.entries;
+          names = names;
+          writers = writers.items;
+          said = said;
+        }) }
+        ensures { result ≡ record {
+          settings = settings;
+          table = table.entries;
+          names = names;
+          writers = writers.items;
+          said = said;
+        } }
     {
-        table.set_profile(Profile::One);
+        table.set_profile(settings.profile);
         Script {
             settings,
             table,
             names,
             writers,
+            said,
         }
     }
 
@@ -143,11 +175,26 @@ impl Script {
         self.settings.stamp
     }
 
+    /// How messages are laid out: the table's profile. Takes no memory.
+    pub fn profile(&self) -> Profile
+        ensures { result ≡ self.now.settings.profile }
+    {
+        self.settings.profile
+    }
+
+    /// The order of a level with this number, from 0: the number of frames after which it is sent, and the level; `None`
+    /// exactly past the last. Takes no memory.
+    pub fn order(&self, number: u32) -> Option<(u32, Level)>
+        ensures { result ≡ slice_get self.now.settings.orders number }
+    {
+        self.settings.orders.get(number)
+    }
+
     /// The strings, with the indexes 1, 2, 3 and so on, and behind them the timestamp's entry where there are stamps. Takes
     /// no memory.
     pub fn table(&self) -> &Table
         ensures entries { result.now.entries ≡ self.now.table }
-        ensures profile { result.now.profile ≡ One }
+        ensures profile { result.now.profile ≡ self.now.settings.profile }
     {
         &self.table
     }
@@ -181,8 +228,42 @@ impl Script {
     /// The statement of a writer at a place, from 0; `None` exactly where the place isn't below the writer's count. Takes no
     /// memory.
     pub fn statement(&self, writer: u8, place: u32) -> Option<&Statement>
-        ensures { option_copied result ≡ slice_get (slice_index_or self.now.writers writer []) place }
+        ensures { option_copied result
+            ≡ slice_get (slice_index_or self.now.writers writer []) place }
     {
         self.statements(writer).get(place as usize)
+    }
+
+    /// What the writers have to say on terminals. Takes no memory.
+    pub fn speech(&self) -> &Speech
+        ensures { result.now ≡ self.now.said }
+    {
+        &self.said
+    }
+
+    /// How many texts a writer has to say, 0 for each number above 7. Takes no memory.
+    pub fn count_said(&self, writer: u8) -> u32
+        ensures { result ≡ count_said self.now.said writer }
+    {
+        self.said.count(writer)
+    }
+
+    /// The terminal and the text that a writer has to say at a place, from 0; `None` exactly where the place isn't below the
+    /// writer's count of texts. Takes no memory.
+    pub fn said(&self, writer: u8, place: u32) -> Option<(u8, &str)>
+        ensures { told_of result
+            ≡ option_map told (slice_get (said_by self.now.said writer) place) }
+    {
+        let saying = self.said.get(writer, place)?;
+        Some((saying.terminal(), saying.text()))
+    }
+
+    /// What a writer does in its step with this number, from 0: it logs or says what comes next. `None` exactly where it has
+    /// no more statements and texts together. Takes no memory.
+    pub fn step(&self, writer: u8, number: u32) -> Option<Step>
+        ensures { result ≡ slice_get (steps_of self.now writer) number }
+    {
+        self.lawful();
+        step_at(number, self.count(writer), self.speech().sayings(writer))
     }
 }

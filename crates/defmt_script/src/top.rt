@@ -20,7 +20,8 @@ pub fn read(alloc: Global, text: &[u8]) -> Result<Script, ScriptFault>
     // A script is answered only where the text reads as it, and a refusal only where it is that of the first refused line.
     ensures answer { Answers text.now result }
     // Unless memory runs out, what the text reads as is answered.
-    ensures decides { (reading : Result Read Refusal) → Reads text.now reading → GivesOnly result reading }
+    ensures decides { (reading : Result Read Refusal)
+        → Reads text.now reading → GivesOnly result reading }
 {
     one_reading();
     read_lines(alloc, text)
@@ -28,7 +29,8 @@ pub fn read(alloc: Global, text: &[u8]) -> Result<Script, ScriptFault>
 
 /// A text reads as one script, or is refused at one line for one cause.
 pub fn one_reading()
-    ensures { (text : List ℕ) (reading other : Result Read Refusal) → Reads text reading → Reads text other → reading ≡ other }
+    ensures { (text : List ℕ) (reading other : Result Read Refusal)
+        → Reads text reading → Reads text other → reading ≡ other }
 {
     one_verdict();
     defmt_spelling::one_reading();

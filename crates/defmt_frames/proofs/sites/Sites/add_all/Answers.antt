@@ -15,7 +15,7 @@ add-requires-clause-message c =
     let s = c.args.script.now in
     let stm : Statement = c.in-Some.statement.now in
     let there : slice_get (statements_of s c.args.writer) c.loop-place.place ≡ Some stm = sym c.statement.ensures ∙ ap option_copied c.in-Some.is in
-    subst (λ (t : Map). IsMessage t stm.index) (sym c.table.ensures.entries) (sound_message s.table s.settings.stamp stm (sound_at s c.args.writer c.loop-place.place stm c.lawful.ensures there))
+    subst (λ (t : Map). IsMessage t stm.index) (sym c.table.ensures.entries) (sound_message s stm (sound_at s c.args.writer c.loop-place.place stm c.lawful.ensures there))
 
 pub returns-clause-all : goal.returns-clause-all
 returns-clause-all c place stm there =

@@ -8,5 +8,5 @@ use Rattle.defmt_lines.proofs.settings.Settings.with_words.Goals as goal
 
 pub returns : goal.returns
 returns c =
-    subst (λ (set : Result Settings Cause). Sets c.args.form (words_view c.args.words) c.args.self set) (sym c.by_words.ensures)
-    (set_found c.args.form (words_view c.args.words) c.args.self)
+    subst (λ (set : Result Settings Cause). Sets c.args.form (words_view c.args.words) c.args.self.now set) (sym c.by_words.ensures)
+    (set_found c.args.form (words_view c.args.words) c.args.self.now)

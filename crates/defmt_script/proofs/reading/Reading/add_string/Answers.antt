@@ -12,7 +12,7 @@ use Rattle.defmt_script.proofs.reading.Reading.add_string.Goals as goal
 
 pub put_entry-requires : goal.put_entry-requires
 put_entry-requires c =
-    let inside = state c.self.inside.first c.self.inside.settings c.self.inside.table.entries c.self.inside.names c.self.inside.writers.items in
+    let inside = state c.self.inside.first c.self.inside.settings c.self.inside.table.entries c.self.inside.names c.self.inside.writers.items c.self.inside.said in
     let may = subst (λ (v : State). StringsMayCome v.first) (sym c.self.view_is) c.requires.open in
     let next = c.next_index-index.ensures ∙ ap (λ (v : State). next_index v.script) (sym c.self.view_is) in
     is_free inside c.next_index-index.result c.in_ok-entry.entry (c.self.invariant.steady.opened may) next
@@ -25,9 +25,10 @@ invariant_of-self-in_err-put_entry c =
     let next = c.next_index-index.ensures ∙ ap (λ (v : State). next_index v.script) (sym c.self.view_is) in
     let more : map.len c.put.new.self ≡ map.len c.self.inside.names + 1 =
     ap (λ (names : NameMap). map.len names) c.in_ok-put.ensures.ok ∙ len-added c.self.inside.names c.args.name.now c.next_index-index.result new in record {
-      steady = kept_steady _ _ _ _ _ c.put.new.self _ c.self.invariant.steady c.in_err-put_entry.ensures.err (omega (arith, more)) (omega (arith, more, room));
+      steady = kept_steady _ _ _ _ _ c.put.new.self _ _ c.self.invariant.steady c.in_err-put_entry.ensures.err (omega (arith, more)) (omega (arith, more, room));
       strings_are = next ∙ sym more;
       statements_are = c.self.invariant.statements_are;
+      told = c.self.invariant.told;
     }
 
 pub invariant_of-self-2 : goal.invariant_of-self-2
@@ -38,16 +39,17 @@ invariant_of-self-2 c =
     let next = c.next_index-index.ensures ∙ ap (λ (v : State). next_index v.script) (sym c.self.view_is) in
     let more : map.len c.put.new.self ≡ map.len c.self.inside.names + 1 =
     ap (λ (names : NameMap). map.len names) c.in_ok-put.ensures.ok ∙ len-added c.self.inside.names c.args.name.now c.next_index-index.result new in
-    let steady = string_steady _ c.next_index-index.result _ _ _ c.self.inside.names _ c.args.name.now c.in_ok-entry.entry c.self.invariant.steady may new next
+    let steady = string_steady _ c.next_index-index.result _ _ _ c.self.inside.names _ _ c.args.name.now c.in_ok-entry.entry c.self.invariant.steady may new next
     (omega (arith, next, room)) (ap (λ (e : Entry). is_string_tag e.tag) c.in_ok-entry.ensures ∙ c.requires.string_tag) c.in_ok-put_entry.ensures.ok in record {
       steady = rw c.in_ok-put.ensures.ok steady;
       strings_are = next ∙ sym more;
       statements_are = c.self.invariant.statements_are;
+      told = c.self.invariant.told;
     }
 
 pub returns : goal.returns
 returns c =
-    let inside = state c.self.inside.first c.self.inside.settings c.self.inside.table.entries c.self.inside.names c.self.inside.writers.items in
+    let inside = state c.self.inside.first c.self.inside.settings c.self.inside.table.entries c.self.inside.names c.self.inside.writers.items c.self.inside.said in
     let next = c.next_index-index.ensures ∙ ap (λ (v : State). next_index v.script) (sym c.self.view_is) in
     string_added c.args.self.now inside c.next_index-index.result c.args.name.now c.args.tag c.args.text.now c.in_ok-entry.entry _ c.put.new.self c.self.view_is next c.in_ok-entry.ensures
     c.in_ok-put_entry.ensures.ok c.in_ok-put.ensures.ok

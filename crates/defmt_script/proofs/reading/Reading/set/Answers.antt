@@ -7,8 +7,9 @@ use Rattle.defmt_script.proofs.reading.Reading.set.Goals as goal
 pub invariant_of-self : goal.invariant_of-self
 invariant_of-self c =
     let order = sym c.is_in_order.ensures ∙ c.if-not-is_in_order.false in record {
-      steady = sets_steady _ _ c.args.form _ c.in-Ok.settings _ _ _ c.self.invariant.steady order
+      steady = sets_steady _ _ c.args.form _ c.in-Ok.settings _ _ _ _ c.self.invariant.steady order
           (c.requires c.in-Ok.settings c.in-Ok.is (ap (λ (v : State). in_order v.first c.args.form) (sym c.self.view_is) ∙ order)) c.next-self-inside.ensures;
       strings_are = c.self.invariant.strings_are;
       statements_are = c.self.invariant.statements_are;
+      told = c.self.invariant.told;
     }

@@ -12,12 +12,12 @@ use Rattle.defmt_script.specs.State.{State}
 use Rattle.defmt_script.proofs.reading.Reading.take_line.Goals as goal
 
 pub set-requires : goal.set-requires
-set-requires c = λ s is order. stays c.set.inside.first c.in-Head.form (words_view c.in-Head.words) c.set.inside.settings s c.set.invariant.steady.settings c.set.invariant.steady.not_late
-    (subst (λ (r : Result Settings Cause). Sets c.in-Head.form (words_view c.in-Head.words) c.set.inside.settings r) is c.with_words.ensures)
-    (ap (λ (v : State). in_order v.first c.in-Head.form) c.set.view_is ∙ order)
+set-requires c = λ s is order. stays c.self.inside.first c.in-Head.form (words_view c.in-Head.words) c.self.inside.settings s c.self.invariant.steady.settings c.self.invariant.steady.not_late
+    (subst (λ (r : Result Settings Cause). Sets c.in-Head.form (words_view c.in-Head.words) c.self.inside.settings r) is c.with_words-settings.ensures)
+    (ap (λ (v : State). in_order v.first c.in-Head.form) c.self.view_is ∙ order)
 
 pub returns-in-Head : goal.returns-in-Head
 returns-in-Head c =
-    let given = subst (λ (v : State). Sets c.in-Head.form (words_view c.in-Head.words) v.script.settings c.with_words.result) c.set.view_is c.with_words.ensures in
-    subst (λ (l : Line). TakesLine c.args.self.now (line_view l) c.set-in-Head.result c.set-in-Head.new.self) (sym c.in-Head.is)
-    (set_becomes c.args.self.now c.in-Head.form (words_view c.in-Head.words) c.with_words.result given c.set-in-Head.result c.set-in-Head.new.self c.set-in-Head.ensures)
+    let given = subst (λ (v : State). Sets c.in-Head.form (words_view c.in-Head.words) v.script.settings c.with_words-settings.result) c.self.view_is c.with_words-settings.ensures in
+    subst (λ (l : Line). TakesLine c.args.self.now (line_view l) c.set.result c.set.new.self) (sym c.in-Head.is)
+    (set_becomes c.args.self.now c.in-Head.form (words_view c.in-Head.words) c.with_words-settings.result given c.set.result c.set.new.self c.set.ensures)

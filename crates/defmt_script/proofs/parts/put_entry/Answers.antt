@@ -1,4 +1,4 @@
-use Rattle.defmt_script.proofs.reading.put_entry.Goals as goal
+use Rattle.defmt_script.proofs.parts.put_entry.Goals as goal
 
 pub unreachable-requires : goal.unreachable-requires
 unreachable-requires c = c.requires _ (rw c.in-Err-Refused.field-0-is at c.in-Err-Refused.ensures.answer).1

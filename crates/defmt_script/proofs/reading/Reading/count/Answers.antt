@@ -1,0 +1,6 @@
+use Rattle.std.proofs.Common.{ap, arith, length}
+use Rattle.defmt_script.proofs.Steadiness.{count_within}
+use Rattle.defmt_script.proofs.reading.Reading.count.Goals as goal
+
+pub overflow_cast-result : goal.overflow_cast-result
+overflow_cast-result c = omega (arith, ap length c.statements_by.ensures, count_within c.args.self.now.script.writers c.args.writer, c.has_few.ensures)
