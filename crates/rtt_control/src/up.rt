@@ -32,7 +32,8 @@ pub(crate) fn checked_counts(image: &[u8], base: u32, at: u32) -> Result<Counts,
     requires { length image.now < 2 ^ 32 }
     ensures ups { IfOk result (λ counts. counts.ups ≡ ups_at image.now at) }
     ensures downs { IfOk result (λ counts. counts.downs ≡ downs_at image.now at) }
-    ensures lies { IfOk result (λ counts. at + block_len counts.ups counts.downs ≤ length image.now) }
+    ensures lies { IfOk result (λ counts.
+        at + block_len counts.ups counts.downs ≤ length image.now) }
     ensures answer { OnOk result (block_at image.now base at ≡ Ok (block_of image.now at)) }
     ensures fault { IfErr result (λ fault. block_at image.now base at ≡ Err fault) }
 {
@@ -68,8 +69,10 @@ pub fn read_up(
 ) -> Result<Option<Descriptor>, ControlFault>
     requires { length image.now < 2 ^ 32 }
     ensures descriptor { IfOk result (λ found. found ≡ slice_get (block_of image.now at).up up) }
-    ensures passes { OnOk result (Passes (HasId image.now at) (HasBlock image.now at) (read_subject image.now base at)) }
-    ensures refused { IfErr result (IsFirstRefusal (HasId image.now at) (HasBlock image.now at) (read_subject image.now base at) at) }
+    ensures passes { OnOk result (Passes (HasId image.now at) (HasBlock image.now at)
+        (read_subject image.now base at)) }
+    ensures refused { IfErr result (IsFirstRefusal (HasId image.now at) (HasBlock image.now at)
+        (read_subject image.now base at) at) }
 
     // The same as a function of the image, for a caller that knows what this function gives.
     ensures answer { OnOk result (block_at image.now base at ≡ Ok (block_of image.now at)) }

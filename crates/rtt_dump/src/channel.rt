@@ -73,8 +73,10 @@ fn up_of(image: &[u8], base: u32, at: u32, up: u32) -> Result<Descriptor, DumpFa
     ensures lies { IfOk result (LiesIn (length image.now) base) }
     ensures offsets { IfOk result HasOffsets }
     ensures mode { IfOk result HasMode }
-    ensures passes { OnOk result (channel_refusal (record { base = base; bytes = image.now }) at up ≡ None) }
-    ensures refused { IfErr result (IsFault (channel_refusal (record { base = base; bytes = image.now }) at up)) }
+    ensures passes { OnOk result
+        (channel_refusal (record { base = base; bytes = image.now }) at up ≡ None) }
+    ensures refused { IfErr result
+        (IsFault (channel_refusal (record { base = base; bytes = image.now }) at up)) }
 {
     let found = read_up(image, base, at, up)?;
     match found {
@@ -94,9 +96,12 @@ pub fn bytes_of(
     old: bool,
 ) -> Result<Bytes, DumpFault>
     requires { length image.now < 2 ^ 32 }
-    ensures bytes { IfOk result (λ bytes. bytes.items ≡ channel_bytes (record { base = base; bytes = image.now }) at up old) }
-    ensures passes { OnOk result (channel_refusal (record { base = base; bytes = image.now }) at up ≡ None) }
-    ensures refused { IfErr result (IsFault (channel_refusal (record { base = base; bytes = image.now }) at up)) }
+    ensures bytes { IfOk result (λ bytes. bytes.items
+        ≡ channel_bytes (record { base = base; bytes = image.now }) at up old) }
+    ensures passes { OnOk result
+        (channel_refusal (record { base = base; bytes = image.now }) at up ≡ None) }
+    ensures refused { IfErr result
+        (IsFault (channel_refusal (record { base = base; bytes = image.now }) at up)) }
     ensures short { IfOk result (λ bytes. length bytes.items ≤ length image.now) }
 {
     let d = up_of(image, base, at, up)?;

@@ -40,7 +40,8 @@ fn starts_up_to(starts: &[usize], place: usize) -> usize
     requires { IsNonDecreasingBy (λ start. start) starts.now }
     ensures most { result ≤ length starts.now }
     ensures up_to { (k d : ℕ) → k < result → slice_index_or starts.now k d ≤ place }
-    ensures behind { (k d : ℕ) → result ≤ k → k < length starts.now → place < slice_index_or starts.now k d }
+    ensures behind { (k d : ℕ) → result ≤ k → k < length starts.now
+        → place < slice_index_or starts.now k d }
 {
     starts.partition_point(|start| *start <= place)
 }
@@ -50,7 +51,8 @@ fn kept_places(alloc: Global, file: &[u8], starts: &[usize]) -> Result<Vec<u32>,
     requires short { length file.now < 2 ^ 32 }
     requires rise { IsNonDecreasingBy (λ start. start) starts.now }
     ensures rises { IfOk result (λ places. Rises 0 places.items) }
-    ensures kept { IfOk result (λ places. All (λ start. first_two start places.items ≡ first_two start (id_places 0 file.now)) starts.now) }
+    ensures kept { IfOk result (λ places. All (λ start.
+        first_two start places.items ≡ first_two start (id_places 0 file.now)) starts.now) }
 {
     let finder = Finder::new(&ID);
     let mut places = Vec::new(alloc);
@@ -77,7 +79,9 @@ fn kept_places(alloc: Global, file: &[u8], starts: &[usize]) -> Result<Vec<u32>,
 fn places_of(alloc: Global, file: &[u8], spans: &[Span]) -> Result<Vec<u32>, Memory>
     requires { length file.now < 2 ^ 32 }
     ensures rises { IfOk result (λ places. Rises 0 places.items) }
-    ensures kept { IfOk result (λ places. All (λ span. first_two span.start places.items ≡ first_two span.start (id_places 0 file.now)) spans.now) }
+    ensures kept { IfOk result (λ places. All (λ span.
+        first_two span.start places.items ≡ first_two span.start (id_places 0 file.now))
+        spans.now) }
 {
     let starts = starts_of(alloc, spans)?;
     kept_places(alloc, file, &starts)
@@ -101,7 +105,8 @@ fn next_id(
 ) -> Result<Option<Spot>, DumpFault>
     requires rises { Rises 0 places.now }
     requires end { span.now.start + span.now.len < 2 ^ 32 }
-    ensures { result ≡ at_most_one (listed first ++ spots segment (places_in span.now.start span.now.len places.now)) }
+    ensures { result ≡ at_most_one (listed first
+        ++ spots segment (places_in span.now.start span.now.len places.now)) }
 {
     let mut first = first;
     let mut rest = places_from(places, span.start);

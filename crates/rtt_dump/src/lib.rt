@@ -8,9 +8,11 @@ mod elf;
 mod fault;
 mod header;
 mod ids;
+mod laws;
 mod segment;
 mod spans;
 
 pub use calls::{dumped, segments};
 pub use fault::{Cause, DumpFault, Flaw};
+pub use laws::refusals_are_checked;
 pub use segment::Segment;

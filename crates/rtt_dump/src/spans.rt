@@ -63,8 +63,10 @@ fn loaded_spans(alloc: Global, file: &[u8], table: &Table) -> Result<Vec<Span>, 
     ensures spans { IfOk result (λ v. v.items ≡ map span_of (loaded file.now)) }
     ensures inside { IfOk result (λ v. All (IsInside (length file.now)) v.items) }
     ensures few { IfOk result (λ v. length v.items < 2 ^ 16) }
-    ensures passes { OnOk result (first_flaw file.now (flat_map segment_tests (loaded file.now)) ≡ None) }
-    ensures refused { IfErr result (IsFault (option_map flawed (first_flaw file.now (flat_map segment_tests (loaded file.now))))) }
+    ensures passes { OnOk result
+        (first_flaw file.now (flat_map segment_tests (loaded file.now)) ≡ None) }
+    ensures refused { IfErr result (IsFault (option_map flawed
+        (first_flaw file.now (flat_map segment_tests (loaded file.now))))) }
 {
     let mut spans = Vec::new(alloc);
     for k in 0..table.count {
