@@ -2,4 +2,5 @@ pub mod Append
 pub mod Next
 pub mod Room
 pub mod Shown
+pub mod Sizes
 pub mod Spoken

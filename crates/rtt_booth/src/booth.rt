@@ -41,11 +41,20 @@ impl<B: Books, Q: Quota, T: Work<Q>> Booth<B, Q, T> {
     {
         self.shared.step(rt, voice, relief)
     }
+
+    /// The work that the voices share: a stand behind its lock. Takes no memory.
+    pub fn shared(&self) -> &Shared<B, Q, T>
+        ensures { result.now ≡ self.now.shared }
+    {
+        &self.shared
+    }
 }
 
 // How many texts the writers 0 to 7 have to say.
 fn totals_of(speech: &Speech) -> [u32; 8]
-    ensures { result ≡ count_said speech.now 0 ∷ count_said speech.now 1 ∷ count_said speech.now 2 ∷ count_said speech.now 3 ∷ count_said speech.now 4 ∷ count_said speech.now 5 ∷ count_said speech.now 6 ∷ count_said speech.now 7 ∷ [] }
+    ensures { result ≡ count_said speech.now 0 ∷ count_said speech.now 1 ∷ count_said speech.now 2
+        ∷ count_said speech.now 3 ∷ count_said speech.now 4 ∷ count_said speech.now 5
+        ∷ count_said speech.now 6 ∷ count_said speech.now 7 ∷ [] }
 {
     [
         speech.count(0),

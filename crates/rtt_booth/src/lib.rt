@@ -15,7 +15,7 @@ mod speaking;
 mod stand;
 
 pub use booth::Booth;
-pub use laws::words_are_shown;
+pub use laws::{spoken_is_short, words_are_shown};
 pub use said::{Said, Word};
 pub use shared_work::{Pen, Pens};
 pub use speaking::{EachText, Naming, Speaking};

@@ -44,7 +44,9 @@ impl<U: UpEnd> Model for Stand<U> {
 
     ghost view = { λ s. record { speech = s.speech; said = s.said; up = U.view s.up } };
 
-    ghost invariant = { λ s. IsWorking (record { speech = s.speech; said = s.said; up = U.view s.up }) s.places s.current s.line.items };
+    ghost invariant = { λ s.
+        IsWorking (record { speech = s.speech; said = s.said; up = U.view s.up })
+        s.places s.current s.line.items };
 }
 
 // Writes the line of a text at the front of a buffer, where a terminal is current, and answers how many bytes it has.
@@ -73,7 +75,8 @@ fn send_line<U: UpEnd, R: Relief, W: Wait>(
     requires text { IsSayable text.now }
     requires buffer { length buffer.old ≡ 2003 }
     requires relief { R.kept relief.old }
-    ensures sent { (U.view up.new).sent ≡ (U.view up.old).sent ++ line_from current terminal text.now }
+    ensures sent { (U.view up.new).sent
+        ≡ (U.view up.old).sent ++ line_from current terminal text.now }
     ensures kept { UpKept (U.view up.old) (U.view up.new) }
     ensures relief { R.kept relief.new }
 {
@@ -98,7 +101,8 @@ impl<U: UpEnd> Stand<U> {
         requires writer { writer < 8 }
         requires place { words_of writer self.old.said.words < count_said self.old.speech writer }
         requires relief { R.kept relief.old }
-        ensures words { self.new.said.words ≡ self.old.said.words ++ word writer (words_of writer self.old.said.words) ∷ [] }
+        ensures words { self.new.said.words
+            ≡ self.old.said.words ++ word writer (words_of writer self.old.said.words) ∷ [] }
         ensures speech { self.new.speech ≡ self.old.speech }
         ensures split { self.new.up.split ≡ self.old.up.split }
         ensures kept { IsKept self.new }
@@ -150,7 +154,8 @@ impl<U: UpEnd + Drop> Stand<U> {
         ensures said { result.0 ≡ self.said }
         ensures up { U.view result.1 ≡ self.up }
         ensures speech { result.2 ≡ self.speech }
-        ensures kept { IsKept (record { speech = result.2; said = result.0; up = U.view result.1 }) }
+        ensures kept { IsKept
+            (record { speech = result.2; said = result.0; up = U.view result.1 }) }
     {
         let Stand {
             speech,

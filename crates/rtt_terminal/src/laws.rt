@@ -7,12 +7,16 @@ ghost use Rattle.rtt_terminal.specs.Stream.{Line, IsLine, spoken, screens, Shows
 
 /// Bytes show one list of lines for each terminal, or have one first fault and show nothing.
 pub fn one_reading()
-    ensures one { (bytes : List ℕ) (a b : List (List (List ℕ))) → Shows bytes a → Shows bytes b → a ≡ b }
-    ensures never_both { (bytes : List ℕ) (a : List (List (List ℕ))) (cause : AnyCause) (place : ℕ) → Shows bytes a → HasFault bytes cause place → ⊥ }
-    ensures first { (bytes : List ℕ) (c d : AnyCause) (i j : ℕ) → HasFault bytes c i → HasFault bytes d j → (c ≡ d) × (i ≡ j) }
+    ensures one { (bytes : List ℕ) (a b : List (List (List ℕ)))
+        → Shows bytes a → Shows bytes b → a ≡ b }
+    ensures never_both { (bytes : List ℕ) (a : List (List (List ℕ))) (cause : AnyCause) (place : ℕ)
+        → Shows bytes a → HasFault bytes cause place → ⊥ }
+    ensures first { (bytes : List ℕ) (c d : AnyCause) (i j : ℕ)
+        → HasFault bytes c i → HasFault bytes d j → (c ≡ d) × (i ≡ j) }
 {}
 
 /// What was spoken is read: the stream of some lines shows each terminal its lines in their order.
 pub fn spoken_is_read()
-    ensures { (lines : List Line) → AllByRecursion IsLine lines → Shows (spoken lines) (screens lines) }
+    ensures { (lines : List Line) → AllByRecursion IsLine lines
+        → Shows (spoken lines) (screens lines) }
 {}

@@ -19,7 +19,7 @@ mod screens;
 mod speaking;
 mod speech;
 
-pub use digit::terminal_named;
+pub use digit::{digit_of, terminal_named};
 pub use fault::{Cause, TermFault};
 pub use laws::{one_reading, spoken_is_read};
 pub use reading::read_terminals;

@@ -49,8 +49,10 @@ pub fn read_terminals(alloc: Global, bytes: &[u8]) -> Result<Screens, TermFault>
     // Lines are answered only where the bytes show them, and a refusal only with what isn't right first.
     ensures answer { Reads bytes.now result }
     // Unless memory runs out, what the bytes show is answered, and what isn't right.
-    ensures shown { (screens : List (List (List ℕ))) → Shows bytes.now screens → GivesOnly result screens }
-    ensures refused { (cause : AnyCause) (place : ℕ) → HasFault bytes.now cause place → RefusesOnly result cause place }
+    ensures shown { (screens : List (List (List ℕ)))
+        → Shows bytes.now screens → GivesOnly result screens }
+    ensures refused { (cause : AnyCause) (place : ℕ)
+        → HasFault bytes.now cause place → RefusesOnly result cause place }
 {
     screens_of(alloc, bytes)
 }

@@ -38,7 +38,8 @@ pub fn speak(current: u8, terminal: u8, text: &str, out: &mut [u8]) -> usize
     requires terminals { (current < 16) × (terminal < 16) }
     requires text { IsSayable text.now }
     requires room { 2003 ≤ length out.old }
-    ensures line { let line = switch current terminal ++ line_bytes text.now in out.new ≡ line ++ drop (length line) out.old }
+    ensures line { let line = switch current terminal ++ line_bytes text.now in
+        out.new ≡ line ++ drop (length line) out.old }
     ensures count { result ≡ length (switch current terminal ++ line_bytes text.now) }
     ensures short { result ≤ 2003 }
 {

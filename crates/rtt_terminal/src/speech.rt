@@ -79,8 +79,8 @@ impl Speech {
         let _ = &self.writers;
     }
 
-    // What a writer has to say, nothing for a number above 7.
-    fn sayings(&self, writer: u8) -> &[Saying]
+    /// What a writer has to say in order, nothing for a number above 7. Takes no memory.
+    pub fn sayings(&self, writer: u8) -> &[Saying]
         ensures { result.now ≡ said_by self.now writer }
     {
         match self.writers.get(usize::from(writer)) {
