@@ -1,0 +1,7 @@
+pub mod Cutting
+pub mod Counting
+pub mod ModeLaws
+pub mod Room
+pub mod Next
+pub mod Fits
+pub mod Turned

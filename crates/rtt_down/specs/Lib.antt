@@ -1,0 +1,9 @@
+pub mod Orders
+pub mod Open
+pub mod Listening
+pub mod Levels
+pub mod Modes
+pub mod Reel
+pub mod Steered
+pub mod Kept
+pub mod Codes

@@ -1,0 +1,105 @@
+// The course of turns.
+ghost use Rattle.std.specs.Prelude.{◌≡◌, ℕ, ◌+◌, ◌^◌, ◌<◌, ◌≤◌, List, [], ◌∷◌, ◌++◌, length, IfOk, slice_index_or};
+ghost use Rattle.defmt_frames.specs.Frames.{count, stamp_number};
+ghost use Rattle.defmt_script.specs.Script.{Script as AnyScript};
+ghost use Rattle.rtt_down.specs.Kept.{Steers};
+ghost use Rattle.rtt_down.specs.Levels.{is_sent, level_at};
+
+use crate::level::is_sent;
+use crate::listener::Listener;
+use crate::turn::Turn;
+use crate::turns::Turns;
+use defmt_hooks::Level;
+use dl_io::Memory;
+use std::alloc::Global;
+
+// How many statements a script has at most.
+const STATEMENTS: usize = 4096;
+
+// The turns so far, how many each writer had, and what was heard.
+#[derive(Drop)]
+pub(crate) struct Course {
+    pub(crate) turns: Turns,
+    pub(crate) places: [u32; 8],
+    pub(crate) listener: Listener,
+}
+
+impl Course {
+    // No turn yet, and room for as many as a script has statements.
+    pub(crate) fn start(alloc: Global) -> Result<Course, Memory>
+        ensures steers { IfOk result (λ c. (s : AnyScript)
+            → Steers s [] c.turns c.places c.listener.ear c.listener.seen c.listener.floor) }
+        ensures turns { IfOk result (λ c. c.turns.turns ≡ []) }
+    {
+        let mut turns = Turns::new(alloc);
+        turns.reserve(STATEMENTS)?;
+        Ok(Course {
+            turns,
+            places: [0; 8],
+            listener: Listener::new(),
+        })
+    }
+
+    // The next turn of a writer, whose statement has this level and this stamp: hears the bytes that were taken, and answers
+    // what becomes of the statement.
+    pub(crate) fn turn(
+        &mut self,
+        writer: u8,
+        level: Option<Level>,
+        stamp: u64,
+        taken: &[u8],
+    ) -> Turn
+        requires writer { writer < 8 }
+        requires place { slice_index_or self.old.places writer 0 + 1 < 2 ^ 32 }
+        requires room { 0 < self.old.turns.room }
+        requires taken { self.old.listener.seen + length taken.now < 2 ^ 32 }
+        ensures turn { result ≡ record {
+          writer = writer;
+          place = slice_index_or self.old.places writer 0;
+          stamp = stamp;
+          floor = self.new.listener.floor;
+          seen = self.new.listener.seen;
+          sent = is_sent level self.new.listener.floor;
+        } }
+        ensures turns { self.new.turns.turns ≡ self.old.turns.turns ++ result ∷ [] }
+        ensures steers { (s : AnyScript) (got : List ℕ)
+            → Steers s got self.old.turns self.old.places
+            self.old.listener.ear self.old.listener.seen self.old.listener.floor
+            → slice_index_or self.old.places writer 0 < count s writer
+            → level ≡ level_at s writer (slice_index_or self.old.places writer 0)
+            → stamp ≡ stamp_number s (length self.old.turns.turns)
+            → length taken.now ≤ 192
+            → Steers s (got ++ taken.now) self.new.turns self.new.places
+            self.new.listener.ear self.new.listener.seen self.new.listener.floor }
+    {
+        self.listener.hear_all(taken);
+        let floor = self.listener.floor();
+        let place = self.places[writer as usize];
+        let turn = Turn {
+            writer,
+            place,
+            stamp,
+            floor,
+            seen: self.listener.seen(),
+            sent: is_sent(level, floor),
+        };
+        self.places[writer as usize] = place + 1;
+        self.turns.push_reserved(turn);
+        turn
+    }
+
+    // How many turns there were.
+    pub(crate) fn count(&self) -> usize
+        ensures { result ≡ length self.now.turns.turns }
+    {
+        self.turns.len()
+    }
+
+    // How many turns a writer had.
+    pub(crate) fn place(&self, writer: u8) -> u32
+        requires { writer < 8 }
+        ensures { result ≡ slice_index_or self.now.places writer 0 }
+    {
+        self.places[writer as usize]
+    }
+}

@@ -1,0 +1,70 @@
+// What a steered logger's writers share.
+ghost use Rattle.std.specs.Prelude.{◌≡◌};
+ghost use Rattle.std.specs.Coded.{Coded-set};
+ghost use Rattle.defmt_script.specs.Codes.{coded_script};
+
+use crate::bridge::Bridge;
+use defmt_hooks::Clock;
+use rtt_modes::Relief;
+use rtt_ring::{DownEnd, UpEnd};
+use shared_work::{Quota, Work};
+use std::marker::{Brand, PhantomData};
+use std::sync::Wait;
+
+/// Which script a steered logger has, and from which splits of two rings its ends come. Whoever starts it picks the three.
+pub trait Naming {
+    ghost use Rattle.std.specs.Prelude.{ℕ, List};
+    ghost use Rattle.defmt_script.specs.Script.{Script};
+
+    /// The script.
+    ghost script: { Script };
+
+    /// The name of the split of the ring that frames go up.
+    ghost up: { List ℕ };
+
+    /// The name of the split of the ring that orders come down.
+    ghost down: { List ℕ };
+}
+
+impl Naming for Brand {
+    ghost use Rattle.std.specs.Prelude.{[]};
+    ghost use Rattle.defmt_script.specs.State.{empty_script};
+
+    ghost script = { empty_script };
+
+    ghost up = { [] };
+
+    ghost down = { [] };
+}
+
+/// The quota of a steered logger: a writer has a turn for each of its statements.
+#[derive(Drop)]
+pub struct EachStatement<K> {
+    of: PhantomData<K>,
+}
+
+impl<K: Naming> Quota for EachStatement<K> {
+    ghost use Rattle.defmt_frames.specs.Frames.{count};
+
+    ghost quota = { λ w. count K.script w };
+}
+
+/// A bridge with what its naming tells: the script is the named one, and the ends are from the named splits.
+#[derive(Drop)]
+pub struct Steering<K: Naming, U: UpEnd, D: DownEnd, C: Clock> {
+    pub(crate) bridge: Bridge<U, D, C>,
+    pub(crate) of: PhantomData<K>,
+    ghost script: { bridge.script ≡ K.script } by { Coded-set coded_script _ _ },
+    ghost up: { bridge.up.split ≡ K.up },
+    ghost down: { bridge.down.split ≡ K.down },
+}
+
+impl<K: Naming, U: UpEnd, D: DownEnd, C: Clock> Work<EachStatement<K>> for Steering<K, U, D, C> {
+    ghost use Rattle.rtt_down.specs.Steered.{turns_of};
+
+    ghost done = { λ s w. turns_of w s.bridge.turns.turns };
+
+    fn step<R: Relief, W: Wait>(&mut self, rt: &W, writer: u8, relief: &mut R) {
+        self.bridge.append(rt, writer, relief);
+    }
+}
