@@ -1,16 +1,16 @@
 -- How a run ends.
-use Rattle.std.proofs.Common.{◌≡◌, ℕ, zero, suc, ◌-◌, ◌^◌, ◌<◌, ◌≤◌, List, [], ◌++◌, Bool, true, length, sym, ap, ◌∙◌, subst, inl, inr, arith}
+use Rattle.std.proofs.Common.{◌≡◌, ℕ, zero, suc, ◌-◌, ◌^◌, ◌<◌, ◌≤◌, List, [], ◌++◌, true, length, sym, ap, ◌∙◌, subst, arith}
 use Rattle.std.specs.Prelude.{min}
 use Rattle.std.proofs.Math.Nat.{min-eq_left, le-min}
 use Rattle.defmt_frames.specs.Frames.{count}
 use Rattle.defmt_lines.specs.declared.settings.RingMode.{RingMode}
 use Rattle.defmt_lines.specs.declared.settings.RingMode.TheVariants.{Block, Skip, Trim}
 use Rattle.defmt_logger.proofs.Append.{released_more}
-use Rattle.defmt_logger.specs.Kept.{Behind, IsKept, LooksIn, Reel, TellsIn}
+use Rattle.defmt_logger.specs.Kept.{Behind, IsKept, LooksIn, Reel}
 use Rattle.defmt_logger.specs.Tape.{marks_of}
 use Rattle.defmt_logger.specs.declared.mark.Mark.{Mark}
 use Rattle.defmt_script.specs.Script.{Script}
-use Rattle.defmt_writers.specs.Runs.{IsRun, ModeFits, ReachedIn}
+use Rattle.defmt_writers.specs.Runs.{IsRun, ReachedIn}
 use Rattle.rtt_ring.specs.Account.{Account}
 use Rattle.rtt_ring.specs.Views.{Up}
 
@@ -62,10 +62,3 @@ run_ends s q tape u a captured rest looks e k all sent got whole freed late told
       late = λ h. got ∙ late h;
       looked = subst (λ (n : ℕ). LooksIn mode (length tape.marks) n) (sym told) (looks_told mode (length tape.marks) u.looks few now.looks);
     }
-
-pub tells_in : (mode : RingMode) (tells : Bool) (u : Up) → ModeFits mode tells → u.tells ≡ tells → TellsIn mode u
-tells_in Block tells u f h = tt
-tells_in Skip tells u (inl e) h = absurd (cc)
-tells_in Skip tells u (inr f) h = h ∙ f
-tells_in Trim tells u (inl e) h = absurd (cc)
-tells_in Trim tells u (inr f) h = h ∙ f

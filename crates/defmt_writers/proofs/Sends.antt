@@ -6,6 +6,7 @@ use Rattle.std.proofs.Crossing.{crosses}
 use Rattle.defmt_frames.proofs.sites.Sites.TheSendSync.{the_send as sites_send}
 use Rattle.defmt_hooks.specs.declared.clock.Clock as clock
 use Rattle.defmt_intern.proofs.table.Table.TheSendSync.{the_send as table_send}
+use Rattle.defmt_lines.proofs.settings.Settings.TheSendSync.{the_send as settings_send}
 use Rattle.defmt_logger.proofs.tape.Tape.TheSendSync.{the_send as tape_send}
 use Rattle.defmt_logger.specs.contracts.desk.Desk.{the_row as desk_row}
 use Rattle.defmt_logger.specs.contracts.desk.Desk.TheInside.{the_type as inside_type}
@@ -18,6 +19,7 @@ use Rattle.defmt_spelling.proofs.names.Names.TheSendSync.{the_send as names_send
 use Rattle.defmt_values.proofs.value.Args.TheLaws.TheKnot.{crosses as values_cross}
 use Rattle.defmt_values.specs.contracts.value.Statement.{the_row as statement_row}
 use Rattle.rtt_ring.specs.declared.ends.UpEnd as up
+use Rattle.rtt_terminal.proofs.speech.Speech.TheSendSync.{the_send as speech_send}
 
 statement_send : IsSend statement_row
 statement_send = search (sendable, crosses, values_cross) depth 60
@@ -25,16 +27,19 @@ statement_send = search (sendable, crosses, values_cross) depth 60
 statements_send : IsSend statements_row
 statements_send = search (sendable, crosses, statement_send) depth 60
 
-script_send : IsSend script_row
+pub script_send : IsSend script_row
 script_send =
     view_send _ _ _ _ _
     (declared_send script_inside (
-      search sendable depth 60,
+      search (sendable, settings_send) depth 60,
       (
         search (sendable, table_send) depth 60,
         (
           search (sendable, names_send) depth 60,
-          (search (sendable, crosses, statements_send) depth 60, tt),
+          (
+            search (sendable, crosses, statements_send) depth 60,
+            (search (sendable, speech_send) depth 60, tt),
+          ),
         ),
       ),
     ))

@@ -1,10 +1,12 @@
 // How a run goes.
-ghost use Rattle.std.specs.Prelude.{◌≡◌, ◌≤◌, List, [], IfOk, length};
-ghost use Rattle.defmt_frames.specs.Frames.{pace_of};
-ghost use Rattle.defmt_logger.specs.Kept.{TellsIn};
-ghost use Rattle.defmt_logger.specs.Tape.{IsLawful, stream_of};
+ghost use Rattle.std.specs.Prelude.{◌≡◌, ◌<◌, ◌≤◌, ℕ, List, [], IfOk, length};
+ghost use Rattle.defmt_frames.specs.Frames.{count as count_of, pace_of};
+ghost use Rattle.defmt_logger.specs.Kept.{IsKept, TellsIn};
+ghost use Rattle.defmt_logger.specs.Tape.{IsLawful, marks_of, stream_of};
 ghost use Rattle.defmt_logger.specs.declared.mark.Mark.{Mark};
 ghost use Rattle.defmt_writers.specs.Runs.{IsRun, ModeFits};
+ghost use Rattle.rtt_down.specs.Steered.{IsSteered, stream_of as steered_stream};
+ghost use Rattle.rtt_down.specs.declared.turn.Turn.{Turn};
 ghost use Rattle.rtt_ring.specs.Views.{new_down, new_up};
 ghost use Rattle.shared_work.specs.Names.{AreNamed};
 
@@ -41,10 +43,14 @@ pub struct Run {
     pub looks: u64,
 }
 
-// How many bytes are enough for the stream of any tape of the script: as many as the largest frames of all its statements have.
+// How many bytes are enough for the stream of any tape of the script, and for that of any turns: as many as the largest frames of
+// all its statements have.
 #[tactic(auto, using(crate::proofs::Capture::count_next, crate::proofs::Capture::count_part))]
 fn frames_size(script: &Script) -> usize
-    ensures { (tape : List Mark) → IsLawful script.now tape → length (stream_of script.now tape) ≤ result }
+    ensures tape { (tape : List Mark) → IsLawful script.now tape
+        → length (stream_of script.now tape) ≤ result }
+    ensures turns { (turns : List Turn) (got : List ℕ) → IsSteered script.now turns got
+        → length (steered_stream script.now turns) ≤ result }
 {
     script.lawful();
     canonical_size();
@@ -56,7 +62,7 @@ fn frames_size(script: &Script) -> usize
 }
 
 // No bytes, with room for so many.
-fn empty_capture(alloc: Global, room: usize) -> Result<Bytes, Memory>
+pub(crate) fn empty_capture(alloc: Global, room: usize) -> Result<Bytes, Memory>
     ensures items { IfOk result (λ captured. captured.items ≡ []) }
     ensures room { IfOk result (λ captured. captured.room ≡ room) }
 {
@@ -86,14 +92,17 @@ fn run_named<
     captured: Bytes,
 ) -> Result<Run, Memory>
     requires pace { stamp ≡ pace_of script.settings.stamp }
-    requires up { H.Up.view up ≡ new_up (H.Up.view up).split script.settings.ring (H.Up.view up).tells }
+    requires up { H.Up.view up
+        ≡ new_up (H.Up.view up).split script.settings.ring (H.Up.view up).tells }
     requires told { TellsIn script.settings.mode (H.Up.view up) }
     requires down { H.Down.view down ≡ new_down (H.Up.view up).split script.settings.ring }
     requires captured { captured.items ≡ [] }
-    requires names { (K.script ≡ script) × (K.split ≡ (H.Up.view up).split) × (N.split ≡ (H.Up.view up).split) }
+    requires names { (K.script ≡ script) × (K.split ≡ (H.Up.view up).split)
+        × (N.split ≡ (H.Up.view up).split) }
     requires ledgers { AreNamed blanks E.names }
     ensures script { IfOk result (λ r. r.script ≡ K.script) }
-    ensures run { IfOk result (λ r. IsRun K.script r.tape.marks r.settled r.captured.items r.rest.items r.looks) }
+    ensures run { IfOk result (λ r.
+        IsRun K.script r.tape.marks r.settled r.captured.items r.rest.items r.looks) }
     ensures ring { IfOk result (λ r. r.settled.ring ≡ H.KIND) }
 {
     let reader = Reader::<N, H::Down, G> {
@@ -117,6 +126,26 @@ fn run_named<
     finish(rt, logger.shared(), &mut pens, gate, &mut drain);
     drain.take_all();
     let (tape, up, script) = logger.close(pens);
+    settle_run::<H, N, K, G>(alloc, tape, up, script, drain)
+}
+
+// Settles the ring of a run of which every statement is on the tape.
+pub(crate) fn settle_run<H: Channel, N: FromSplit, K: Naming, G: Gate>(
+    alloc: Global,
+    tape: Tape,
+    up: H::Up,
+    script: Script,
+    drain: Drain<'_, N, K, H::Down, G>,
+) -> Result<Run, Memory>
+    requires script { script ≡ K.script }
+    requires split { (H.Up.view up).split ≡ N.split }
+    requires kept { IsKept (record { script = script; tape = tape; up = H.Up.view up }) }
+    requires all { (w : ℕ) → w < 8 → marks_of w tape.marks ≡ count_of K.script w }
+    ensures script { IfOk result (λ r. r.script ≡ K.script) }
+    ensures run { IfOk result (λ r.
+        IsRun K.script r.tape.marks r.settled r.captured.items r.rest.items r.looks) }
+    ensures ring { IfOk result (λ r. r.settled.ring ≡ H.KIND) }
+{
     let reader = drain.reader;
     let looks = up.looks();
     let mut rest = Bytes::new(alloc);
@@ -150,7 +179,8 @@ pub fn run_script<H: Channel, C: Clock + Send + Drop, G: Gate + Sync, R: Threads
     requires pace { stamp ≡ pace_of script.settings.stamp }
     requires fits { ModeFits script.settings.mode H.tells }
     ensures script { IfOk result (λ r. r.script ≡ script) }
-    ensures run { IfOk result (λ r. IsRun script r.tape.marks r.settled r.captured.items r.rest.items r.looks) }
+    ensures run { IfOk result (λ r.
+        IsRun script r.tape.marks r.settled r.captured.items r.rest.items r.looks) }
     ensures ring { IfOk result (λ r. r.settled.ring ≡ H.KIND) }
 {
     let (up, down, captured) = prepare::<H>(alloc, &script)?;
@@ -170,9 +200,11 @@ pub fn run_script<H: Channel, C: Clock + Send + Drop, G: Gate + Sync, R: Threads
 // The two ends of a new ring of the script's size, which no ring refuses.
 fn split_ring<H: Channel>(alloc: Global, script: &Script) -> Result<(H::Up, H::Down), Memory>
     requires { ModeFits script.now.settings.mode H.tells }
-    ensures up { IfOk result (λ e. H.Up.view e.0 ≡ new_up (H.Up.view e.0).split script.now.settings.ring (H.Up.view e.0).tells) }
+    ensures up { IfOk result (λ e. H.Up.view e.0
+        ≡ new_up (H.Up.view e.0).split script.now.settings.ring (H.Up.view e.0).tells) }
     ensures told { IfOk result (λ e. TellsIn script.now.settings.mode (H.Up.view e.0)) }
-    ensures down { IfOk result (λ e. H.Down.view e.1 ≡ new_down (H.Up.view e.0).split script.now.settings.ring) }
+    ensures down { IfOk result (λ e. H.Down.view e.1
+        ≡ new_down (H.Up.view e.0).split script.now.settings.ring) }
 {
     script.lawful();
     match H::split(alloc, script.ring()) {
@@ -183,11 +215,16 @@ fn split_ring<H: Channel>(alloc: Global, script: &Script) -> Result<(H::Up, H::D
 }
 
 // The two ends of a new ring of the script's size, and the room for what the reader takes, with nothing in it.
-fn prepare<H: Channel>(alloc: Global, script: &Script) -> Result<(H::Up, H::Down, Bytes), Memory>
+pub(crate) fn prepare<H: Channel>(
+    alloc: Global,
+    script: &Script,
+) -> Result<(H::Up, H::Down, Bytes), Memory>
     requires { ModeFits script.now.settings.mode H.tells }
-    ensures up { IfOk result (λ e. H.Up.view e.0 ≡ new_up (H.Up.view e.0).split script.now.settings.ring (H.Up.view e.0).tells) }
+    ensures up { IfOk result (λ e. H.Up.view e.0
+        ≡ new_up (H.Up.view e.0).split script.now.settings.ring (H.Up.view e.0).tells) }
     ensures told { IfOk result (λ e. TellsIn script.now.settings.mode (H.Up.view e.0)) }
-    ensures down { IfOk result (λ e. H.Down.view e.1 ≡ new_down (H.Up.view e.0).split script.now.settings.ring) }
+    ensures down { IfOk result (λ e. H.Down.view e.1
+        ≡ new_down (H.Up.view e.0).split script.now.settings.ring) }
     ensures captured { IfOk result (λ e. e.2.items ≡ []) }
 {
     let captured = empty_capture(alloc, frames_size(script))?;

@@ -15,7 +15,7 @@ const WRITERS: u64 = 8;
 
 // Waits until other threads had their turn.
 #[derive(Clone, Copy)]
-struct Yields;
+pub(crate) struct Yields;
 
 impl Relief for Yields {
     ghost kept = { λ _. Unit {0} };
@@ -41,6 +41,26 @@ pub(crate) fn write<
     ensures relief { R.kept relief.new }
 {
     while pen.place() < pen.total() {
+        gate.pass(pen.writer(), pen.place());
+        shared.step(rt, pen, relief);
+    }
+}
+
+// Does the steps that the pen has left until so many are done, and asks the gate before each.
+pub(crate) fn write_until<
+    B: Books,
+    Q: Quota,
+    T: Work<Q>,
+    S: HasBook<B, L>,
+    L: Ledger,
+    G: Gate,
+    R: Relief,
+    W: Wait,
+>(rt: &W, shared: &Shared<B, Q, T>, pen: &mut Pen<S, L, Q>, count: u32, gate: &G, relief: &mut R)
+    requires { R.kept relief.old }
+    ensures { R.kept relief.new }
+{
+    while pen.place() < pen.total() && pen.place() < count {
         gate.pass(pen.writer(), pen.place());
         shared.step(rt, pen, relief);
     }
@@ -149,7 +169,12 @@ pub(crate) fn finish<E: Names, Q: Quota, T: Work<Q>, G: Gate, R: Relief, W: Wait
 }
 
 // Eases until all writers have ended, or waits for nothing where it isn't to ease.
-fn ease_on<R: Relief, W: Wait>(rt: &W, ended: &AtomicU64, eases: bool, mut relief: R) -> R
+pub(crate) fn ease_on<R: Relief, W: Wait>(
+    rt: &W,
+    ended: &AtomicU64,
+    eases: bool,
+    mut relief: R,
+) -> R
     requires { R.kept relief }
     ensures { R.kept result }
 {

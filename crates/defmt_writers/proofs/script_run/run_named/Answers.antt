@@ -3,8 +3,7 @@ use denote.Param.Send.{arg_send, param_send}
 use Rattle.std.proofs.Common.{◌≡◌, ◌∙◌}
 use Rattle.defmt_frames.specs.Frames.{count}
 use Rattle.defmt_logger.specs.Tape.{marks_of}
-use Rattle.defmt_script.specs.Script.{Script}
-use Rattle.defmt_writers.proofs.Ends.{below_eight, run_ends}
+use Rattle.defmt_writers.proofs.Ends.{below_eight}
 use Rattle.defmt_writers.proofs.Sends.{logging_send}
 use Rattle.defmt_writers.proofs.script_run.run_named.Goals as goal
 
@@ -13,16 +12,11 @@ work-drain-requires-send-T g c κs within =
     let b = c.type_bounds in
     param_send 2 _ (arg_send _ no _ (logging_send _ _ _ g.K.Naming g.H.Up.UpEnd g.C.Clock b.send-K b.send-H-Up b.send-C))
 
-pub returns-clause-run : goal.returns-clause-run
-returns-clause-run g c =
-    let s : Script = g.K.Naming.script in
+pub settle_run-requires-clause-all : goal.settle_run-requires-clause-all
+settle_run-requires-clause-all g c κs within =
     let close = c.close-tape.ensures in
     let ends = c.finish.ensures in
-    let made = c.in_ok-settled.ensures in
-    let drain = c.take_all.new.self in
-    run_ends s c.close-tape.result.2 c.close-tape.result.0 (g.H.Up.UpEnd.view c.close-tape.result.1) _ _ _ _
-    close.script close.kept
-    (below_eight (λ w. marks_of w c.close-tape.result.0.marks ≡ count s w)
+    below_eight (λ w. marks_of w c.close-tape.result.0.marks ≡ count g.K.Naming.script w)
     (close.p0 ∙ ends.p0 ∙ c.finish.new.pens.p0.all)
     (close.p1 ∙ ends.p1 ∙ c.finish.new.pens.p1.all)
     (close.p2 ∙ ends.p2 ∙ c.finish.new.pens.p2.all)
@@ -30,5 +24,4 @@ returns-clause-run g c =
     (close.p4 ∙ ends.p4 ∙ c.finish.new.pens.p4.all)
     (close.p5 ∙ ends.p5 ∙ c.finish.new.pens.p5.all)
     (close.p6 ∙ ends.p6 ∙ c.finish.new.pens.p6.all)
-    (close.p7 ∙ ends.p7 ∙ c.finish.new.pens.p7.all))
-    made.account.0 (made.account.1 ∙ drain.reader.got) made.rest.0 made.rest.1 (λ h. drain.idle (drain.late_is ∙ h)) c.looks-looks.ensures
+    (close.p7 ∙ ends.p7 ∙ c.finish.new.pens.p7.all)

@@ -1,0 +1,220 @@
+// How a run under orders goes.
+ghost use Rattle.std.specs.Prelude.{◌≡◌, ◌<◌, ◌≤◌, ℕ, List, true, [], IfOk, length};
+ghost use Rattle.defmt_frames.specs.Frames.{count as count_of, pace_of};
+ghost use Rattle.defmt_writers.specs.Steers.{IsSteeredRun};
+ghost use Rattle.rtt_down.specs.Kept.{IsKept};
+ghost use Rattle.rtt_down.specs.Steered.{turns_of};
+ghost use Rattle.rtt_ring.specs.Views.{new_down, new_up};
+ghost use Rattle.shared_work.specs.Names.{AreNamed};
+
+use crate::counting::FrameCount;
+use crate::gate::Gate;
+use crate::host::{Host, Hosting, send_due};
+use crate::script_run::prepare;
+use crate::writers::{finish, work};
+use defmt_hooks::{Clock, Level, Stamp};
+use defmt_script::Script;
+use dl_io::{Bytes, Memory};
+use rtt_down::{EachStatement, Naming, Steered, Steering, Turns};
+use rtt_ring::{Channel, RingFault, Settled};
+use shared_work::{Blanks, Eight, Named, Names};
+use std::alloc::Global;
+use std::marker::{Brand, PhantomData};
+use std::sync::Wait;
+use std::thread::Threads;
+
+// How many bytes the ring of orders has.
+const RING_SIZE: u32 = 256;
+
+/// What a run under orders answers.
+#[derive(Drop)]
+pub struct SteeredRun {
+    /// The script that was run.
+    pub script: Script,
+    /// A turn for each statement, in the order in which the writers acquired the logger.
+    pub turns: Turns,
+    /// The account of the ring of frames.
+    pub settled: Settled,
+    /// The bytes that the reader took.
+    pub captured: Bytes,
+    /// The bytes of frames that were sent and not taken.
+    pub rest: Bytes,
+    /// The account of the ring of orders.
+    pub orders: Settled,
+    /// The bytes of orders that were sent and that no turn took.
+    pub unheard: Bytes,
+}
+
+// Settles the two rings of a run in which every statement has its turn.
+fn settle_steered<H: Channel, N: Hosting, K: Naming, G: Gate>(
+    alloc: Global,
+    turns: Turns,
+    up: H::Up,
+    down: H::Down,
+    script: Script,
+    host: Host<'_, N, H::Up, H::Down, G>,
+) -> Result<SteeredRun, Memory>
+    requires script { script ≡ K.script }
+    requires up { (H.Up.view up).split ≡ N.up }
+    requires down { (H.Down.view down).split ≡ N.down }
+    requires kept { IsKept (record {
+      script = script;
+      turns = turns;
+      up = H.Up.view up;
+      down = H.Down.view down;
+    }) }
+    requires all { (w : ℕ) → w < 8 → turns_of w turns.turns ≡ count_of K.script w }
+    requires plan { N.plan ≡ K.script.settings.orders }
+    ensures script { IfOk result (λ r. r.script ≡ K.script) }
+    ensures run { IfOk result (λ r. IsSteeredRun K.script
+        r.turns.turns r.settled r.captured.items r.rest.items r.orders r.unheard.items) }
+    ensures rings { IfOk result (λ r. (r.settled.ring ≡ H.KIND) × (r.orders.ring ≡ H.KIND)) }
+{
+    let mut rest = Bytes::new(alloc);
+    let settled = H::settle(up, host.reads, &mut rest)?;
+    let mut unheard = Bytes::new(alloc);
+    let orders = H::settle(host.sends, down, &mut unheard)?;
+    Ok(SteeredRun {
+        script,
+        turns,
+        settled,
+        captured: host.captured,
+        rest,
+        orders,
+        unheard,
+    })
+}
+
+// Runs a script over the ends of two splits, under their names.
+fn run_hosted<
+    H: Channel,
+    E: Names + Send,
+    N: Hosting,
+    K: Naming + Send,
+    C: Clock + Send + Drop,
+    G: Gate + Sync,
+    R: Threads + Wait + Sync,
+>(
+    rt: &R,
+    alloc: Global,
+    blanks: Blanks,
+    script: Script,
+    orders: Vec<(u32, Level)>,
+    stamp: Stamp<C>,
+    gate: &G,
+    up: H::Up,
+    reads: H::Down,
+    captured: Bytes,
+    mut sends: H::Up,
+    down: H::Down,
+) -> Result<SteeredRun, Memory>
+    requires pace { stamp ≡ pace_of script.settings.stamp }
+    requires plan { (orders.items ≡ N.plan) × (N.plan ≡ script.settings.orders) }
+    requires up { H.Up.view up
+        ≡ new_up (H.Up.view up).split (H.Up.view up).size (H.Up.view up).tells }
+    requires reads { H.Down.view reads ≡ new_down (H.Up.view up).split (H.Up.view up).size }
+    requires captured { captured.items ≡ [] }
+    requires sends { H.Up.view sends ≡ new_up (H.Up.view sends).split 256 true }
+    requires down { H.Down.view down ≡ new_down (H.Up.view sends).split 256 }
+    requires names { (K.script ≡ script) × (K.up ≡ (H.Up.view up).split)
+        × (K.down ≡ (H.Up.view sends).split) }
+    requires hosted { (N.up ≡ (H.Up.view up).split) × (N.down ≡ (H.Up.view sends).split) }
+    requires ledgers { AreNamed blanks E.names }
+    ensures script { IfOk result (λ r. r.script ≡ K.script) }
+    ensures run { IfOk result (λ r. IsSteeredRun K.script
+        r.turns.turns r.settled r.captured.items r.rest.items r.orders r.unheard.items) }
+    ensures rings { IfOk result (λ r. (r.settled.ring ≡ H.KIND) × (r.orders.ring ≡ H.KIND)) }
+{
+    script.lawful();
+    let next = send_due(&mut sends, &orders, 0, 0);
+    let host = Host::<N, H::Up, H::Down, G> {
+        reads,
+        captured,
+        count: FrameCount::new(),
+        sends,
+        orders,
+        next,
+        gate,
+        of: PhantomData,
+    };
+    let (steered, mut helms) = Steered::<
+        Eight<Named<E>>,
+        EachStatement<K>,
+        Steering<K, H::Up, H::Down, C>,
+    >::start(alloc, blanks, script, stamp, up, down)?;
+    let mut host = work(rt, steered.shared(), &mut helms, gate, true, host);
+    finish(rt, steered.shared(), &mut helms, gate, &mut host);
+    host.take_all();
+    let (turns, up, down, script) = steered.close(helms);
+    settle_steered::<H, N, K, G>(alloc, turns, up, down, script, host)
+}
+
+// The orders of a script.
+fn orders_of(alloc: Global, script: &Script) -> Result<Vec<(u32, Level)>, Memory>
+    ensures { IfOk result (λ orders. orders.items ≡ script.now.settings.orders) }
+{
+    script.lawful();
+    let mut orders = Vec::new(alloc);
+    let mut number = 0;
+    while let Some(order) = script.order(number) {
+        orders.push(order)?;
+        number += 1;
+    }
+    Ok(orders)
+}
+
+// The two ends of a new ring for orders, whose size no ring refuses.
+fn split_orders<H: Channel>(alloc: Global) -> Result<(H::Up, H::Down), Memory>
+    requires { H.tells ≡ true }
+    ensures sends { IfOk result (λ e. H.Up.view e.0 ≡ new_up (H.Up.view e.0).split 256 true) }
+    ensures down { IfOk result (λ e. H.Down.view e.1 ≡ new_down (H.Up.view e.0).split 256) }
+{
+    match H::split(alloc, RING_SIZE) {
+        Ok(ends) => Ok(ends),
+        Err(RingFault::Memory) => Err(Memory),
+        Err(RingFault::Size) => unreachable!(),
+    }
+}
+
+/// Runs a script under orders: a thread for each writer that has statements takes their turns, and the calling thread reads the
+/// frames and sends the orders.
+///
+/// The stamp counts as the script's stamps do, and by 0 and 0 without them. Each order is sent once as many frames were captured
+/// as it says, behind the one in front of it; those that are due at first are sent before any thread is started, and the others
+/// as far as they are due after the last take. The gate is asked before each statement, and told of each take that took something. A
+/// writer whose thread couldn't be started is run by the calling thread. The call waits for its threads.
+///
+/// # Errors
+/// `Memory` where there is none.
+pub fn run_steered<H: Channel, C: Clock + Send + Drop, G: Gate + Sync, R: Threads + Wait + Sync>(
+    rt: &R,
+    alloc: Global,
+    script: Script,
+    stamp: Stamp<C>,
+    gate: &G,
+) -> Result<SteeredRun, Memory>
+    requires pace { stamp ≡ pace_of script.settings.stamp }
+    requires tells { H.tells ≡ true }
+    ensures script { IfOk result (λ r. r.script ≡ script) }
+    ensures run { IfOk result (λ r. IsSteeredRun script
+        r.turns.turns r.settled r.captured.items r.rest.items r.orders r.unheard.items) }
+    ensures rings { IfOk result (λ r. (r.settled.ring ≡ H.KIND) × (r.orders.ring ≡ H.KIND)) }
+{
+    let orders = orders_of(alloc, &script)?;
+    let (up, reads, captured) = prepare::<H>(alloc, &script)?;
+    let (sends, down) = split_orders::<H>(alloc)?;
+    run_hosted::<H, Brand, Brand, Brand, C, G, R>(
+        rt,
+        alloc,
+        Blanks::new(),
+        script,
+        orders,
+        stamp,
+        gate,
+        up,
+        reads,
+        captured,
+        sends,
+        down,
+    )
+}
