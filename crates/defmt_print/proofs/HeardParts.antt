@@ -4,14 +4,16 @@ use Rattle.std.specs.Prelude.{Option, option_to_list}
 use Rattle.defmt_decode.specs.Event.{begun_of, events_of, tells}
 use Rattle.defmt_decode.specs.declared.event.Event.{Event}
 use Rattle.defmt_framing.specs.Framing.{Framing}
+use Rattle.defmt_intern.specs.Catalog.{Catalog}
 use Rattle.defmt_intern.specs.Table.{Map}
+use Rattle.defmt_intern.specs.declared.table.Profile.{Profile}
 use Rattle.defmt_listen.specs.Heard.{Reported}
 use Rattle.defmt_listen.proofs.Fronts.{begun_nothing}
 use Rattle.defmt_print.specs.Heard.{by_keeping}
 use Rattle.defmt_print.specs.declared.kept.Kept.{Kept}
 use Rattle.defmt_print.proofs.Events.{keeps_all}
 
-pub heard_both : (t : Map) (one two : Framing) (first rest : List ℕ) (start middle end : Kept) (events : List Event) (last : Option Event) → start.events ≡ []
+pub heard_both : (t : Catalog) (one two : Framing) (first rest : List ℕ) (start middle end : Kept) (events : List Event) (last : Option Event) → start.events ≡ []
     → Reported (tells t) by_keeping one start middle [] first → Reported (tells t) by_keeping two middle end first rest
     → events_of t (first ++ rest) ≡ begun_of t (first ++ rest) ++ option_to_list last → events ≡ end.events ++ option_to_list last → events ≡ events_of t (first ++ rest)
 heard_both t one two first rest start middle end events last none a b ends is =
@@ -23,5 +25,11 @@ heard_both t one two first rest start middle end events last none a b ends is =
     is ∙ ap (λ (l : List Event). l ++ option_to_list last) all ∙ sym ends
 
 -- by another name of the table
-pub by_table : (t table : Map) (stream : List ℕ) (events : List Event) → events ≡ events_of table stream → table ≡ t → events ≡ events_of t stream
-by_table t table stream events is table_is = is ∙ ap (λ (m : Map). events_of m stream) table_is
+pub by_table : (t table : Catalog) (stream : List ℕ) (events : List Event) → events ≡ events_of table stream → table ≡ t → events ≡ events_of t stream
+by_table t table stream events is table_is = is ∙ ap (λ (c : Catalog). events_of c stream) table_is
+
+-- a table is that of these entries and this profile
+pub same_catalog : (t u : Catalog) → t.entries ≡ u.entries → t.profile ≡ u.profile → t ≡ u
+same_catalog t u entries profile =
+    ap (λ (m : Map). let c : Catalog = record { entries = m; profile = t.profile } in c) entries
+    ∙ ap (λ (p : Profile). let c : Catalog = record { entries = u.entries; profile = p } in c) profile

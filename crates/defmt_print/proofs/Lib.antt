@@ -1,7 +1,12 @@
+pub mod Between
 pub mod Events
+pub mod Gaps
 pub mod HeardParts
 pub mod Lines
 pub mod Marks
 pub mod Numbered
+pub mod OrderLaws
+pub mod ShownLines
 pub mod Sizes
 pub mod Stamped
+pub mod Texts

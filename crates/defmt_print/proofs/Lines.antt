@@ -1,26 +1,30 @@
--- In blocking and skip mode the events of what was sent are the lines of the frames that were sent whole.
-use Rattle.std.proofs.Common.{◌≡◌, ◌≤◌, ◌<◌, ◌+◌, ℕ, List, [], ◌∷◌, ◌++◌, Bool, length, map, drop, refl, sym, subst, ◌∙◌, ap, arith, append_assoc}
+-- In blocking and skip mode the events of what was sent are the lines of the frames that were sent whole, with their places.
+use Rattle.std.proofs.Common.{◌≡◌, ◌≤◌, ◌<◌, ◌+◌, ℕ, List, [], ◌∷◌, ◌++◌, Bool, length, map, drop, refl, sym, ◌∙◌, ap, arith, append_assoc}
 use Rattle.std.specs.Prelude.{if◌then◌else◌, Option, Some, None, slice_get}
 use Rattle.std.proofs.lemmas.Bool.{le-leb}
-use Rattle.std.proofs.lemmas.List.{append-nil}
+use Rattle.std.proofs.lemmas.List.{append-nil, map-append}
 use Rattle.defmt_decode.specs.Event.{events_of}
 use Rattle.defmt_decode.specs.Sent.{Sent, AreSent, IsSent, code_of, front_event, line_of, sent_from, stream_of as frames_of}
 use Rattle.defmt_decode.specs.declared.event.Event.{Event}
+use Rattle.defmt_decode.specs.declared.event.Event.TheVariants.{Line}
 use Rattle.defmt_eager.specs.Line.{eager_line}
+use Rattle.defmt_encode.proofs.Placing.{placed}
 use Rattle.defmt_encode.specs.Carry.{message_of, stamp_args}
+use Rattle.defmt_encode.specs.Placed.{place_in}
 use Rattle.defmt_frames.proofs.Frames.{sound_at, writer_below}
 use Rattle.defmt_frames.specs.Frames.{first_stamp, frame_at, frame_with, stamp_step, statements_of}
 use Rattle.defmt_values.specs.Sound.{AreSound}
 use Rattle.defmt_framing.specs.Cut.{front}
 use Rattle.defmt_framing.specs.Frames.{frame_of, frames}
-use Rattle.defmt_intern.specs.Table.{Map}
+use Rattle.defmt_intern.specs.Catalog.{Catalog}
 use Rattle.defmt_lines.specs.declared.settings.RingMode.{RingMode}
 use Rattle.defmt_lines.specs.declared.settings.RingMode.TheVariants.{Block, Skip, Trim}
-use Rattle.defmt_logger.specs.Tape.{IsLawful as IsLawfulTape, line_by, line_with, lines_of, mark_frame, mark_line, stream_from, stream_of}
+use Rattle.defmt_logger.specs.Tape.{IsLawful as IsLawfulTape, line_with, mark_frame, mark_line, stream_from, stream_of}
 use Rattle.defmt_logger.specs.declared.mark.Mark.{Mark}
 use Rattle.defmt_print.proofs.Marks.{AreGood, IsGood, IsKept, are_good, there}
 use Rattle.defmt_print.proofs.Stamped.{Fit}
-use Rattle.defmt_print.specs.Heard.{AreLines, LinesIn}
+use Rattle.defmt_print.specs.Heard.{LinesIn, catalog_of, event_by, mark_events, whole_events, whole_from}
+use Rattle.defmt_print.specs.Printed.{mark_statement}
 use Rattle.defmt_script.specs.Lawful.{IsLawful, IsSound, stamp_in}
 use Rattle.defmt_script.specs.Script.{Script}
 use Rattle.defmt_values.specs.declared.value.Statement.{Statement}
@@ -38,8 +42,8 @@ pub record Known (s : Script) : Type 0 where
 
 -- ---- statements as they are sent
 
-abbrev sent_of : Script → ℕ → Statement → Sent
-sent_of s n stm = record { stamp = stamp_args (stamp_in s.settings.stamp n); index = stm.index; args = stm.args }
+abbrev sent_of : Script → ℕ → ℕ → Statement → Sent
+sent_of s number n stm = record { place = place_in s.settings.profile number; stamp = stamp_args (stamp_in s.settings.stamp n); index = stm.index; args = stm.args }
 
 -- those of a frame that was sent whole
 abbrev sent_by : Fate → Sent → List Sent
@@ -50,37 +54,38 @@ sent_by (Cut need room) x = []
 abbrev statement_at : (s : Script) (m : Mark) → IsGood s m → Statement
 statement_at s m good = (there (statements_of s m.writer) m.place good.placed).0
 
-abbrev mark_sent : (s : Script) (m : Mark) → IsGood s m → Sent
-mark_sent s m good = sent_of s m.stamp (statement_at s m good)
+abbrev mark_sent : (s : Script) (number : ℕ) (m : Mark) → IsGood s m → Sent
+mark_sent s number m good = sent_of s number m.stamp (statement_at s m good)
 
-abbrev sents : (s : Script) (tape : List Mark) → AreGood s tape → List Sent
-sents s [] good = []
-sents s (m ∷ ms) good = sent_by m.fate (mark_sent s m good.0) ++ sents s ms good.1
+-- where the first mark has this number
+abbrev sents : (s : Script) (number : ℕ) (tape : List Mark) → AreGood s tape → List Sent
+sents s number [] good = []
+sents s number (m ∷ ms) good = sent_by m.fate (mark_sent s number m good.0) ++ sents s (number + 1) ms good.1
 
 -- ---- what was sent is the stream of their frames
 
 part_is : (s : Script) (number : ℕ) (m : Mark) (stm : Statement) → slice_get (statements_of s m.writer) m.place ≡ Some stm → (fate : Fate) → IsKept fate
-    → part_of (mark_frame s number m) fate ≡ frames (map (code_of s.table) (sent_by fate (sent_of s m.stamp stm)))
+    → part_of (mark_frame s number m) fate ≡ frames (map (code_of (catalog_of s)) (sent_by fate (sent_of s number m.stamp stm)))
 unfolding frame_at frames
 part_is s number m stm found Whole kept =
-    ap (frame_with s.table (stamp_in s.settings.stamp m.stamp)) found ∙ sym (append-nil (frame_of (code_of s.table (sent_of s m.stamp stm))))
+    ap (frame_with s.table (place_in s.settings.profile number) (stamp_in s.settings.stamp m.stamp)) found ∙ sym (append-nil (frame_of (code_of (catalog_of s) (sent_of s number m.stamp stm))))
 part_is s number m stm found (Dropped need room) kept = refl
 part_is s number m stm found (Cut need room) kept = absurd kept
 
-frames-append : (t : Map) (xs ys : List Sent) → frames (map (code_of t) (xs ++ ys)) ≡ frames (map (code_of t) xs) ++ frames (map (code_of t) ys)
+frames-append : (t : Catalog) (xs ys : List Sent) → frames (map (code_of t) (xs ++ ys)) ≡ frames (map (code_of t) xs) ++ frames (map (code_of t) ys)
 unfolding frames
 frames-append t [] ys = refl
 frames-append t (x ∷ xs) ys =
     ap (λ (l : List ℕ). frame_of (code_of t x) ++ l) (frames-append t xs ys) ∙ sym (append_assoc (frame_of (code_of t x)) (frames (map (code_of t) xs)) (frames (map (code_of t) ys)))
 
-stream_is : (s : Script) (number : ℕ) (tape : List Mark) (good : AreGood s tape) → stream_from s number tape ≡ frames_of s.table (sents s tape good)
+stream_is : (s : Script) (number : ℕ) (tape : List Mark) (good : AreGood s tape) → stream_from s number tape ≡ frames_of (catalog_of s) (sents s number tape good)
 unfolding frames
 stream_is s number [] good = refl
 stream_is s number (m ∷ ms) good =
-    let x = mark_sent s m good.0 in
+    let x = mark_sent s number m good.0 in
     ap (λ (l : List ℕ). l ++ stream_from s (number + 1) ms) (part_is s number m (statement_at s m good.0) (there (statements_of s m.writer) m.place good.0.placed).1 m.fate good.0.kept)
-    ∙ ap (λ (l : List ℕ). frames (map (code_of s.table) (sent_by m.fate x)) ++ l) (stream_is s (number + 1) ms good.1)
-    ∙ sym (frames-append s.table (sent_by m.fate x) (sents s ms good.1))
+    ∙ ap (λ (l : List ℕ). frames (map (code_of (catalog_of s)) (sent_by m.fate x)) ++ l) (stream_is s (number + 1) ms good.1)
+    ∙ sym (frames-append (catalog_of s) (sent_by m.fate x) (sents s (number + 1) ms good.1))
 
 -- ---- each of them is sent
 
@@ -89,41 +94,43 @@ stamp_sound None = tt
 stamp_sound (Some n) = (tt, tt)
 
 abbrev Short : Type 0
-Short = (t : Map) (x : Sent) → length (message_of t x.stamp x.index x.args) ≤ 2000 → length (code_of t x) ≤ 65536
+Short = (t : Catalog) (x : Sent) → length (message_of t.entries x.place x.stamp x.index x.args) ≤ 2000 → length (code_of t x) ≤ 65536
 
-is_sent : (s : Script) → Known s → Short → (m : Mark) (good : IsGood s m) → IsSent s.table (mark_sent s m good)
-is_sent s known short m good =
+is_sent : (s : Script) → Known s → Short → (number : ℕ) (m : Mark) (good : IsGood s m) → IsSent (catalog_of s) (mark_sent s number m good)
+is_sent s known short number m good =
     let stm = statement_at s m good in
     let found = (there (statements_of s m.writer) m.place good.placed).1 in
-    let sound : IsSound s.table s.settings.stamp stm = sound_at s m.writer m.place stm known.lawful found in
+    let sound : IsSound s.table s.settings stm = sound_at s m.writer m.place stm known.lawful found in
     let below : m.writer < 8 = omega (arith, writer_below s.writers m.writer m.place good.placed, known.lawful.eight) in
     record {
+      placed = placed s.settings.profile number;
       stamp_fits = known.fit.fits s m.stamp known.lawful good.small;
       fits = sound.fits;
       logged = sound.logged;
       stamp_sound = stamp_sound (stamp_in s.settings.stamp m.stamp);
       sound = known.sound m.writer m.place stm below found;
       narrow = known.fit.narrow s m.stamp stm known.lawful good.small sound;
-      short = short s.table (mark_sent s m good) (sound.short m.stamp);
+      short = short (catalog_of s) (mark_sent s number m good) (sound.short number m.stamp);
     }
 
-sent_more : (t : Map) (fate : Fate) (x : Sent) (xs : List Sent) → IsSent t x → AreSent t xs → AreSent t (sent_by fate x ++ xs)
+sent_more : (t : Catalog) (fate : Fate) (x : Sent) (xs : List Sent) → IsSent t x → AreSent t xs → AreSent t (sent_by fate x ++ xs)
 sent_more t Whole x xs sent all = (sent, all)
 sent_more t (Dropped need room) x xs sent all = all
 sent_more t (Cut need room) x xs sent all = all
 
-are_sent : (s : Script) → Known s → Short → (tape : List Mark) (good : AreGood s tape) → AreSent s.table (sents s tape good)
-are_sent s known short [] good = tt
-are_sent s known short (m ∷ ms) good = sent_more s.table m.fate (mark_sent s m good.0) (sents s ms good.1) (is_sent s known short m good.0) (are_sent s known short ms good.1)
+are_sent : (s : Script) → Known s → Short → (number : ℕ) (tape : List Mark) (good : AreGood s tape) → AreSent (catalog_of s) (sents s number tape good)
+are_sent s known short number [] good = tt
+are_sent s known short number (m ∷ ms) good =
+    sent_more (catalog_of s) m.fate (mark_sent s number m good.0) (sents s (number + 1) ms good.1) (is_sent s known short number m good.0) (are_sent s known short (number + 1) ms good.1)
 
 -- ---- their events
 
-front_none : (t : Map) (xs : List Sent) → front (frames_of t xs) ≡ []
+front_none : (t : Catalog) (xs : List Sent) → front (frames_of t xs) ≡ []
 unfolding front frames
 front_none t [] = refl
 front_none t (x ∷ xs) = refl
 
-all_from : (t : Map) (at : ℕ) (xs : List Sent) → sent_from t 0 at xs ≡ xs
+all_from : (t : Catalog) (at : ℕ) (xs : List Sent) → sent_from t 0 at xs ≡ xs
 unfolding sent_from
 all_from t at [] = refl
 all_from t at (x ∷ xs) =
@@ -131,10 +138,10 @@ all_from t at (x ∷ xs) =
     ap (λ (b : Bool). (if b then x ∷ [] else []) ++ more) (le-leb 0 at (omega arith)) ∙ ap (λ (l : List Sent). x ∷ l) (all_from t (at + length (frame_of (code_of t x))) xs)
 
 abbrev WithoutFront : Type 0
-WithoutFront = (t : Map) (place : ℕ) (xs : List Sent) → AreSent t xs
+WithoutFront = (t : Catalog) (place : ℕ) (xs : List Sent) → AreSent t xs
     → events_of t (drop place (frames_of t xs)) ≡ front_event (front (drop place (frames_of t xs))) ++ map (line_of t) (sent_from t place 0 xs)
 
-lines_sent : WithoutFront → (t : Map) (xs : List Sent) → AreSent t xs → events_of t (frames_of t xs) ≡ map (line_of t) xs
+lines_sent : WithoutFront → (t : Catalog) (xs : List Sent) → AreSent t xs → events_of t (frames_of t xs) ≡ map (line_of t) xs
 lines_sent law t xs sent =
     law t 0 xs sent ∙ ap (λ (l : List ℕ). front_event l ++ map (line_of t) (sent_from t 0 0 xs)) (front_none t xs)
     ∙ ap (map (line_of t)) (all_from t 0 xs)
@@ -146,35 +153,36 @@ pub line_is : (s : Script) (m : Mark) (stm : Statement) → slice_get (statement
 unfolding mark_line
 line_is s m stm found = ap (line_with s.table (stamp_in s.settings.stamp m.stamp)) (sym found)
 
-one_line : (t : Map) (fate : Fate) (x : Sent) (line : List ℕ) (xs : List Sent) (lines : List (List ℕ)) → eager_line t x.stamp x.index x.args ≡ line
-    → AreLines (map (line_of t) xs) lines → AreLines (map (line_of t) (sent_by fate x ++ xs)) (line_by fate line ++ lines)
-one_line t Whole x line xs lines is all = (is, all)
-one_line t (Dropped need room) x line xs lines is all = all
-one_line t (Cut need room) x line xs lines is all = all
+fate_events : (s : Script) (number : ℕ) (m : Mark) (stm : Statement) (fate : Fate) → slice_get (statements_of s m.writer) m.place ≡ Some stm
+    → map (line_of (catalog_of s)) (sent_by fate (sent_of s number m.stamp stm)) ≡ event_by fate (place_in s.settings.profile number) (mark_statement s m) (mark_line s m)
+fate_events s number m stm Whole found =
+    let place : Option ℕ = place_in s.settings.profile number in
+    ap (λ (line : List ℕ). Line stm.index place line ∷ []) (line_is s m stm found)
+    ∙ ap (λ (o : Option Statement). event_by Whole place o (mark_line s m)) (sym found)
+fate_events s number m stm (Dropped need room) found = refl
+fate_events s number m stm (Cut need room) found = refl
 
-lines_are : (s : Script) (tape : List Mark) (good : AreGood s tape) → AreLines (map (line_of s.table) (sents s tape good)) (lines_of s tape)
-lines_are s [] good = tt
-lines_are s (m ∷ ms) good =
-    one_line s.table m.fate (mark_sent s m good.0) (mark_line s m) (sents s ms good.1) (lines_of s ms)
-    (line_is s m (statement_at s m good.0) (there (statements_of s m.writer) m.place good.0.placed).1) (lines_are s ms good.1)
+lines_are : (s : Script) (number : ℕ) (tape : List Mark) (good : AreGood s tape) → map (line_of (catalog_of s)) (sents s number tape good) ≡ whole_from s number tape
+lines_are s number [] good = refl
+lines_are s number (m ∷ ms) good =
+    map-append (line_of (catalog_of s)) (sent_by m.fate (mark_sent s number m good.0)) (sents s (number + 1) ms good.1)
+    ∙ ap (λ (l : List Event). l ++ map (line_of (catalog_of s)) (sents s (number + 1) ms good.1))
+    (fate_events s number m (statement_at s m good.0) m.fate (there (statements_of s m.writer) m.place good.0.placed).1)
+    ∙ ap (λ (l : List Event). mark_events s number m ++ l) (lines_are s (number + 1) ms good.1)
 
 -- ---- both
 
 heard_lines : (s : Script) → Known s → Short → WithoutFront → (tape : List Mark) → IsLawfulTape s tape → (s.settings.mode ≡ Trim → ⊥)
-    → AreLines (events_of s.table (stream_of s tape)) (lines_of s tape)
+    → events_of (catalog_of s) (stream_of s tape) ≡ whole_events s tape
 heard_lines s known short law tape lawful mode =
     let good : AreGood s tape = are_good s tape known.lawful lawful mode known.base known.step in
-    let is : events_of s.table (stream_of s tape) ≡ map (line_of s.table) (sents s tape good) =
-    ap (events_of s.table) (stream_is s 0 tape good) ∙ lines_sent law s.table (sents s tape good) (are_sent s known short tape good) in
-    subst (λ (l : List Event). AreLines l (lines_of s tape)) (sym is) (lines_are s tape good)
+    ap (events_of (catalog_of s)) (stream_is s 0 tape good) ∙ lines_sent law (catalog_of s) (sents s 0 tape good) (are_sent s known short 0 tape good) ∙ lines_are s 0 tape good
 
-in_mode : (mode : RingMode) (s : Script) (tape : List Mark) (events : List Event) → ((mode ≡ Trim → ⊥) → AreLines events (lines_of s tape)) → LinesIn mode s tape events
+in_mode : (mode : RingMode) (s : Script) (tape : List Mark) (events : List Event) → ((mode ≡ Trim → ⊥) → events ≡ whole_events s tape) → LinesIn mode s tape events
 in_mode Block s tape events lines = lines (λ e. absurd (cc e))
 in_mode Skip s tape events lines = lines (λ e. absurd (cc e))
 in_mode Trim s tape events lines = tt
 
-pub lines_in : (s : Script) → Known s → Short → WithoutFront → (tape : List Mark) (sent : List ℕ) (events : List Event) → IsLawfulTape s tape → sent ≡ stream_of s tape
-    → events ≡ events_of s.table sent → LinesIn s.settings.mode s tape events
-lines_in s known short law tape sent events lawful sent_is events_are =
-    in_mode s.settings.mode s tape events (λ mode.
-    subst (λ (l : List Event). AreLines l (lines_of s tape)) (sym (events_are ∙ ap (events_of s.table) sent_is)) (heard_lines s known short law tape lawful mode))
+pub lines_in : (s : Script) → Known s → Short → WithoutFront → (tape : List Mark) → IsLawfulTape s tape → LinesIn s.settings.mode s tape (events_of (catalog_of s) (stream_of s tape))
+lines_in s known short law tape lawful =
+    in_mode s.settings.mode s tape (events_of (catalog_of s) (stream_of s tape)) (λ mode. heard_lines s known short law tape lawful mode)

@@ -14,12 +14,12 @@ use Rattle.defmt_values.specs.declared.value.Statement.{Statement}
 -- what the laws of scripts say of stamps
 pub record Fit : Type 0 where
   pub fits : (s : Script) (n : ℕ) → IsLawful s → n < 2 ^ 64 → FitsStamp s.table (stamp_of s.table) (stamp_args (stamp_in s.settings.stamp n))
-  pub narrow : (s : Script) (n : ℕ) (stm : Statement) → IsLawful s → n < 2 ^ 64 → IsSound s.table s.settings.stamp stm
+  pub narrow : (s : Script) (n : ℕ) (stm : Statement) → IsLawful s → n < 2 ^ 64 → IsSound s.table s.settings stm
       → IsWide s.table (stamp_args (stamp_in s.settings.stamp n)) stm.index stm.args → ⊥
 
 -- the table and the stamp may have other names
 pub prints : Fit → (s : Script) → IsLawful s → (table : Map) (n : ℕ) (stamp : Option ℕ) (stm : Statement) → table ≡ s.table → stamp ≡ stamp_in s.settings.stamp n
-    → n < 2 ^ 64 → IsSound s.table s.settings.stamp stm → Prints table stamp stm
+    → n < 2 ^ 64 → IsSound s.table s.settings stm → Prints table stamp stm
 prints fit s lawful table n stamp stm table_is stamp_is small sound =
     subst (λ (m : Map). Prints m stamp stm) (sym table_is) (subst (λ (o : Option ℕ). Prints s.table o stm) (sym stamp_is) (record {
       stamp_fits = fit.fits s n lawful small;

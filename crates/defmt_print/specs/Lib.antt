@@ -1,3 +1,6 @@
 pub mod Output
-pub mod Heard
 pub mod Printed
+pub mod Shown
+pub mod Heard
+pub mod OrderLines
+pub mod Terminals

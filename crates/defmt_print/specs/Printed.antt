@@ -1,20 +1,20 @@
 -- What is printed of a script and of its run.
-use Rattle.std.specs.Prelude.{◌+◌, ◌<◌, ◌==◌, ℕ, Bool, true, false, List, [], ◌∷◌, ◌++◌, codes, length, Option, Some, None, flat_map, count_by, sum_by, slice_get, if◌then◌else◌}
+use Rattle.std.specs.Prelude.{◌+◌, ◌<◌, ◌==◌, ℕ, Bool, true, false, List, [], ◌∷◌, ◌++◌, codes, length, Option, Some, None, flat_map, count_by, sum_by, slice_get}
 use Rattle.std.specs.Fmt.{decimal}
 use Rattle.std.specs.List.{AllByRecursion}
 use Rattle.defmt_eager.specs.Line.{eager_line, IsWide}
 use Rattle.defmt_intern.specs.Stamp.{stamp_of}
 use Rattle.defmt_encode.specs.Carry.{message_of, stamp_args}
+use Rattle.defmt_encode.specs.Placed.{place_in}
 use Rattle.defmt_frames.specs.Frames.{count, stamp_number, statements_of}
 use Rattle.defmt_intern.specs.Table.{Map}
 use Rattle.defmt_intern.specs.declared.entry.Entry.{Entry}
 use Rattle.defmt_intern.specs.declared.entry.Tag.{Tag}
 use Rattle.defmt_intern.specs.declared.entry.Tag.TheVariants as tags
-use Rattle.defmt_logger.specs.Tape.{mark_line}
 use Rattle.defmt_logger.specs.declared.mark.Mark.{Mark}
 use Rattle.defmt_print.specs.Output.{ended}
-use Rattle.defmt_print.specs.declared.counts.Level.{Level}
-use Rattle.defmt_print.specs.declared.counts.Level.TheVariants as levels
+use Rattle.defmt_hooks.specs.declared.level.Level.{Level}
+use Rattle.defmt_hooks.specs.declared.level.Level.TheVariants as levels
 use Rattle.defmt_script.specs.Lawful.{stamp_in}
 use Rattle.defmt_script.specs.Script.{Script}
 use Rattle.defmt_values.specs.Entries.{look}
@@ -44,23 +44,12 @@ all_statements writers = flat_map (λ list. list) writers
 abbrev pub statement_lines : Script → List ℕ
 statement_lines s = numbered (numbered_line s) 0 (all_statements s.writers)
 
--- ---- the lines of the frames that were sent whole, writer by writer
+-- ---- the line of a frame that was sent whole
 
 abbrev pub whole_by : Fate → List ℕ → List ℕ
 whole_by Whole line = ended line
 whole_by (Dropped need room) line = []
 whole_by (Cut need room) line = []
-
-abbrev pub writer_line : Script → ℕ → Mark → List ℕ
-writer_line s writer m = if m.writer == writer then whole_by m.fate (mark_line s m) else []
-
--- the lines of one writer in the tape's order
-abbrev pub writer_lines : Script → List Mark → ℕ → List ℕ
-writer_lines s tape writer = flat_map (writer_line s writer) tape
-
--- those of the writers 0 to 7 in order
-abbrev pub group_lines : Script → List Mark → List ℕ
-group_lines s tape = flat_map (writer_lines s tape) (0 ∷ 1 ∷ 2 ∷ 3 ∷ 4 ∷ 5 ∷ 6 ∷ 7 ∷ [])
 
 -- ---- counts over the tape
 
@@ -89,13 +78,13 @@ entry_has_level level (Some entry) = has_level level entry.tag
 unfoldable pub is_of_level : Script → Level → Mark → Bool
 is_of_level s level m = entry_has_level level (entry_with s.table (mark_statement s m))
 
-abbrev pub carried_message : Map → Option ℕ → Option Statement → List ℕ
-carried_message table stamp None = []
-carried_message table stamp (Some stm) = message_of table (stamp_args stamp) stm.index stm.args
+abbrev pub carried_message : Map → Option ℕ → Option ℕ → Option Statement → List ℕ
+carried_message table place stamp None = []
+carried_message table place stamp (Some stm) = message_of table place (stamp_args stamp) stm.index stm.args
 
--- how many bytes the message of a mark has
+-- how many bytes the message of a mark has, which are as many at each place
 unfoldable pub message_size : Script → Mark → ℕ
-message_size s m = length (carried_message s.table (stamp_in s.settings.stamp m.stamp) (mark_statement s m))
+message_size s m = length (carried_message s.table (place_in s.settings.profile 0) (stamp_in s.settings.stamp m.stamp) (mark_statement s m))
 
 -- words and a number
 abbrev pub count_line : List ℕ → ℕ → List ℕ

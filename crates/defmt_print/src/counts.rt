@@ -1,25 +1,17 @@
 // Counts of the statements of a run.
 ghost use Rattle.std.specs.Prelude.{[], ◌≡◌, ◌≤◌, ◌++◌, ◌==◌, sum_by, length, IfOk, OnOk};
+ghost use Rattle.defmt_encode.specs.Placed.{place_in};
 ghost use Rattle.defmt_print.specs.Printed.{count_line, has_level, is_of_level, level_line, message_size, summary, writer_count_line};
 
 use crate::output::add_count;
 use crate::statements::stamp_in;
 use defmt_encode::message;
-use defmt_intern::Tag;
+use defmt_hooks::Level;
+use defmt_intern::{Profile, Tag};
 use defmt_logger::{Mark, Tape};
 use defmt_script::Script;
 use dl_io::{Bytes, Memory};
 use std::alloc::Global;
-
-/// A level of statements.
-#[derive(Clone, Copy, Debug, PartialEq, Eq)]
-pub enum Level {
-    Trace,
-    Debug,
-    Info,
-    Warn,
-    Error,
-}
 
 /// How many statements a run had, of each level and of each of the writers 0 to 3, and how many bytes their messages had.
 pub fn summary(alloc: Global, script: &Script, tape: &Tape) -> Result<Bytes, Memory>
@@ -127,7 +119,17 @@ fn messages_size(script: &Script, marks: &[Mark]) -> u64
     size
 }
 
-// How many bytes the message of a mark has, which is written to the buffer.
+// The place of the first mark.
+fn first_place(script: &Script) -> Option<u16>
+    ensures { result ≡ place_in script.now.settings.profile 0 }
+{
+    match script.profile() {
+        Profile::One => None,
+        Profile::Two => Some(0),
+    }
+}
+
+// How many bytes the message of a mark has, which is written to the buffer at the first place.
 fn message_size(script: &Script, mark: &Mark, buffer: &mut [u8]) -> usize
     requires { 2000 ≤ length buffer.old }
     ensures size { result ≡ message_size script.now mark.now }
@@ -138,8 +140,9 @@ fn message_size(script: &Script, mark: &Mark, buffer: &mut [u8]) -> usize
     let Some(statement) = script.statement(mark.writer, mark.place) else {
         return 0;
     };
+    let first = first_place(script);
     let carried = stamp_in(script, mark.stamp);
-    match message(table, carried, statement, buffer) {
+    match message(table, first, carried, statement, buffer) {
         Ok(size) => size,
         Err(_) => unreachable!(),
     }

@@ -14,7 +14,7 @@ pub struct Ear {
 impl Listener for Ear {
     type Event = Event;
 
-    ghost tells = { λ ear. tells ear.host.table.entries };
+    ghost tells = { λ ear. tells ear.host.table };
 
     ghost framing = { λ ear. ear.host.framing };
 

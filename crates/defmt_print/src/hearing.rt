@@ -1,14 +1,15 @@
 // What the host tells of what was sent.
-ghost use Rattle.std.specs.Prelude.{◌≡◌, ◌++◌, option_to_list, IfOk, OnOk};
+ghost use Rattle.std.specs.Prelude.{◌≡◌, ◌++◌, List, option_to_list, IfOk, OnOk};
 ghost use Rattle.defmt_decode.specs.Event.{events_of};
 ghost use Rattle.defmt_logger.specs.Tape.{IsLawful, stream_of};
-ghost use Rattle.defmt_print.specs.Heard.{LinesIn};
+ghost use Rattle.defmt_logger.specs.declared.mark.Mark.{Mark as AnyMark};
+ghost use Rattle.defmt_print.specs.Heard.{GapsIn, LinesIn, catalog_of};
 
 use crate::ear::Ear;
 use crate::kept::Kept;
 use crate::soundness::statements_are_sound;
 use crate::statements::stamps;
-use defmt_decode::{Event, Events, Host, frames_read_back, without_front};
+use defmt_decode::{Event, Events, Host, frames_read_back, gaps_count, without_front};
 use defmt_intern::Table;
 use defmt_listen::{Listener, hear_bytes};
 use defmt_logger::Tape;
@@ -16,8 +17,27 @@ use defmt_script::{Script, stamps_fit};
 use dl_io::Memory;
 use std::alloc::Global;
 
-/// The events of what was sent for a tape, which is given in two parts. In blocking and skip mode they are the lines of the
-/// frames that were sent whole.
+/// In blocking and skip mode the events of what is sent for a lawful tape are the lines of the frames that were sent whole, with
+/// the places of their marks. In profile Two the gaps that are printed between them are how many frames were dropped there. It
+/// walks through the statements once. Takes no memory.
+pub fn sent_lines(script: &Script)
+    ensures lines { (tape : List AnyMark) → IsLawful script.now tape
+        → LinesIn script.now.settings.mode script.now tape
+        (events_of (catalog_of script.now) (stream_of script.now tape)) }
+    ensures gaps { (tape : List AnyMark) → IsLawful script.now tape
+        → GapsIn script.now.settings.mode script.now.settings.profile script.now tape
+        (events_of (catalog_of script.now) (stream_of script.now tape)) }
+{
+    script.lawful();
+    stamps(script);
+    stamps_fit();
+    statements_are_sound(script);
+    frames_read_back();
+    without_front();
+    gaps_count();
+}
+
+/// The events of what was sent for a tape, which is given in two parts, and what `sent_lines` says of them.
 pub fn sent_events(
     alloc: Global,
     script: &Script,
@@ -28,23 +48,34 @@ pub fn sent_events(
     requires lawful { IsLawful script.now tape.now.marks }
     requires sent { front.now ++ rest.now ≡ stream_of script.now tape.now.marks }
     ensures events { IfOk result (λ events.
-        events ≡ events_of script.now.table (front.now ++ rest.now)) }
+        events ≡ events_of (catalog_of script.now) (front.now ++ rest.now)) }
     ensures lines { IfOk result (λ events.
         LinesIn script.now.settings.mode script.now tape.now.marks events) }
+    ensures gaps { IfOk result (λ events. GapsIn script.now.settings.mode
+        script.now.settings.profile script.now tape.now.marks events) }
 {
-    script.lawful();
-    stamps(script);
-    stamps_fit();
-    statements_are_sound(script);
-    frames_read_back();
-    without_front();
+    sent_lines(script);
+    let copy = script.table().copy()?;
+    events_of(alloc, copy, front, rest)
+}
+
+/// The events of what was sent, which is given in two parts, by the script's table.
+pub fn heard_events(
+    alloc: Global,
+    script: &Script,
+    front: &[u8],
+    rest: &[u8],
+) -> Result<Events, Memory>
+    ensures { IfOk result (λ events.
+        events ≡ events_of (catalog_of script.now) (front.now ++ rest.now)) }
+{
     let copy = script.table().copy()?;
     events_of(alloc, copy, front, rest)
 }
 
 // The events of a stream that is fed in two parts.
 fn events_of(alloc: Global, table: Table, front: &[u8], rest: &[u8]) -> Result<Events, Memory>
-    ensures { IfOk result (λ events. events ≡ events_of table.entries (front.now ++ rest.now)) }
+    ensures { IfOk result (λ events. events ≡ events_of table (front.now ++ rest.now)) }
 {
     let host = Host::new(alloc, table)?;
     let events = Events::new(alloc);

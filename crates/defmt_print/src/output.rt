@@ -1,17 +1,118 @@
-// The output lines of events, and of frames that weren't sent whole.
+// The output lines of events and of the gaps between them, and of frames that weren't sent whole.
 ghost use Rattle.std.specs.Prelude.{◌≡◌, ◌++◌, codes, OnErr, OnOk};
 ghost use Rattle.std.specs.Fmt.{decimal};
-ghost use Rattle.defmt_print.specs.Output.{ended, event_line, fault_name, is_fault, loss_line, loss_text};
+ghost use Rattle.defmt_print.specs.Output.{ended, event_line, fault_name, gap_before, gap_between, gap_line, gapped_line, is_fault, last_behind, loss_line, loss_text};
 
-use defmt_decode::Event;
+use defmt_decode::{Event, gap};
 use defmt_logger::Mark;
 use dl_io::{Bytes, Memory};
 use rtt_modes::Fate;
 use std::alloc::Global;
 
-/// Appends the output line of an event. On want of memory nothing was appended.
+/// Appends the output line of an event, and in front of it how many frames are missing since the last line, which has this
+/// place. On want of memory nothing was appended.
+#[tactic(auto, unfolding(crate::specs::Output::gapped_line))]
+pub fn add_line(
+    alloc: Global,
+    last: Option<u16>,
+    event: &Event,
+    out: &mut Bytes,
+) -> Result<(), Memory>
+    ensures appended { OnOk result (out.new.items ≡ out.old.items ++ gapped_line last event.now) }
+    ensures err { OnErr result (out.new.items ≡ out.old.items) }
+{
+    add_gapped(alloc, gap_before(last, event), event, out)
+}
+
+// How many frames are missing in front of an event, where the last line has this place.
+#[tactic(auto, unfolding(crate::specs::Output::gap_before))]
+fn gap_before(last: Option<u16>, event: &Event) -> u16
+    ensures { result ≡ gap_before last event.now }
+{
+    match event {
+        Event::Line { place, .. } => gap_between(last, *place),
+        Event::Bad { .. } | Event::CutFront { .. } | Event::CutTail { .. } => 0,
+    }
+}
+
+// How many frames are missing between two lines, where both have a place.
+fn gap_between(last: Option<u16>, next: Option<u16>) -> u16
+    ensures { result ≡ gap_between last next }
+{
+    match (last, next) {
+        (Some(last), Some(next)) => gap(last, next),
+        _ => 0,
+    }
+}
+
+/// The place of the last line, behind an event.
+#[tactic(auto, unfolding(crate::specs::Output::last_behind))]
+pub fn last_behind(last: Option<u16>, event: &Event) -> Option<u16>
+    ensures { result ≡ last_behind last event.now }
+{
+    match event {
+        Event::Line { place, .. } => *place,
+        Event::Bad { .. } | Event::CutFront { .. } | Event::CutTail { .. } => last,
+    }
+}
+
+/// Appends how many frames are missing in front of an event, where some are, since the last line, which has this place. On want
+/// of memory nothing was appended.
+pub fn add_gap(
+    alloc: Global,
+    last: Option<u16>,
+    event: &Event,
+    out: &mut Bytes,
+) -> Result<(), Memory>
+    ensures appended { OnOk result (out.new.items
+        ≡ out.old.items ++ gap_line (gap_before last event.now)) }
+    ensures err { OnErr result (out.new.items ≡ out.old.items) }
+{
+    match gap_before(last, event) {
+        0 => Ok(()),
+        count => add_report_of_gap(alloc, count, out),
+    }
+}
+
+// Appends the line of an event, and in front of it a report of so many missing frames, where some are. On want of memory nothing
+// was appended.
+fn add_gapped(alloc: Global, count: u16, event: &Event, out: &mut Bytes) -> Result<(), Memory>
+    ensures appended { OnOk result (out.new.items ≡ out.old.items
+        ++ (gap_line count ++ event_line event.now)) }
+    ensures err { OnErr result (out.new.items ≡ out.old.items) }
+{
+    match count {
+        0 => add_event(alloc, event, out),
+        _ => add_behind(alloc, count, event, out),
+    }
+}
+
+// Appends that report and the line of an event. On want of memory nothing was appended.
+fn add_behind(alloc: Global, count: u16, event: &Event, out: &mut Bytes) -> Result<(), Memory>
+    ensures appended { OnOk result (out.new.items ≡ out.old.items
+        ++ (ended (codes "-- gap " ++ decimal count) ++ event_line event.now)) }
+    ensures err { OnErr result (out.new.items ≡ out.old.items) }
+{
+    let mut told = Bytes::new(alloc);
+    add_report_of_gap(alloc, count, &mut told)?;
+    add_event(alloc, event, &mut told)?;
+    out.extend_from_slice(told.as_slice())
+}
+
+// Appends a report of so many missing frames. On want of memory nothing was appended.
+fn add_report_of_gap(alloc: Global, count: u16, out: &mut Bytes) -> Result<(), Memory>
+    ensures appended { OnOk result (out.new.items ≡ out.old.items
+        ++ ended (codes "-- gap " ++ decimal count)) }
+    ensures err { OnErr result (out.new.items ≡ out.old.items) }
+{
+    let mut told = Bytes::new(alloc);
+    add_count(alloc, b"-- gap ", u64::from(count), &mut told)?;
+    add_ended(told.as_slice(), out)
+}
+
+// Appends the line of an event. On want of memory nothing was appended.
 #[tactic(auto, unfolding(crate::specs::Output::event_line))]
-pub fn add_line(alloc: Global, event: &Event, out: &mut Bytes) -> Result<(), Memory>
+fn add_event(alloc: Global, event: &Event, out: &mut Bytes) -> Result<(), Memory>
     ensures appended { OnOk result (out.new.items ≡ out.old.items ++ event_line event.now) }
     ensures err { OnErr result (out.new.items ≡ out.old.items) }
 {
@@ -25,8 +126,8 @@ pub fn add_line(alloc: Global, event: &Event, out: &mut Bytes) -> Result<(), Mem
     add_ended(told.as_slice(), out)
 }
 
-// Appends a text and a newline. On want of memory nothing was appended.
-fn add_ended(text: &[u8], out: &mut Bytes) -> Result<(), Memory>
+/// Appends a text and a newline. On want of memory nothing was appended.
+pub(crate) fn add_ended(text: &[u8], out: &mut Bytes) -> Result<(), Memory>
     ensures appended { OnOk result (out.new.items ≡ out.old.items ++ ended text.now) }
     ensures err { OnErr result (out.new.items ≡ out.old.items) }
 {

@@ -71,7 +71,7 @@ fn add_statement(
     args: &mut Args,
     out: &mut Bytes,
 ) -> Result<(), Memory>
-    requires sound { IsSound script.now.table script.now.settings.stamp statement.now }
+    requires sound { IsSound script.now.table script.now.settings statement.now }
     requires few { number ≤ 4096 }
     ensures { OnOk result (out.new.items ≡ out.old.items
         ++ numbered_line script.now number statement.now) }

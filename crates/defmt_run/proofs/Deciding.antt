@@ -1,24 +1,32 @@
 -- What a session answers is what inputs as told come to.
-use Rattle.std.proofs.Common.{◌≡◌, inl, inr, ◌+◌, ◌≤◌, ℕ, List, [], Option, Some, None, Ok, Err, refl, sym, subst, ap, ◌∙◌, arith, length, lit≤}
+use Rattle.std.proofs.Common.{◌≡◌, inl, inr, ◌+◌, ◌≤◌, ℕ, List, [], ◌∷◌, Option, Some, None, Ok, Err, refl, sym, subst, ap, ◌∙◌, arith, length, lit≤}
 use Rattle.std.specs.Prelude.{Result, ◌⊎◌}
 use Rattle.std.specs.Io.KnownBytes.{Consumes, Keeps}
+use Rattle.std.specs.Str.Lines.{lines}
+use Rattle.std.proofs.lemmas.Bool.{true≢false}
+use Rattle.std.proofs.lemmas.Option.{same_Some}
 use Rattle.defmt_generate.specs.Generated.{generated}
 use Rattle.defmt_listen.specs.Streams.{Input, IsRest, Output}
 use Rattle.defmt_run.specs.Calls.{Files, IsUnread, IsUntouched, IsUnwritten}
-use Rattle.defmt_run.specs.Running.{Comes, ComesNot, Gave, GaveWhole, Made, ReadingComesTo, Runs, RunningComesTo, Stops, TookShort, Withholds, Writes, fault_of_read, script_limit}
+use Rattle.defmt_run.specs.Decoding.{fault_of_recording}
+use Rattle.defmt_run.specs.Dumping.{fault_of_image}
+use Rattle.defmt_run.specs.Running.{BlockingComesTo, Comes, ComesNot, Gave, GaveWhole, IsFaultOf, Made, MayNotSteer, ReadingComesTo, RefusesMode, Runs, RunningComesTo, SteeringComesTo, Stops, StopsBlocking, TookShort, Withholds, WithholdsBlocking, Writes, fault_of_read, script_limit}
 use Rattle.defmt_run.specs.Session.{Answers, AreAsTold, ComesTo, Inputs, MayComeTo, MustComeTo, OrFails, ReadsSource}
 use Rattle.defmt_run.specs.Status.{status_of}
 use Rattle.defmt_run.specs.Told.{IsUntold, Told}
 use Rattle.defmt_run.specs.declared.outcome.Fault.{Fault}
 use Rattle.defmt_run.specs.declared.outcome.Fault.TheVariants.{Fine, Memory, Words, Source, Sink, Script, Shelf, Long}
-use Rattle.defmt_run.proofs.Recordings.{decode_may, decode_one, decode_words}
+use Rattle.defmt_run.proofs.Images.{dump_may, dump_words}
+use Rattle.defmt_run.proofs.Loading.{load_one}
+use Rattle.defmt_run.proofs.Recordings.{decode_may, decode_words}
 use Rattle.defmt_run.proofs.ToldInputs.{all_taken, any_files, any_inputs, some_text}
 use Rattle.defmt_script.specs.Reads.{Reads}
 use Rattle.defmt_script.specs.Script.{Refusal, Script as Read, count_all}
 use Rattle.defmt_words.specs.declared.job.Job.{Job}
 use Rattle.defmt_words.specs.declared.job.Job.TheVariants as jobs
 use Rattle.defmt_words.specs.declared.job.ScriptJob.{ScriptJob}
-use Rattle.defmt_words.specs.declared.job.ScriptJob.TheVariants.{Generate}
+use Rattle.defmt_words.specs.declared.job.ScriptJob.TheVariants.{Generate, Steer}
+use Rattle.rtt_down.specs.Modes.{FirstMode}
 
 -- a text is read in one way
 abbrev pub OneReading : Type 0
@@ -30,18 +38,21 @@ IsReadable = (count : ℕ) → count ≤ 4096 → (script : Read) × Reads (gene
 
 -- ---- where a script comes from
 
--- a job on a script that isn't a generated one
-pub from_source : (job : ScriptJob) (input : Input) (s : Read) → ((count : ℕ) → job ≡ Generate count → ⊥) → Gave input s → Comes job input s
-from_source (Generate count) input s other gave = absurd (other count refl)
-from_source job input s other gave = gave
+-- a job on a script that is neither a generated one nor steered
+pub from_source : (job : ScriptJob) (input : Input) (s : Read) → ((count : ℕ) → job ≡ Generate count → ⊥) → (job ≡ Steer → ⊥) → Gave input s → Comes job input s
+from_source (Generate count) input s other not_steer gave = absurd (other count refl)
+from_source Steer input s other not_steer gave = absurd (not_steer refl)
+from_source job input s other not_steer gave = gave
 
 pub not_from_source : (job : ScriptJob) (input : Input) (fault : Fault) → ((count : ℕ) → job ≡ Generate count → ⊥) → Withholds input fault → ComesNot job input fault
 not_from_source (Generate count) input fault other withholds = absurd (other count refl)
+not_from_source Steer input fault other withholds = inl withholds
 not_from_source job input fault other withholds = withholds
 
 -- memory may be wanting once the script is there
 pub wanting : (job : ScriptJob) (input : Input) (s : Read) → Comes job input s → ComesNot job input Memory
 wanting (Generate count) input s comes = (refl, comes.1)
+wanting Steer input s gave = inl (gave.0.text, gave.0.whole.within, gave.0.whole.taken)
 wanting job input s gave = (gave.text, gave.whole.within, gave.whole.taken)
 
 -- a text that gives no script, of a source that was read
@@ -49,6 +60,11 @@ pub withholds : (input : Input) (text : List ℕ) (fault : Fault) → GaveWhole 
 withholds input text Memory whole stops = (text, whole.within, whole.taken)
 withholds input text (Script line cause inner) whole stops = record { text = text; whole = whole; refused = stops }
 withholds input text fault whole stops = absurd stops
+
+pub withholds_blocking : (input : Input) (text : List ℕ) (fault : Fault) → GaveWhole input text → StopsBlocking text fault → WithholdsBlocking input fault
+withholds_blocking input text fault whole (inl stops) = inl (withholds input text fault whole stops)
+withholds_blocking input text (Script line cause inner) whole (inr other) = inr (other.0, other.1, record { text = text; whole = whole; other = other.2 })
+withholds_blocking input text fault whole (inr other) = absurd other
 
 -- a generated one gives one unless memory is wanting
 pub never_stops : OneReading → IsReadable → (count : ℕ) (fault : Fault) → count ≤ 4096 → Stops (generated count) fault → fault ≡ Memory
@@ -68,10 +84,14 @@ ran job input output fault told text made writes = absurd writes
 
 never_fine : (job : ScriptJob) (input : Input) → ComesNot job input Fine → ⊥
 never_fine (Generate count) input comes_not = absurd (cc comes_not.0)
+never_fine Steer input (inl withholds) = withholds
+never_fine Steer input (inr other) = other
 never_fine job input comes_not = comes_not
 
 never_sink : (job : ScriptJob) (input : Input) → ComesNot job input Sink → ⊥
 never_sink (Generate count) input comes_not = absurd (cc comes_not.0)
+never_sink Steer input (inl withholds) = withholds
+never_sink Steer input (inr other) = other
 never_sink job input comes_not = comes_not
 
 -- no script came
@@ -117,14 +137,50 @@ module _ (input : Input) (shelf : Files) where
       read_so withholds.text (Err (record { line = line; cause = cause; inner = inner })) withholds.whole withholds.refused
   withholds_may job output fault reads withholds = absurd withholds
 
+  -- the same of a script that is steered
+  steered_so : (text : List ℕ) (read : Result Read Refusal) (fault : Fault) → GaveWhole input text → Reads text read → IsFaultOf text read fault
+      → (inputs : Inputs) × AreAsTold input.left shelf.files inputs × SteeringComesTo inputs.text fault
+  steered_so text read fault whole reads is =
+      let files = any_files shelf.files in
+      let rest : IsRest input.left text = all_taken input.left input.left_after text whole.taken whole.at_end in
+      (record { text = text; files = files.0 }, record { text = rest; files = files.1 }, inr (whole.within, (read, reads, is)))
+
+  too_long_to_steer : (bytes : List ℕ) → length bytes ≡ script_limit + 1 → Consumes input.left input.left_after bytes
+      → (inputs : Inputs) × AreAsTold input.left shelf.files inputs × SteeringComesTo inputs.text Long
+  too_long_to_steer bytes long consumes =
+      let files = any_files shelf.files in
+      let text = some_text input.left input.left_after bytes consumes in
+      (record { text = text.0; files = files.0 }, record { text = text.1; files = files.1 }, inl (omega (arith, text.2, long), refl))
+
+  steers_may : (output : Output) (fault : Fault) → Withholds input fault
+      → OrFails (jobs.Script Steer) input shelf output (MayComeTo (jobs.Script Steer) input.left shelf.files) fault
+  steers_may output Memory withholds = tt
+  steers_may output Source withholds = (tt, withholds.0)
+  steers_may output Long withholds = too_long_to_steer withholds.0 withholds.1 withholds.2
+  steers_may output (Script line cause inner) withholds =
+      steered_so withholds.text (Err (record { line = line; cause = cause; inner = inner })) (Script line cause inner) withholds.whole withholds.refused refl
+  steers_may output fault withholds = absurd withholds
+
+  other_may : (output : Output) (fault : Fault) → MayNotSteer input fault
+      → OrFails (jobs.Script Steer) input shelf output (MayComeTo (jobs.Script Steer) input.left shelf.files) fault
+  other_may output (Script line cause inner) other =
+      let r : RefusesMode input line = other.2 in
+      let same : Script line 18 0 ≡ Script line cause inner =
+      ap (λ (c : ℕ). let f : Fault = Script line c 0 in f) (sym other.0) ∙ ap (λ (n : ℕ). let f : Fault = Script line cause n in f) (sym other.1) in
+      steered_so r.text (Ok r.other.0) (Script line cause inner) r.whole r.other.1 (inr (r.other.2, (line, r.other.3, sym same)))
+  other_may output fault other = absurd other
+
   comes_may : (job : ScriptJob) (s : Read) → Comes job input s → MayComeTo (jobs.Script job) input.left shelf.files Fine
   comes_may (Generate count) s comes = let any = any_inputs input.left shelf.files in (any.0, any.1, refl)
+  comes_may Steer s gave = steered_so gave.0.text (Ok s) Fine gave.0.whole gave.0.reads (inl (gave.1, refl))
   comes_may job s gave = read_so gave.text (Ok s) gave.whole gave.reads
 
   comes_not_may : (job : ScriptJob) (output : Output) (fault : Fault) → ComesNot job input fault
       → OrFails (jobs.Script job) input shelf output (MayComeTo (jobs.Script job) input.left shelf.files) fault
   comes_not_may (Generate count) output fault comes_not =
       subst (λ (f : Fault). OrFails (jobs.Script (Generate count)) input shelf output (MayComeTo (jobs.Script (Generate count)) input.left shelf.files) f) (sym comes_not.0) tt
+  comes_not_may Steer output fault (inl withholds) = steers_may output fault withholds
+  comes_not_may Steer output fault (inr other) = other_may output fault other
   comes_not_may job output fault withholds = withholds_may (jobs.Script job) output fault tt withholds
 
   script_may : (job : ScriptJob) (output : Output) (fault : Fault) (told : Told) → Runs job input output fault told
@@ -136,7 +192,8 @@ module _ (input : Input) (shelf : Files) where
   pub may_come : (job : Job) (output : Output) (fault : Fault) (told : Told) → Answers (Some job) input shelf output fault told
       → OrFails job input shelf output (MayComeTo job input.left shelf.files) fault
   may_come (jobs.Script job) output fault told answers = script_may job output fault told answers.0
-  may_come (jobs.Decode name) output fault told answers = decode_may name input shelf output fault answers.0
+  may_come (jobs.Decode name only) output fault told answers = decode_may name only input shelf output fault answers.0
+  may_come (jobs.Dump name options only) output fault told answers = dump_may name options only input shelf output fault answers.0
 
 -- ---- inputs come to one fault
 
@@ -149,10 +206,39 @@ run_one one text fault other (inl a) (inr b) = absurd (omega (arith, a.0, b.0))
 run_one one text fault other (inr a) (inl b) = absurd (omega (arith, a.0, b.0))
 run_one one text fault other (inr a) (inr b) = text_one one text fault other a.1 b.1
 
+-- a text has one first line that sets a mode
+one_mode : (number : ℕ) (ls : List (List ℕ)) (found other : Option ℕ) → FirstMode number ls found → FirstMode number ls other → found ≡ other
+one_mode number [] found other p q = p ∙ sym q
+one_mode number (l ∷ ls) found other (inl p) (inl q) = p.1 ∙ sym q.1
+one_mode number (l ∷ ls) found other (inl p) (inr q) = absurd (q.0 p.0)
+one_mode number (l ∷ ls) found other (inr p) (inl q) = absurd (p.0 q.0)
+one_mode number (l ∷ ls) found other (inr p) (inr q) = one_mode (number + 1) ls found other p.1 q.1
+
+fault_one : (text : List ℕ) (read : Result Read Refusal) (fault other : Fault) → IsFaultOf text read other → IsFaultOf text read fault → fault ≡ other
+fault_one text (Err refusal) fault other a b = b ∙ sym a
+fault_one text (Ok s) fault other (inl a) (inl b) = b.1 ∙ sym a.1
+fault_one text (Ok s) fault other (inl a) (inr b) = absurd (true≢false (sym a.0 ∙ b.0))
+fault_one text (Ok s) fault other (inr a) (inl b) = absurd (true≢false (sym b.0 ∙ a.0))
+fault_one text (Ok s) fault other (inr a) (inr b) =
+    let line : b.1.0 ≡ a.1.0 = same_Some b.1.0 a.1.0 (one_mode 1 (lines text) (Some b.1.0) (Some a.1.0) b.1.1 a.1.1) in
+    b.1.2 ∙ ap (λ (n : ℕ). let f : Fault = Script n 18 0 in f) line ∙ sym a.1.2
+
+blocking_one : OneReading → (text : List ℕ) (fault other : Fault) → BlockingComesTo text other → BlockingComesTo text fault → fault ≡ other
+blocking_one one text fault other a b =
+    fault_one text a.0 fault other a.2 (subst (λ (read : Result Read Refusal). IsFaultOf text read fault) (one text b.0 a.0 b.1 a.1) b.2)
+
+steer_one : OneReading → (text : List ℕ) (fault other : Fault) → SteeringComesTo text other → SteeringComesTo text fault → fault ≡ other
+steer_one one text fault other (inl a) (inl b) = b.1 ∙ sym a.1
+steer_one one text fault other (inl a) (inr b) = absurd (omega (arith, a.0, b.0))
+steer_one one text fault other (inr a) (inl b) = absurd (omega (arith, a.0, b.0))
+steer_one one text fault other (inr a) (inr b) = blocking_one one text fault other a.1 b.1
+
 one_fault : OneReading → (job : Job) (inputs : Inputs) (fault other : Fault) → ComesTo job inputs other → ComesTo job inputs fault → fault ≡ other
 one_fault one (jobs.Script (Generate count)) inputs fault other a b = b ∙ sym a
+one_fault one (jobs.Script Steer) inputs fault other a b = steer_one one inputs.text fault other a b
 one_fault one (jobs.Script job) inputs fault other a b = run_one one inputs.text fault other a b
-one_fault one (jobs.Decode name) inputs fault other a b = decode_one (inputs.files name) inputs.text fault other a b
+one_fault one (jobs.Decode name only) inputs fault other a b = load_one (fault_of_recording inputs.text) (inputs.files name) fault other a b
+one_fault one (jobs.Dump name options only) inputs fault other a b = load_one (fault_of_image options inputs.text) (inputs.files name) fault other a b
 
 pub must_come : OneReading → (job : Job) (input : Input) (shelf : Files) (output : Output) (fault wanted : Fault)
     → MustComeTo job input.left shelf.files wanted → OrFails job input shelf output (MayComeTo job input.left shelf.files) fault
@@ -170,12 +256,15 @@ words_status fault is = absurd (omega (arith, is))
 
 never_words : (job : ScriptJob) (input : Input) → ComesNot job input Words → ⊥
 never_words (Generate count) input comes_not = absurd (cc comes_not.0)
+never_words Steer input (inl withholds) = withholds
+never_words Steer input (inr other) = other
 never_words job input comes_not = comes_not
 
 none_asked : (asked : Option Job) (input : Input) (shelf : Files) (output : Output) (told : Told) → Answers asked input shelf output Words told → asked ≡ None
 none_asked None input shelf output told answers = refl
 none_asked (Some (jobs.Script job)) input shelf output told answers = absurd (never_words job input answers.0.0)
-none_asked (Some (jobs.Decode name)) input shelf output told answers = absurd (decode_words name input shelf output answers.0)
+none_asked (Some (jobs.Decode name only)) input shelf output told answers = absurd (decode_words name only input shelf output answers.0)
+none_asked (Some (jobs.Dump name options only)) input shelf output told answers = absurd (dump_words name options only input shelf output answers.0)
 
 pub no_job : (asked : Option Job) (input : Input) (shelf : Files) (output : Output) (fault : Fault) (told : Told) → Answers asked input shelf output fault told
     → status_of fault ≡ 2 → asked ≡ None
@@ -200,13 +289,15 @@ consumes (Some xs) = refl
 
 no_memory : (job : ScriptJob) (input : Input) → TookShort input → IsUnread input → ComesNot job input Memory
 no_memory (Generate count) input took unread = (refl, unread)
+no_memory Steer input took unread = inl took
 no_memory job input took unread = took
 
 wanting_from : (asked : Option Job) (input : Input) (shelf : Files) (output : Output) (told : Told) → TookShort input → IsUnread input → IsUntouched shelf → IsUnwritten output → IsUntold told
     → Answers asked input shelf output Memory told
 wanting_from None input shelf output told took unread untouched unwritten untold = (inr refl, unread, untouched, unwritten, untold)
 wanting_from (Some (jobs.Script job)) input shelf output told took unread untouched unwritten untold = ((no_memory job input took unread, unwritten, untold), untouched)
-wanting_from (Some (jobs.Decode name)) input shelf output told took unread untouched unwritten untold = (inl (inl tt, unread, unwritten), untold)
+wanting_from (Some (jobs.Decode name only)) input shelf output told took unread untouched unwritten untold = (inl (inl tt, unread, unwritten), untold)
+wanting_from (Some (jobs.Dump name options only)) input shelf output told took unread untouched unwritten untold = (inl (inl tt, unread, unwritten), untold)
 
 -- nothing was touched
 pub wanting_all : (asked : Option Job) (left held : Option (List ℕ)) (files : Option (List ℕ → Option (List ℕ))) (source shelf sink : ℕ) (fault : Fault) (told : Told) → fault ≡ Memory → IsUntold told

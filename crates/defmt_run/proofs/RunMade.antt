@@ -1,22 +1,24 @@
 -- What a run comes to.
 use Rattle.std.proofs.Common.{◌≡◌, ◌++◌, ℕ, List, [], refl, sym, ap, subst, ◌∙◌}
-use Rattle.std.specs.Prelude.{IfOk, Result}
+use Rattle.std.specs.Prelude.{IfOk, None, Option, Result, Some}
 use Rattle.defmt_decode.specs.Event.{events_of}
 use Rattle.defmt_decode.specs.declared.event.Event.{Event}
 use Rattle.defmt_logger.specs.declared.mark.Mark.{Mark}
-use Rattle.defmt_run.specs.Making.{Makes, RanHeard, RanUnheard}
-use Rattle.defmt_print.specs.Heard.{LinesIn}
-use Rattle.defmt_run.specs.Told.{Ran, Told, told, told_of}
+use Rattle.defmt_run.specs.Making.{Makes, RanAlone, RanHeard, RanUnheard}
+use Rattle.defmt_print.specs.Heard.{GapsIn, LinesIn, catalog_of}
+use Rattle.defmt_run.specs.Told.{IsUnspoken, Ran, Spoke, Told, told, told_of}
 use Rattle.defmt_run.specs.declared.making.Making.{Making}
 use Rattle.defmt_script.specs.Script.{Script}
 use Rattle.defmt_words.specs.declared.job.ScriptJob.{ScriptJob}
 use Rattle.defmt_writers.specs.Runs.{IsRun}
+use Rattle.defmt_writers.specs.Talks.{IsTalk}
+use Rattle.rtt_booth.specs.declared.said.Word.{Word as SaidWord}
 use Rattle.rtt_ring.specs.Account.{Account}
 use Rattle.rtt_ring.specs.declared.settled.RingKind.TheVariants.{Word}
 
 module _ (s : Script) (tape : List Mark) (account : Account) (captured rest : List ℕ) (looks : ℕ) (run : IsRun s tape account captured rest looks) (ring : account.ring ≡ Word) where
-  logged : (events : List Event) → Ran s account (told_of tape account events looks)
-  logged events = record {
+  logged : (events : List Event) (said : List SaidWord) (term : Option Account) → Ran s account (told_of tape account events looks said term)
+  logged events said term = record {
     settled = refl;
     ring = ring;
     lawful = run.lawful;
@@ -28,11 +30,29 @@ module _ (s : Script) (tape : List Mark) (account : Account) (captured rest : Li
     looks = run.looked;
   }
 
-  pub heard : (events : List Event) → events ≡ events_of s.table account.sent → LinesIn s.settings.mode s tape events → RanHeard s (told_of tape account events looks)
-  heard events is lines = (account, logged events, record { events = is; lines = lines })
+  pub heard : (events : List Event) (said : List SaidWord) (term : Option Account) → events ≡ events_of (catalog_of s) account.sent → LinesIn s.settings.mode s tape events
+      → GapsIn s.settings.mode s.settings.profile s tape events → RanHeard s (told_of tape account events looks said term)
+  heard events said term is lines gaps =
+      (account, logged events said term, record { events = is; lines = lines; gaps = gaps }, record { turns = refl; orders = refl })
 
-  pub unheard : (events : List Event) → events ≡ [] → RanUnheard s (told_of tape account events looks)
-  unheard events none = (account, logged events, none)
+  pub alone : (events : List Event) (said : List SaidWord) → events ≡ events_of (catalog_of s) account.sent → LinesIn s.settings.mode s tape events
+      → GapsIn s.settings.mode s.settings.profile s tape events → said ≡ [] → RanAlone s (told_of tape account events looks said None)
+  alone events said is lines gaps none = (heard events said None is lines gaps, record { said = none; term = refl })
+
+  pub unheard : (events : List Event) (said : List SaidWord) → events ≡ [] → said ≡ [] → RanUnheard s (told_of tape account events looks said None)
+  unheard events said none silent =
+      (account, logged events said None, none, record { said = silent; term = refl }, record { turns = refl; orders = refl })
+
+  pub spoke : (events : List Event) (words : List SaidWord) (term : Account) (taken left : List ℕ) → IsTalk s.said words term taken left → term.ring ≡ Word
+      → Spoke s term (told_of tape account events looks words (Some term))
+  spoke events words term taken left talk kind = record {
+    term = refl;
+    ring = kind;
+    lawful = talk.lawful;
+    all = talk.all;
+    sent = talk.sends;
+    got = (left, talk.whole ∙ ap (λ (l : List ℕ). l ++ left) (sym talk.takes));
+  }
 
 -- by other names
 pub so_told : (P : Told → Type 0) (line : Told → List ℕ) (given other : Told) (output written : List ℕ) → given ≡ other → output ≡ written → written ≡ line other → P other

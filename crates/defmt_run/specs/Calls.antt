@@ -1,6 +1,7 @@
 -- The source, the sink and the shelf that a session is given.
-use Rattle.std.specs.Prelude.{◌≡◌, ℕ, List, Option}
-use Rattle.std.specs.Io.KnownBytes.{Keeps}
+use Rattle.std.specs.Prelude.{◌≡◌, ◌+◌, ◌≤◌, ℕ, List, length, Option}
+use Rattle.std.specs.Io.KnownBytes.{Consumes, IsAtEnd, Keeps}
+use Rattle.dl_io.specs.Outside.{Took}
 use Rattle.defmt_listen.specs.Streams.{Input, Output}
 
 -- the shelf: its files, where these are told, and its count of faults before the call and after it
@@ -18,6 +19,20 @@ files_of files faults before after =
 pub record IsUnread (input : Input) : Type 0 where
   pub left : Keeps input.left input.left_after
   pub faults : input.faults_after ≡ input.faults
+
+-- the source was read to its end, and gave these bytes, which are no more than so many
+pub record GaveWithin (limit : ℕ) (input : Input) (bytes : List ℕ) : Type 0 where
+  pub taken : Consumes input.left input.left_after bytes
+  pub at_end : IsAtEnd input.left_after
+  pub within : length bytes ≤ limit
+
+-- no more than so many bytes were taken
+abbrev pub TookWithin : ℕ → Input → Type 0
+TookWithin limit input = Took input.left input.left_after (λ bytes. length bytes ≤ limit)
+
+-- one byte more was taken
+abbrev pub TookMore : ℕ → Input → Type 0
+TookMore limit input = Took input.left input.left_after (λ bytes. length bytes ≡ limit + 1)
 
 -- the sink wasn't touched
 pub record IsUnwritten (output : Output) : Type 0 where

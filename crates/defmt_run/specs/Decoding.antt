@@ -1,17 +1,20 @@
 -- A recording is decoded by the table that a file names.
 use Rattle.std.specs.Prelude.{◌≡◌, ◌⊎◌, ◌<◌, ◌≤◌, ℕ, zero, suc, nat_lt, List, length, Option, Some, None, Result, Ok, Err, if◌then◌else◌}
 use Rattle.dl_io.specs.Outside.{HasFile, Lacks, Rose}
-use Rattle.defmt_intern.specs.Table.{Map}
+use Rattle.defmt_intern.specs.Catalog.{Catalog}
 use Rattle.defmt_intern.specs.declared.table.Table.{Table}
 use Rattle.elf_section.specs.Checks.{Refused}
 use Rattle.elf_table.specs.Names.{NamesTable, ReadsTable, SymbolRefused}
 use Rattle.elf_table.specs.declared.fault.LoadFault.{LoadFault}
 use Rattle.elf_table.specs.declared.fault.LoadFault.TheVariants as loads
 use Rattle.defmt_listen.specs.Streams.{Input, Output}
-use Rattle.defmt_listen.specs.Heard.{HeardAll, HeardBegun, HeardFront, HeardTooMuch, faults, recording_limit}
+use Rattle.defmt_listen.specs.Heard.{HeardAll, HeardBegun, HeardFront, HeardTooMuch, Reports, faults, recording_limit}
 use Rattle.defmt_decode.specs.Event.{events_of}
+use Rattle.defmt_decode.specs.declared.event.Event.{Event}
+use Rattle.defmt_hooks.specs.declared.rules.Rules.{Rules}
 use Rattle.defmt_run.specs.Calls.{IsUnread, IsUnwritten, Files}
 use Rattle.defmt_print.specs.Output.{reports}
+use Rattle.defmt_print.specs.Shown.{shown_reports}
 use Rattle.defmt_run.specs.declared.outcome.Fault.{Fault}
 use Rattle.defmt_run.specs.declared.outcome.Fault.TheVariants.{Fine, Memory, Source, Sink, Elf, Names, Shelf, Long, Events}
 
@@ -51,21 +54,26 @@ RefusesTable files name fault =
     RefusesName files name fault
     ⊎ ((file : List ℕ) × IsFile files.files name file × (length file ≤ table_limit) × RefusesFile file fault)
 
--- what became of the recording
-abbrev pub Hears : Map → Input → Output → Fault → Type 0
-Hears table input output Fine = HeardAll (reports table) input output 0
-Hears table input output (Events bad) = HeardAll (reports table) input output bad × (0 < bad)
-Hears table input output Memory = HeardFront (reports table) input output
-Hears table input output Source = HeardBegun (reports table) input output × Rose input.faults input.faults_after
-Hears table input output Sink = HeardFront (reports table) input output × Rose output.faults output.faults_after
-Hears table input output Long = HeardTooMuch (reports table) input output
-Hears table input output fault = ⊥
+-- what became of the recording, of which this is reported
+abbrev pub Hears : {S : Type 0} → Reports S Event → Input → Output → Fault → Type 0
+Hears r input output Fine = HeardAll r input output 0
+Hears r input output (Events bad) = HeardAll r input output bad × (0 < bad)
+Hears r input output Memory = HeardFront r input output
+Hears r input output Source = HeardBegun r input output × Rose input.faults input.faults_after
+Hears r input output Sink = HeardFront r input output × Rose output.faults output.faults_after
+Hears r input output Long = HeardTooMuch r input output
+Hears r input output fault = ⊥
+
+-- the same by a table, with all lines or with those that rules show
+abbrev pub HearsBy : Option Rules → Catalog → Input → Output → Fault → Type 0
+HearsBy None table input output fault = Hears (reports table) input output fault
+HearsBy (Some rules) table input output fault = Hears (shown_reports rules table) input output fault
 
 -- What stands at each fault: nothing was touched but the shelf, or the table was loaded, and this became of the recording.
-abbrev pub Decodes : List ℕ → Input → Files → Output → Fault → Type 0
-Decodes name input files output fault =
+abbrev pub Decodes : List ℕ → Option Rules → Input → Files → Output → Fault → Type 0
+Decodes name only input files output fault =
     (RefusesTable files name fault × IsUnread input × IsUnwritten output)
-    ⊎ ((table : Table) × Loaded files name table × Hears table.entries input output fault)
+    ⊎ ((table : Table) × Loaded files name table × HearsBy only table input output fault)
 
 -- ---- what told inputs come to, where nothing fails and memory is there
 
@@ -74,20 +82,24 @@ fault_of_count zero = Fine
 fault_of_count (suc n) = Events (suc n)
 
 -- a recording, by a table
-abbrev pub fault_of_recording : Map → List ℕ → Fault
-fault_of_recording table recording =
+abbrev pub fault_of_recording : List ℕ → Catalog → Fault
+fault_of_recording recording table =
     if nat_lt recording_limit (length recording) then Long else fault_of_count (faults (reports table) (events_of table recording))
 
--- a recording, where the table's file is read so
-abbrev pub ReadingComesTo : Result Table LoadFault → List ℕ → Fault → Type 0
-ReadingComesTo (Ok table) recording fault = fault ≡ fault_of_recording table.entries recording
-ReadingComesTo (Err (loads.Elf cause part place)) recording fault = fault ≡ Elf cause part place
-ReadingComesTo (Err (loads.Names cause symbol)) recording fault = fault ≡ Names cause symbol
-ReadingComesTo (Err loads.Memory) recording fault = ⊥
+-- what is done last, by the table, where its file is read so
+abbrev pub ReadingComesTo : (Catalog → Fault) → Result Table LoadFault → Fault → Type 0
+ReadingComesTo last (Ok table) fault = fault ≡ last table
+ReadingComesTo last (Err (loads.Elf cause part place)) fault = fault ≡ Elf cause part place
+ReadingComesTo last (Err (loads.Names cause symbol)) fault = fault ≡ Names cause symbol
+ReadingComesTo last (Err loads.Memory) fault = ⊥
 
--- a recording, and the table's file if there is one
-abbrev pub DecodingComesTo : Option (List ℕ) → List ℕ → Fault → Type 0
-DecodingComesTo None recording fault = fault ≡ Shelf
-DecodingComesTo (Some file) recording fault =
+-- the same with the table's file, if there is one
+abbrev pub LoadingComesTo : (Catalog → Fault) → Option (List ℕ) → Fault → Type 0
+LoadingComesTo last None fault = fault ≡ Shelf
+LoadingComesTo last (Some file) fault =
     ((table_limit < length file) × (fault ≡ Long))
-    ⊎ ((length file ≤ table_limit) × ((read : Result Table LoadFault) × ReadsTable file read × ReadingComesTo read recording fault))
+    ⊎ ((length file ≤ table_limit) × ((read : Result Table LoadFault) × ReadsTable file read × ReadingComesTo last read fault))
+
+-- a recording
+abbrev pub DecodingComesTo : Option (List ℕ) → List ℕ → Fault → Type 0
+DecodingComesTo file recording fault = LoadingComesTo (fault_of_recording recording) file fault

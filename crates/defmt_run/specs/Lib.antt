@@ -5,4 +5,5 @@ pub mod Status
 pub mod Making
 pub mod Running
 pub mod Decoding
+pub mod Dumping
 pub mod Session

@@ -2,33 +2,51 @@
 use Rattle.std.specs.Prelude.{◌≡◌, List, [], ℕ}
 use Rattle.defmt_logger.specs.Tape.{stream_of}
 use Rattle.defmt_print.specs.Printed.{statement_lines, summary}
-use Rattle.defmt_run.specs.Shown.{run_lines}
-use Rattle.defmt_run.specs.Told.{IsHeard, IsUntold, Ran, Told}
+use Rattle.defmt_run.specs.Shown.{run_lines, spoken_lines, steered_lines}
+use Rattle.defmt_run.specs.Told.{IsHeard, IsUnspoken, IsUnsteered, IsUntold, Ran, Spoke, Steered, Told}
 use Rattle.defmt_script.specs.Script.{Script}
 use Rattle.defmt_words.specs.declared.job.ScriptJob.{ScriptJob}
-use Rattle.defmt_words.specs.declared.job.ScriptJob.TheVariants.{Run, Record, Table, Print, Generate}
+use Rattle.defmt_words.specs.declared.job.ScriptJob.TheVariants.{Run, Record, Terminals, Steer, Table, Print, Generate}
 use Rattle.defmt_writers.specs.Runs.{IsRun}
+use Rattle.defmt_writers.specs.Steers.{IsSteeredRun}
+use Rattle.defmt_writers.specs.Talks.{IsTalk}
 use Rattle.defmt_writers.specs.declared.script_run.Run.{Run as ScriptRun}
+use Rattle.defmt_writers.specs.declared.steer_run.SteeredRun.{SteeredRun}
+use Rattle.defmt_writers.specs.declared.talk_run.Talk.{Talk}
 use Rattle.elf_section.specs.Written.{written}
 use Rattle.elf_table.specs.Listed.{symbols_in}
 use Rattle.rtt_ring.specs.Account.{Account}
 use Rattle.rtt_ring.specs.declared.settled.RingKind.TheVariants.{Word}
 
--- the script was run, and the host heard what was sent
+-- the script was run, without orders, and the host heard what was sent
 abbrev pub RanHeard : Script → Told → Type 0
-RanHeard s told = (account : Account) × Ran s account told × IsHeard s account told
+RanHeard s told = (account : Account) × Ran s account told × IsHeard s account told × IsUnsteered told
 
--- the script was run, and no host heard it
+-- the same, and no text was said on a terminal
+abbrev pub RanAlone : Script → Told → Type 0
+RanAlone s told = RanHeard s told × IsUnspoken told
+
+-- the same, and its texts were said on terminals
+abbrev pub RanSpoken : Script → Told → Type 0
+RanSpoken s told = RanHeard s told × ((account : Account) × Spoke s account told)
+
+-- the script was run, no host heard it, and no text was said on a terminal
 abbrev pub RanUnheard : Script → Told → Type 0
-RanUnheard s told = (account : Account) × Ran s account told × (told.events ≡ [])
+RanUnheard s told = (account : Account) × Ran s account told × (told.events ≡ []) × IsUnspoken told × IsUnsteered told
+
+-- the script was run under its orders
+abbrev pub RanSteered : Script → Told → Type 0
+RanSteered s told = (account : Account) × (orders : Account) × Steered s account orders told
 
 -- A row a job: what is told of a run, and what is to be written.
 abbrev pub Makes : ScriptJob → Script → Told → List ℕ → Type 0
-Makes (Run options) s told output = RanHeard s told × (output ≡ run_lines options s told.tape told.events)
+Makes (Run options) s told output = RanAlone s told × (output ≡ run_lines options s told.tape told.events)
 Makes Record s told output = RanUnheard s told × (output ≡ stream_of s told.tape)
-Makes Table s told output = IsUntold told × (output ≡ written (symbols_in s.table))
+Makes Terminals s told output = RanSpoken s told × (output ≡ spoken_lines s told.tape told.events told.said)
+Makes Steer s told output = RanSteered s told × (output ≡ steered_lines s told.turns told.events)
+Makes Table s told output = IsUntold told × (output ≡ written s.settings.profile (symbols_in s.table))
 Makes Print s told output = IsUntold told × (output ≡ statement_lines s)
-Makes (Generate count) s told output = RanHeard s told × (output ≡ summary s told.tape)
+Makes (Generate count) s told output = RanAlone s told × (output ≡ summary s told.tape)
 
 -- ---- for private clauses
 
@@ -36,3 +54,14 @@ Makes (Generate count) s told output = RanHeard s told × (output ≡ summary s 
 abbrev pub IsWordRun : ScriptRun → Type 0
 IsWordRun run =
     IsRun run.script run.tape.marks run.settled run.captured.items run.rest.items run.looks × (run.settled.ring ≡ Word)
+
+-- its texts were said over a word ring
+abbrev pub IsWordTalk : ScriptRun → Talk → Type 0
+IsWordTalk run talk =
+    IsTalk run.script.said talk.said.words talk.settled talk.captured.items talk.rest.items × (talk.settled.ring ≡ Word)
+
+-- it is a run of its script under orders over two word rings
+abbrev pub IsWordSteered : SteeredRun → Type 0
+IsWordSteered run =
+    IsSteeredRun run.script run.turns.turns run.settled run.captured.items run.rest.items run.orders run.unheard.items
+    × (run.settled.ring ≡ Word) × (run.orders.ring ≡ Word)

@@ -1,18 +1,20 @@
 -- A job on a script, which the source gives or which is generated.
-use Rattle.std.specs.Prelude.{◌≡◌, ◌⊎◌, ◌+◌, ◌<◌, ◌≤◌, ℕ, List, length, Result, Ok, Err}
-use Rattle.std.specs.Io.KnownBytes.{Consumes, IsAtEnd}
-use Rattle.dl_io.specs.Outside.{Rose, Took}
+use Rattle.std.specs.Prelude.{◌≡◌, ◌⊎◌, ◌<◌, ◌≤◌, ℕ, true, false, List, length, Some, Result, Ok, Err}
+use Rattle.std.specs.Str.Lines.{lines}
+use Rattle.dl_io.specs.Outside.{Rose}
+use Rattle.defmt_lines.specs.Settings.{is_block}
 use Rattle.defmt_listen.specs.Streams.{Input, Output, Wrote, WroteFront}
 use Rattle.defmt_script.specs.Reads.{Reads}
 use Rattle.defmt_script.specs.Script.{Refusal, Script as Read}
 use Rattle.defmt_generate.specs.Generated.{generated}
-use Rattle.defmt_run.specs.Calls.{IsUnread, IsUnwritten}
+use Rattle.defmt_run.specs.Calls.{GaveWithin, IsUnread, IsUnwritten, TookMore, TookWithin}
 use Rattle.defmt_run.specs.Making.{Makes}
 use Rattle.defmt_run.specs.Told.{IsUntold, Told}
 use Rattle.defmt_run.specs.declared.outcome.Fault.{Fault}
 use Rattle.defmt_run.specs.declared.outcome.Fault.TheVariants.{Fine, Memory, Source, Sink, Script, Long}
 use Rattle.defmt_words.specs.declared.job.ScriptJob.{ScriptJob}
-use Rattle.defmt_words.specs.declared.job.ScriptJob.TheVariants.{Generate}
+use Rattle.defmt_words.specs.declared.job.ScriptJob.TheVariants.{Generate, Steer}
+use Rattle.rtt_down.specs.Modes.{FirstMode}
 
 -- the most bytes of a script
 abbrev pub script_limit : ℕ
@@ -21,10 +23,8 @@ script_limit = 4194304
 -- ---- where a script comes from, and why there is none
 
 -- the source was read to its end, and gave this text
-pub record GaveWhole (input : Input) (text : List ℕ) : Type 0 where
-  pub taken : Consumes input.left input.left_after text
-  pub at_end : IsAtEnd input.left_after
-  pub within : length text ≤ script_limit
+abbrev pub GaveWhole : Input → List ℕ → Type 0
+GaveWhole input text = GaveWithin script_limit input text
 
 -- the source was read to its end, and what it gave is the script
 pub record Gave (input : Input) (s : Read) : Type 0 where
@@ -40,16 +40,41 @@ pub record Refuses (input : Input) (refusal : Refusal) : Type 0 where
 
 -- no more than a script was taken
 abbrev pub TookShort : Input → Type 0
-TookShort input = Took input.left input.left_after (λ bytes. length bytes ≤ script_limit)
+TookShort input = TookWithin script_limit input
 
 -- Why the source gives no script: it failed, or has more than the limit, of which one byte more was taken, or a line is refused.
 -- Want of memory is free.
 abbrev pub Withholds : Input → Fault → Type 0
 Withholds input Memory = TookShort input
 Withholds input Source = Rose input.faults input.faults_after × TookShort input
-Withholds input Long = Took input.left input.left_after (λ bytes. length bytes ≡ script_limit + 1)
+Withholds input Long = TookMore script_limit input
 Withholds input (Script line cause inner) = Refuses input (record { line = line; cause = cause; inner = inner })
 Withholds input fault = ⊥
+
+-- ---- a script that is steered, which is in blocking mode
+
+abbrev pub GaveBlocking : Input → Read → Type 0
+GaveBlocking input s = Gave input s × (is_block s.settings.mode ≡ true)
+
+-- the text is a script in another mode, and this line is the first that sets one
+abbrev pub SetsOther : List ℕ → ℕ → Type 0
+SetsOther text line = (s : Read) × Reads text (Ok s) × (is_block s.settings.mode ≡ false) × FirstMode 1 (lines text) (Some line)
+
+-- such a line of the text that the source gave
+pub record RefusesMode (input : Input) (line : ℕ) : Type 0 where
+  pub text : List ℕ
+  pub whole : GaveWhole input text
+  pub other : SetsOther text line
+
+-- the cause 18, at that line
+abbrev pub MayNotSteer : Input → Fault → Type 0
+MayNotSteer input (Script line cause inner) = (cause ≡ 18) × (inner ≡ 0) × RefusesMode input line
+MayNotSteer input fault = ⊥
+
+abbrev pub WithholdsBlocking : Input → Fault → Type 0
+WithholdsBlocking input fault = Withholds input fault ⊎ MayNotSteer input fault
+
+-- ---- a text without a source
 
 -- a text is the script
 abbrev pub IsSpelled : List ℕ → Read → Type 0
@@ -61,16 +86,26 @@ Stops text Memory = Unit {0}
 Stops text (Script line cause inner) = Reads text (Err (record { line = line; cause = cause; inner = inner }))
 Stops text fault = ⊥
 
+-- and why one gives no script in blocking mode
+abbrev pub IsOther : List ℕ → Fault → Type 0
+IsOther text (Script line cause inner) = (cause ≡ 18) × (inner ≡ 0) × SetsOther text line
+IsOther text fault = ⊥
+
+abbrev pub StopsBlocking : List ℕ → Fault → Type 0
+StopsBlocking text fault = Stops text fault ⊎ IsOther text fault
+
 -- ---- where the script of a job comes from
 
 -- the source, or a generated text, for which the source isn't touched
 abbrev pub Comes : ScriptJob → Input → Read → Type 0
 Comes (Generate count) input s = IsSpelled (generated count) s × IsUnread input
+Comes Steer input s = GaveBlocking input s
 Comes job input s = Gave input s
 
 -- Why there is none. A generated text is a script, so there only memory may be wanting.
 abbrev pub ComesNot : ScriptJob → Input → Fault → Type 0
 ComesNot (Generate count) input fault = (fault ≡ Memory) × IsUnread input
+ComesNot Steer input fault = WithholdsBlocking input fault
 ComesNot job input fault = Withholds input fault
 
 -- a script came, and the job made this of it
@@ -103,6 +138,19 @@ ReadingComesTo text fault = (read : Result Read Refusal) × Reads text read × (
 -- the text of the source
 abbrev pub RunningComesTo : List ℕ → Fault → Type 0
 RunningComesTo text fault = ((script_limit < length text) × (fault ≡ Long)) ⊎ ((length text ≤ script_limit) × ReadingComesTo text fault)
+
+-- a text of a script that is steered
+abbrev pub IsFaultOf : List ℕ → Result Read Refusal → Fault → Type 0
+IsFaultOf text (Ok s) fault =
+    ((is_block s.settings.mode ≡ true) × (fault ≡ Fine))
+    ⊎ ((is_block s.settings.mode ≡ false) × ((line : ℕ) × FirstMode 1 (lines text) (Some line) × (fault ≡ Script line 18 0)))
+IsFaultOf text (Err refusal) fault = fault ≡ fault_of_read (Err refusal)
+
+abbrev pub BlockingComesTo : List ℕ → Fault → Type 0
+BlockingComesTo text fault = (read : Result Read Refusal) × Reads text read × IsFaultOf text read fault
+
+abbrev pub SteeringComesTo : List ℕ → Fault → Type 0
+SteeringComesTo text fault = ((script_limit < length text) × (fault ≡ Long)) ⊎ ((length text ≤ script_limit) × BlockingComesTo text fault)
 
 -- ---- for private clauses
 

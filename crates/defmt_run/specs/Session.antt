@@ -4,25 +4,29 @@ use Rattle.dl_io.specs.Outside.{Rose}
 use Rattle.defmt_listen.specs.Streams.{Input, IsRest, Output}
 use Rattle.defmt_run.specs.Calls.{Files, IsUnread, IsUntouched, IsUnwritten}
 use Rattle.defmt_run.specs.Decoding.{Decodes, DecodingComesTo}
-use Rattle.defmt_run.specs.Running.{Runs, RunningComesTo}
+use Rattle.defmt_run.specs.Dumping.{Dumps, DumpingComesTo}
+use Rattle.defmt_run.specs.Running.{Runs, RunningComesTo, SteeringComesTo}
 use Rattle.defmt_run.specs.Told.{IsUntold, Told}
 use Rattle.defmt_run.specs.declared.outcome.Fault.{Fault}
 use Rattle.defmt_run.specs.declared.outcome.Fault.TheVariants.{Fine, Memory, Words, Source, Sink, Shelf}
 use Rattle.defmt_words.specs.declared.job.Job.{Job}
-use Rattle.defmt_words.specs.declared.job.Job.TheVariants.{Script, Decode}
-use Rattle.defmt_words.specs.declared.job.ScriptJob.TheVariants.{Generate}
+use Rattle.defmt_words.specs.declared.job.Job.TheVariants.{Script, Decode, Dump}
+use Rattle.defmt_words.specs.declared.job.ScriptJob.TheVariants.{Generate, Steer}
 
 -- words that ask for nothing, or want of memory before they are known
 abbrev pub IsRefused : Fault → Type 0
 IsRefused fault = (fault ≡ Words) ⊎ (fault ≡ Memory)
 
 -- What stands at each fault. Words that ask for nothing leave all as it was. A job on a script leaves the shelf. The decoding of
--- a recording tells nothing of a run.
+-- a recording, or of an image, tells nothing of a run.
 abbrev pub Answers : Option Job → Input → Files → Output → Fault → Told → Type 0
 Answers None input shelf output fault told =
     IsRefused fault × IsUnread input × IsUntouched shelf × IsUnwritten output × IsUntold told
 Answers (Some (Script job)) input shelf output fault told = Runs job input output fault told × IsUntouched shelf
-Answers (Some (Decode table)) input shelf output fault told = Decodes table input shelf output fault × IsUntold told
+Answers (Some (Decode table only)) input shelf output fault told =
+    Decodes table only input shelf output fault × IsUntold told
+Answers (Some (Dump table options only)) input shelf output fault told =
+    Dumps table options only input shelf output fault × IsUntold told
 
 -- ---- what inputs come to, where nothing fails and memory is there
 
@@ -31,11 +35,13 @@ pub record Inputs : Type 0 where
   pub text : List ℕ
   pub files : List ℕ → Option (List ℕ)
 
--- A row a job.
+-- A row a job. Rules say what is printed, and change no fault.
 abbrev pub ComesTo : Job → Inputs → Fault → Type 0
 ComesTo (Script (Generate count)) inputs fault = fault ≡ Fine
+ComesTo (Script Steer) inputs fault = SteeringComesTo inputs.text fault
 ComesTo (Script job) inputs fault = RunningComesTo inputs.text fault
-ComesTo (Decode table) inputs fault = DecodingComesTo (inputs.files table) inputs.text fault
+ComesTo (Decode table only) inputs fault = DecodingComesTo (inputs.files table) inputs.text fault
+ComesTo (Dump table options only) inputs fault = DumpingComesTo options (inputs.files table) inputs.text fault
 
 -- these are the files, where they are told
 abbrev pub AreFiles : Option (List ℕ → Option (List ℕ)) → (List ℕ → Option (List ℕ)) → Type 0
@@ -62,10 +68,10 @@ abbrev pub ReadsSource : Job → Type 0
 ReadsSource (Script (Generate count)) = ⊥
 ReadsSource job = Unit {0}
 
--- only the table of a recording is on the shelf
+-- only the table of a recording or of an image is on the shelf
 abbrev pub AsksShelf : Job → Type 0
 AsksShelf (Script job) = ⊥
-AsksShelf (Decode table) = Unit {0}
+AsksShelf job = Unit {0}
 
 -- This is so of the fault, or memory was wanting, or what the job uses of the outside failed and its count rose.
 abbrev pub OrFails : Job → Input → Files → Output → (Fault → Type 0) → Fault → Type 0

@@ -2,7 +2,7 @@
 use Rattle.std.specs.Prelude.{ℕ, List, ◌++◌, codes}
 use Rattle.std.specs.Fmt.{decimal}
 use Rattle.defmt_run.specs.declared.outcome.Fault.{Fault}
-use Rattle.defmt_run.specs.declared.outcome.Fault.TheVariants.{Fine, Memory, Words, Source, Sink, Script, Elf, Names, Shelf, Long, Events}
+use Rattle.defmt_run.specs.declared.outcome.Fault.TheVariants.{Fine, Memory, Words, Source, Sink, Script, Elf, Names, Shelf, Long, Events, Control}
 
 abbrev pub status_of : Fault → ℕ
 status_of Fine = 0
@@ -16,6 +16,7 @@ status_of (Names cause symbol) = 6
 status_of Shelf = 7
 status_of Long = 8
 status_of (Events bad) = 9
+status_of (Control cause place) = 10
 
 abbrev pub said : Fault → List ℕ
 said Fine = codes "fine"
@@ -29,3 +30,4 @@ said (Names cause symbol) = codes "table name cause " ++ decimal cause ++ codes 
 said Shelf = codes "shelf"
 said Long = codes "too long"
 said (Events bad) = codes "events with faults " ++ decimal bad
+said (Control cause place) = codes "control cause " ++ decimal cause ++ codes " place " ++ decimal place

@@ -1,31 +1,36 @@
 // A recording is decoded by the table that a file names.
 ghost use Rattle.std.specs.Prelude.{◌≡◌, ◌≤◌, ◌<◌, [], length, IfOk, IfErr};
+ghost use Rattle.defmt_decode.specs.Event.{tells};
 ghost use Rattle.defmt_framing.specs.Framing.{Stands};
 ghost use Rattle.elf_table.specs.Names.{NamesTable};
 ghost use Rattle.defmt_listen.specs.Streams.{input_of, output_of};
+ghost use Rattle.defmt_print.specs.Shown.{shown_reports};
 ghost use Rattle.defmt_run.specs.Calls.{files_of};
-ghost use Rattle.defmt_run.specs.Decoding.{Decodes, Hears, IsFile, Loaded, RefusesFile, RefusesName, RefusesTable, table_limit};
+ghost use Rattle.defmt_run.specs.Decoding.{Decodes, Hears, HearsBy, IsFile, Loaded, RefusesFile, RefusesName, RefusesTable, table_limit};
 
 use crate::outcome::Fault;
-use defmt_decode::Host;
+use defmt_decode::{Event, Host};
+use defmt_hooks::Rules;
 use defmt_intern::Table;
-use defmt_listen::{ListenFault, listen};
-use defmt_print::{Ear, Printer};
+use defmt_listen::{ListenFault, Reporter, listen};
+use defmt_print::{Ear, Printer, Screened};
 use dl_io::{Bytes, ReadFault, Shelf, Sink, Source, fetch_all};
 use elf_table::{LoadFault, read_table};
 use std::alloc::Global;
 
 const TABLE_LIMIT: usize = 67_108_864;
 
-/// Prints the events of the recording that the source gives, by the table that the file of this name names.
+/// Prints the events of the recording that the source gives, by the table that the file of this name names, and by rules where
+/// there are some.
 pub fn decode<S: Source, F: Shelf, K: Sink>(
     alloc: Global,
     name: &str,
+    only: &Option<Rules>,
     src: &mut S,
     shelf: &mut F,
     out: &mut K,
 ) -> Fault
-    ensures decodes { Decodes name.now
+    ensures decodes { Decodes name.now only.now
         (input_of S.left S.faults src.old src.new) (files_of F.files F.faults shelf.old shelf.new)
         (output_of K.held K.faults out.old out.new) result }
     ensures source_count { S.faults src.old ≤ S.faults src.new }
@@ -34,13 +39,13 @@ pub fn decode<S: Source, F: Shelf, K: Sink>(
     ensures files { F.files shelf.new ≡ F.files shelf.old }
 {
     match load(alloc, name, shelf) {
-        Ok(host) => hear(alloc, src, out, host),
+        Ok(host) => hear(alloc, only, src, out, host),
         Err(fault) => fault,
     }
 }
 
-// A host of the table that the file of this name names.
-fn load<F: Shelf>(alloc: Global, name: &str, shelf: &mut F) -> Result<Host, Fault>
+/// A host of the table that the file of this name names.
+pub fn load<F: Shelf>(alloc: Global, name: &str, shelf: &mut F) -> Result<Host, Fault>
     ensures loaded { IfOk result (λ host. Loaded (files_of F.files F.faults shelf.old shelf.new)
         name.now host.table) }
     ensures stands { IfOk result (λ host. Stands host.framing []) }
@@ -98,15 +103,64 @@ fn table_of(alloc: Global, file: &[u8]) -> Result<Table, Fault>
     }
 }
 
-// Hears the recording, and writes the lines of its events.
-fn hear<S: Source, K: Sink>(alloc: Global, src: &mut S, out: &mut K, host: Host) -> Fault
+// Hears the recording, and writes the lines of its events, or those that rules show, with the gaps between them.
+fn hear<S: Source, K: Sink>(
+    alloc: Global,
+    only: &Option<Rules>,
+    src: &mut S,
+    out: &mut K,
+    host: Host,
+) -> Fault
     requires { Stands host.framing [] }
-    ensures hears { Hears host.table.entries (input_of S.left S.faults src.old src.new)
+    ensures hears { HearsBy only.now host.table
+        (input_of S.left S.faults src.old src.new)
         (output_of K.held K.faults out.old out.new) result }
     ensures source_count { S.faults src.old ≤ S.faults src.new }
     ensures sink_count { K.faults out.old ≤ K.faults out.new }
 {
-    match listen(alloc, src, out, Ear { host }, Printer) {
+    match only {
+        None => hear_with(alloc, src, out, host, Printer { last: None }),
+        Some(rules) => hear_shown(alloc, rules, src, out, host),
+    }
+}
+
+// The same by rules, which ask a copy of the table.
+fn hear_shown<S: Source, K: Sink>(
+    alloc: Global,
+    rules: &Rules,
+    src: &mut S,
+    out: &mut K,
+    host: Host,
+) -> Fault
+    requires { Stands host.framing [] }
+    ensures hears { Hears (shown_reports rules.now host.table)
+        (input_of S.left S.faults src.old src.new)
+        (output_of K.held K.faults out.old out.new) result }
+    ensures source_count { S.faults src.old ≤ S.faults src.new }
+    ensures sink_count { K.faults out.old ≤ K.faults out.new }
+{
+    match host.table().copy() {
+        Ok(table) => hear_with(alloc, src, out, host, Screened::new(rules, table)),
+        Err(_) => Fault::Memory,
+    }
+}
+
+fn hear_with<S: Source, K: Sink, R: Reporter<Event> + Drop>(
+    alloc: Global,
+    src: &mut S,
+    out: &mut K,
+    host: Host,
+    reporter: R,
+) -> Fault
+    requires { Stands host.framing [] }
+    ensures hears { Hears
+        (record { tells = tells host.table; reporting = R.reporting; start = reporter })
+        (input_of S.left S.faults src.old src.new)
+        (output_of K.held K.faults out.old out.new) result }
+    ensures source_count { S.faults src.old ≤ S.faults src.new }
+    ensures sink_count { K.faults out.old ≤ K.faults out.new }
+{
+    match listen(alloc, src, out, Ear { host }, reporter) {
         Ok(0) => Fault::Fine,
         Ok(bad) => Fault::Events { bad },
         Err(ListenFault::Source) => Fault::Source,

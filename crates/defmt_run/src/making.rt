@@ -1,20 +1,24 @@
 // What is made of a script, before it is written.
 ghost use Rattle.std.specs.Prelude.{◌≡◌, ◌≤◌, ◌^◌, ◌++◌, IfOk};
 ghost use Rattle.elf_table.specs.Listed.{size_of};
-ghost use Rattle.defmt_run.specs.Making.{IsWordRun, Makes, RanHeard};
+ghost use Rattle.defmt_run.specs.Making.{IsWordRun, IsWordSteered, IsWordTalk, Makes, RanAlone};
 ghost use Rattle.defmt_print.specs.Printed.{summary};
-ghost use Rattle.defmt_run.specs.Told.{IsUntold, told, told_of};
+ghost use Rattle.defmt_run.specs.Told.{IsUntold, steered_of, told, told_of};
 
-use crate::logging::log;
+use crate::logging::{log, speak, steer};
 use crate::outcome::{Fault, Outcome};
-use crate::showing::{hear, run_lines};
+use crate::showing::{hear, hear_steered, run_lines, steered_lines};
+use crate::terminals::add_spoken;
 use defmt_decode::Events;
 use defmt_print::{statement_lines, summary};
 use defmt_script::Script;
 use defmt_words::{RunOptions, ScriptJob};
-use defmt_writers::{Gate, Run};
+use defmt_writers::{Gate, Run, SteeredRun, Talk};
 use dl_io::{Bytes, Memory};
 use elf_table::write_table;
+use rtt_booth::Said;
+use rtt_down::Turns;
+use rtt_ring::Settled;
 use std::alloc::Global;
 use std::sync::Wait;
 use std::thread::Threads;
@@ -42,6 +46,11 @@ pub fn make<G: Gate + Sync, R: Threads + Wait + Sync>(
     match job {
         ScriptJob::Run(options) => lines_of_run(alloc, options, log(rt, alloc, script, gate)?),
         ScriptJob::Record => stream_of_run(alloc, log(rt, alloc, script, gate)?),
+        ScriptJob::Terminals => {
+            let (run, talk) = speak(rt, alloc, script, gate)?;
+            lines_of_terminals(alloc, run, talk)
+        }
+        ScriptJob::Steer => lines_of_steered(alloc, steer(rt, alloc, script, gate)?),
         ScriptJob::Table => Ok(without_run(alloc, write_table(alloc, script.table())?)),
         ScriptJob::Print => Ok(without_run(alloc, statement_lines(alloc, &script)?)),
         ScriptJob::Generate(_) => counts_of_run(alloc, log(rt, alloc, script, gate)?),
@@ -56,7 +65,41 @@ fn lines_of_run(alloc: Global, options: &RunOptions, run: Run) -> Result<Making,
 {
     let events = hear(alloc, &run)?;
     let output = run_lines(alloc, options, &run.script, &run.tape, &events)?;
-    Ok(with_run(run, events, output))
+    Ok(with_run(alloc, run, events, Said::new(alloc), None, output))
+}
+
+// The lines of what the host tells of a run, then what was lost, and then the texts of each terminal.
+fn lines_of_terminals(alloc: Global, run: Run, talk: Talk) -> Result<Making, Memory>
+    requires run { IsWordRun run }
+    requires talk { IsWordTalk run talk }
+    ensures { IfOk result (λ made. Makes ScriptJob.Terminals run.script (told made.outcome)
+        made.output.items) }
+{
+    let events = hear(alloc, &run)?;
+    let options = RunOptions {
+        group: false,
+        only: None,
+    };
+    let mut output = run_lines(alloc, &options, &run.script, &run.tape, &events)?;
+    add_spoken(alloc, &run.script, &talk, &mut output)?;
+    let Talk {
+        said,
+        settled,
+        captured: _,
+        rest: _,
+    } = talk;
+    Ok(with_run(alloc, run, events, said, Some(settled), output))
+}
+
+// The lines of what the host tells of a run under orders, and then a line for each order.
+fn lines_of_steered(alloc: Global, run: SteeredRun) -> Result<Making, Memory>
+    requires { IsWordSteered run }
+    ensures { IfOk result (λ made. Makes ScriptJob.Steer run.script (told made.outcome)
+        made.output.items) }
+{
+    let events = hear_steered(alloc, &run)?;
+    let output = steered_lines(alloc, &run.script, &run.turns, &events)?;
+    Ok(with_steered(alloc, run, events, output))
 }
 
 // What a run sent.
@@ -66,23 +109,30 @@ fn stream_of_run(alloc: Global, run: Run) -> Result<Making, Memory>
         made.output.items) }
 {
     let output = joined(alloc, run.captured.as_slice(), run.rest.as_slice())?;
-    Ok(with_run(run, Events::new(alloc), output))
+    Ok(with_run(
+        alloc,
+        run,
+        Events::new(alloc),
+        Said::new(alloc),
+        None,
+        output,
+    ))
 }
 
 // Counts of the statements of a run.
 fn counts_of_run(alloc: Global, run: Run) -> Result<Making, Memory>
     requires { IsWordRun run }
-    ensures { IfOk result (λ made. RanHeard run.script (told made.outcome)
+    ensures { IfOk result (λ made. RanAlone run.script (told made.outcome)
         × (made.output.items ≡ summary run.script made.outcome.tape.marks)) }
 {
     let events = hear(alloc, &run)?;
     run.script.lawful();
     let output = summary(alloc, &run.script, &run.tape)?;
-    Ok(with_run(run, events, output))
+    Ok(with_run(alloc, run, events, Said::new(alloc), None, output))
 }
 
-// These bytes, one part after the other.
-fn joined(alloc: Global, front: &[u8], rest: &[u8]) -> Result<Bytes, Memory>
+/// These bytes, one part after the other.
+pub(crate) fn joined(alloc: Global, front: &[u8], rest: &[u8]) -> Result<Bytes, Memory>
     ensures { IfOk result (λ all. all.items ≡ front.now ++ rest.now) }
 {
     let mut all = Bytes::new(alloc);
@@ -92,10 +142,18 @@ fn joined(alloc: Global, front: &[u8], rest: &[u8]) -> Result<Bytes, Memory>
     Ok(all)
 }
 
-// A run of which the host tells these events.
-fn with_run(run: Run, events: Events, output: Bytes) -> Making
+// A run of which the host tells these events, and what was said on terminals.
+fn with_run(
+    alloc: Global,
+    run: Run,
+    events: Events,
+    said: Said,
+    term: Option<Settled>,
+    output: Bytes,
+) -> Making
     ensures output { result.output.items ≡ output.items }
-    ensures run { told result.outcome ≡ told_of run.tape.marks run.settled events run.looks }
+    ensures run { told result.outcome
+        ≡ told_of run.tape.marks run.settled events run.looks said.words term }
 {
     let Run {
         script: _,
@@ -113,6 +171,34 @@ fn with_run(run: Run, events: Events, output: Bytes) -> Making
         settled: Some(settled),
         events,
         looks,
+        said,
+        term,
+        turns: Turns::new(alloc),
+        orders: None,
+    };
+    Making { output, outcome }
+}
+
+// A run under orders of which the host tells these events.
+fn with_steered(alloc: Global, run: SteeredRun, events: Events, output: Bytes) -> Making
+    ensures output { result.output.items ≡ output.items }
+    ensures run { told result.outcome ≡ steered_of run.turns.turns run.settled events run.orders }
+{
+    let SteeredRun {
+        script: _,
+        turns,
+        settled,
+        captured: _,
+        rest: _,
+        orders,
+        unheard: _,
+    } = run;
+    let outcome = Outcome {
+        settled: Some(settled),
+        events,
+        turns,
+        orders: Some(orders),
+        ..Outcome::silent(alloc, Fault::Fine)
     };
     Making { output, outcome }
 }

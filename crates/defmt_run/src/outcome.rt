@@ -7,6 +7,8 @@ use defmt_grammar::Text;
 use defmt_logger::Tape;
 use dl_io::Memory;
 use elf_section::Part;
+use rtt_booth::Said;
+use rtt_down::Turns;
 use rtt_ring::Settled;
 use std::alloc::Global;
 
@@ -31,11 +33,13 @@ pub enum Fault {
     Names { cause: u8, symbol: u32 },
     /// The shelf failed, or hasn't the file. Status 7.
     Shelf,
-    /// The script has more than 4,194,304 bytes, the table's file more than 67,108,864, or the recording more than
+    /// The script has more than 4,194,304 bytes, the table's file more than 67,108,864, or the recording or the image more than
     /// 268,435,456. Status 8.
     Long,
-    /// All was done, and so many events of the recording are no lines. Status 9.
+    /// All was done, and so many events of the recording, or of the bytes of the image, are no lines. Status 9.
     Events { bad: u64 },
+    /// The image is refused: the cause and its place, as `rtt_dump::dumped` gives them. Status 10.
+    Control { cause: u8, place: u32 },
 }
 
 impl Fault {
@@ -54,6 +58,7 @@ impl Fault {
             Fault::Shelf => 7,
             Fault::Long => 8,
             Fault::Events { .. } => 9,
+            Fault::Control { .. } => 10,
         }
     }
 }
@@ -69,9 +74,10 @@ impl From<Memory> for Fault {
     }
 }
 
-/// What a session answers. `tape`, `settled` and `looks` tell of the run of a script by `run`, `record` and `gen`, and `events`
-/// of that by `run` and `gen`. They are so where the fault is `Fine` or `Sink`. At every other fault, and for the other
-/// commands, they are empty, `None` and 0.
+/// What a session answers. `tape`, `settled` and `looks` tell of the run of a script by `run`, `record`, `term` and `gen`,
+/// `events` of that by `run`, `term` and `gen`, `said` and `term` of that by `term`, and `turns`, `settled`, `orders` and `events`
+/// of that by `steer`. They are so where the fault is `Fine` or `Sink`. At every other fault, and for the other commands, they are
+/// empty, `None` and 0.
 #[derive(Drop)]
 pub struct Outcome {
     /// The status, which the program ends with.
@@ -86,6 +92,14 @@ pub struct Outcome {
     pub events: Events,
     /// How many looks at the ring the logger made.
     pub looks: u64,
+    /// A word for each text that was said on a terminal, in the order in which the writers acquired the booth.
+    pub said: Said,
+    /// The account of the terminals' ring.
+    pub term: Option<Settled>,
+    /// A turn for each statement of a run under orders, in the order in which the writers acquired the logger.
+    pub turns: Turns,
+    /// The account of the ring of orders.
+    pub orders: Option<Settled>,
 }
 
 impl Outcome {
@@ -102,6 +116,10 @@ impl Outcome {
             settled: None,
             events: Events::new(alloc),
             looks: 0,
+            said: Said::new(alloc),
+            term: None,
+            turns: Turns::new(alloc),
+            orders: None,
         }
     }
 
@@ -142,6 +160,10 @@ fn add_words(alloc: Global, fault: &Fault, text: &mut Text) -> Result<(), Memory
         Fault::Long => add(text, "too long"),
         Fault::Events { bad } => {
             let words = format!(in alloc; "events with faults {bad}")?;
+            add(text, words.as_str())
+        }
+        Fault::Control { cause, place } => {
+            let words = format!(in alloc; "control cause {cause} place {place}")?;
             add(text, words.as_str())
         }
     }

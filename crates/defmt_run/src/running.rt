@@ -1,26 +1,34 @@
 // A job on a script.
-ghost use Rattle.std.specs.Prelude.{◌≡◌, ◌≤◌, ◌^◌, length, IfOk, IfErr};
+ghost use Rattle.std.specs.Prelude.{◌≡◌, ◌≤◌, ◌^◌, true, false, length, None, Some, Ok, IfOk, IfErr, IfSome};
+ghost use Rattle.std.specs.Str.Lines.{lines};
 ghost use Rattle.elf_table.specs.Listed.{size_of};
 ghost use Rattle.defmt_generate.specs.Generated.{generated};
+ghost use Rattle.defmt_lines.specs.Settings.{is_block};
 ghost use Rattle.defmt_listen.specs.Streams.{input_of, output_of};
-ghost use Rattle.defmt_run.specs.Running.{Comes, ComesNot, Gave, GaveWhole, IsSpelled, Made, Runs, Stops, Withholds, Writes, script_limit};
+ghost use Rattle.defmt_run.specs.Running.{Comes, ComesNot, Gave, GaveBlocking, GaveWhole, IsSpelled, Made, Runs, Stops, StopsBlocking, Withholds, WithholdsBlocking, Writes, script_limit};
 ghost use Rattle.defmt_run.specs.Status.{status_of};
 ghost use Rattle.defmt_run.specs.Told.{told};
+ghost use Rattle.defmt_script.specs.Reads.{Reads};
+ghost use Rattle.rtt_down.specs.Modes.{FirstMode};
 
 use crate::making::{Making, make};
 use crate::outcome::{Fault, Outcome};
 use defmt_generate::{generate, scripts_are_short};
 use defmt_generated::generated_reads;
-use defmt_script::{Script, ScriptFault, one_reading, read, texts_are_few};
+use defmt_script::{RingMode, Script, ScriptFault, one_reading, read, texts_are_few};
 use defmt_words::{Count, ScriptJob};
 use defmt_writers::Gate;
 use dl_io::{Bytes, Failed, ReadFault, Sink, Source, read_all, write_all};
 use elf_table::size_grows;
+use rtt_down::{mode_line, modes_are_set};
 use std::alloc::Global;
 use std::sync::Wait;
 use std::thread::Threads;
 
 const SCRIPT_LIMIT: usize = 4_194_304;
+
+// A script that is steered has another mode than the blocking one.
+const STEER: u8 = 18;
 
 /// Does this job on its script, and writes what comes of it. It may wait for the writers.
 pub fn script_outcome<S: Source, K: Sink, G: Gate + Sync, R: Threads + Wait + Sync>(
@@ -72,6 +80,7 @@ fn script_of<S: Source>(alloc: Global, job: &ScriptJob, src: &mut S) -> Result<S
 {
     match job {
         ScriptJob::Generate(count) => generated_script(alloc, count),
+        ScriptJob::Steer => steered_script(alloc, src),
         _ => read_script(alloc, src),
     }
 }
@@ -99,6 +108,52 @@ fn read_script<S: Source>(alloc: Global, src: &mut S) -> Result<Script, Fault>
 {
     let text = read_input(alloc, src)?;
     spelled_by(alloc, text.as_slice())
+}
+
+// Reads the source to its end as a script in blocking mode.
+fn steered_script<S: Source>(alloc: Global, src: &mut S) -> Result<Script, Fault>
+    ensures gave { IfOk result (λ s. GaveBlocking (input_of S.left S.faults src.old src.new) s) }
+    ensures small { IfOk result (λ s. size_of s.table ≤ 2 ^ 26) }
+    ensures withheld { IfErr result (λ fault. WithholdsBlocking
+        (input_of S.left S.faults src.old src.new) fault) }
+    ensures later { S.faults src.old ≤ S.faults src.new }
+{
+    let text = read_input(alloc, src)?;
+    blocking_by(alloc, text.as_slice())
+}
+
+// The script that a text spells, in blocking mode.
+fn blocking_by(alloc: Global, text: &[u8]) -> Result<Script, Fault>
+    requires { length text.now ≤ script_limit }
+    ensures spelled { IfOk result (λ s. IsSpelled text.now s) }
+    ensures blocking { IfOk result (λ s. is_block s.settings.mode ≡ true) }
+    ensures small { IfOk result (λ s. size_of s.table ≤ 2 ^ 26) }
+    ensures stops { IfErr result (λ fault. StopsBlocking text.now fault) }
+{
+    let script = spelled_by(alloc, text)?;
+    match other_mode(&script, text) {
+        Some(line) => Err(Fault::Script {
+            line,
+            cause: STEER,
+            inner: 0,
+        }),
+        None => Ok(script),
+    }
+}
+
+// The line that sets the mode of a script, where that isn't the blocking one.
+fn other_mode(script: &Script, text: &[u8]) -> Option<u32>
+    requires reads { Reads text.now (Ok script.now) }
+    requires within { length text.now ≤ script_limit }
+    ensures none { result ≡ None → is_block script.now.settings.mode ≡ true }
+    ensures some { IfSome result (λ line. (is_block script.now.settings.mode ≡ false)
+        × FirstMode 1 (lines text.now) (Some line)) }
+{
+    modes_are_set();
+    match script.mode() {
+        RingMode::Block => None,
+        _ => mode_line(text),
+    }
 }
 
 fn read_input<S: Source>(alloc: Global, src: &mut S) -> Result<Bytes, Fault>

@@ -4,14 +4,18 @@ use Rattle.std.specs.Prelude.{Some, None, option_map}
 use Rattle.clap.specs.Words.{Text}
 use Rattle.clap.proofs.OnLiterals.{clap_on_literals}
 use Rattle.defmt_words.specs.declared.job.Job.{Job}
-use Rattle.defmt_words.specs.declared.job.Job.TheVariants.{Script, Decode}
-use Rattle.defmt_words.specs.declared.job.ScriptJob.TheVariants.{Run, Record, Table, Print, Generate}
+use Rattle.defmt_words.specs.declared.job.Job.TheVariants.{Script, Decode, Dump}
+use Rattle.defmt_words.specs.declared.job.ScriptJob.TheVariants.{Run, Record, Terminals, Steer, Table, Print, Generate}
+use Rattle.defmt_grammar.specs.Cut.{strip}
+use Rattle.defmt_hooks.specs.Reading.{floor_in, rules_in}
+use Rattle.defmt_hooks.specs.declared.level.Floor.TheVariants.{At}
+use Rattle.defmt_hooks.specs.declared.level.Level.TheVariants.{Warn}
 use Rattle.defmt_words.specs.Numbers.{decimal_in}
 use Rattle.defmt_words.specs.Words.{job, refusals, rows}
 
 -- the run of a script, its lines grouped or not
 abbrev running : Bool → Job
-running group = Script (Run (record { group = group }))
+running group = Script (Run (record { group = group; only = None }))
 
 module _ (name : Text) where
   plain : job (name ∷ codes "run" ∷ []) ≡ Some (running false)
@@ -26,11 +30,11 @@ module _ (name : Text) where
   unfolding clap_on_literals refusals rows
   group_first = refl
 
-  decodes : job (name ∷ codes "decode" ∷ codes "--table=t.elf" ∷ []) ≡ Some (Decode (codes "t.elf"))
+  decodes : job (name ∷ codes "decode" ∷ codes "--table=t.elf" ∷ []) ≡ Some (Decode (codes "t.elf") None)
   unfolding clap_on_literals refusals rows
   decodes = refl
 
-  decodes_apart : job (name ∷ codes "decode" ∷ codes "--table" ∷ codes "t.elf" ∷ []) ≡ Some (Decode (codes "t.elf"))
+  decodes_apart : job (name ∷ codes "decode" ∷ codes "--table" ∷ codes "t.elf" ∷ []) ≡ Some (Decode (codes "t.elf") None)
   unfolding clap_on_literals refusals rows
   decodes_apart = refl
 
@@ -90,7 +94,7 @@ module _ (name : Text) where
   unfolding clap_on_literals refusals rows
   no_value = refl
 
-  empty_value : job (name ∷ codes "decode" ∷ codes "--table=" ∷ []) ≡ Some (Decode [])
+  empty_value : job (name ∷ codes "decode" ∷ codes "--table=" ∷ []) ≡ Some (Decode [] None)
   unfolding clap_on_literals refusals rows
   empty_value = refl
 
@@ -105,6 +109,26 @@ module _ (name : Text) where
   records : job (name ∷ codes "record" ∷ []) ≡ Some (Script Record)
   unfolding clap_on_literals refusals rows
   records = refl
+
+  terminals : job (name ∷ codes "term" ∷ []) ≡ Some (Script Terminals)
+  unfolding clap_on_literals refusals rows
+  terminals = refl
+
+  steers : job (name ∷ codes "steer" ∷ []) ≡ Some (Script Steer)
+  unfolding clap_on_literals refusals rows
+  steers = refl
+
+  grouped_steering : job (name ∷ codes "steer" ∷ codes "--group" ∷ []) ≡ None
+  unfolding clap_on_literals refusals rows
+  grouped_steering = refl
+
+  only_steering : job (name ∷ codes "steer" ∷ codes "--only=warn" ∷ []) ≡ None
+  unfolding clap_on_literals refusals rows
+  only_steering = refl
+
+  grouped_terminals : job (name ∷ codes "term" ∷ codes "--group" ∷ []) ≡ None
+  unfolding clap_on_literals refusals rows
+  grouped_terminals = refl
 
   tables : job (name ∷ codes "table" ∷ []) ≡ Some (Script Table)
   unfolding clap_on_literals refusals rows
@@ -122,8 +146,45 @@ module _ (name : Text) where
   unfolding clap_on_literals refusals rows
   no_table = refl
 
+  dumps : job (name ∷ codes "dump" ∷ codes "--table=t.elf" ∷ []) ≡ Some (Dump (codes "t.elf") (record { base = 536870912; up = 0; old = false }) None)
+  unfolding clap_on_literals refusals rows
+  dumps = refl
+
+  dumps_all : job (name ∷ codes "--old" ∷ codes "dump" ∷ codes "--table=t.elf" ∷ codes "--up=3" ∷ codes "--base=0x1fFf" ∷ [])
+      ≡ Some (Dump (codes "t.elf") (record { base = 8191; up = 3; old = true }) None)
+  unfolding clap_on_literals refusals rows strip
+  dumps_all = refl
+
+  plain_base : job (name ∷ codes "dump" ∷ codes "--table=t.elf" ∷ codes "--base=20000000" ∷ []) ≡ None
+  unfolding clap_on_literals refusals rows strip
+  plain_base = refl
+
+  far_up : job (name ∷ codes "dump" ∷ codes "--table=t.elf" ∷ codes "--up=16" ∷ []) ≡ None
+  unfolding clap_on_literals refusals rows
+  far_up = refl
+
+  dump_no_table : job (name ∷ codes "dump" ∷ []) ≡ None
+  unfolding clap_on_literals refusals rows
+  dump_no_table = refl
+
+  stray_old : job (name ∷ codes "decode" ∷ codes "--table=t.elf" ∷ codes "--old" ∷ []) ≡ None
+  unfolding clap_on_literals refusals rows
+  stray_old = refl
+
+  only_warnings : job (name ∷ codes "run" ∷ codes "--only=warn" ∷ []) ≡ Some (Script (Run (record { group = false; only = Some (record { rest = At Warn; packages = [] }) })))
+  unfolding clap_on_literals refusals rows rules_in floor_in
+  only_warnings = refl
+
+  no_rules : job (name ∷ codes "decode" ∷ codes "--table=t.elf" ∷ codes "--only=loud" ∷ []) ≡ None
+  unfolding clap_on_literals refusals rows rules_in floor_in
+  no_rules = refl
+
+  stray_only : job (name ∷ codes "print" ∷ codes "--only=warn" ∷ []) ≡ None
+  unfolding clap_on_literals refusals rows
+  stray_only = refl
+
   -- the table may have any name
-  any_table : (file : Text) → job (name ∷ codes "decode" ∷ (codes "--table=" ++ file) ∷ []) ≡ Some (Decode file)
+  any_table : (file : Text) → job (name ∷ codes "decode" ∷ (codes "--table=" ++ file) ∷ []) ≡ Some (Decode file None)
   unfolding clap_on_literals refusals rows
   any_table file = refl
 

@@ -1,17 +1,19 @@
 -- What the words of the program ask for.
-use Rattle.std.specs.Prelude.{Bool, true, false, not, List, [], ◌∷◌, Option, Some, None, is_some, if◌then◌else◌, codes, option_map, option_and_then}
+use Rattle.std.specs.Prelude.{ℕ, Bool, true, false, not, List, [], ◌∷◌, Option, Some, None, is_some, if◌then◌else◌, codes, option_map, option_and_then}
 use Rattle.std.specs.Option.{option_map_or}
 use Rattle.std.specs.Str.{bytes_eq}
 use Rattle.clap.specs.Words.{App, Row, Rule, Text, first_of, fault_of, matches_of, new_app, new_rule, with_rule, Kinds}
 use Rattle.clap.specs.Walk.{is_empty}
 use Rattle.clap.specs.declared.builder.ArgAction.TheVariants.{SetTrue}
 use Rattle.defmt_words.specs.declared.job.Job.{Job}
-use Rattle.defmt_words.specs.declared.job.Job.TheVariants.{Script, Decode}
-use Rattle.defmt_words.specs.declared.job.ScriptJob.TheVariants.{Run, Record, Table, Print, Generate}
-use Rattle.defmt_words.specs.declared.job.RunOptions.{RunOptions}
+use Rattle.defmt_words.specs.declared.job.Job.TheVariants.{Script, Decode, Dump}
+use Rattle.defmt_words.specs.declared.job.ScriptJob.TheVariants.{Run, Record, Terminals, Steer, Table, Print, Generate}
+use Rattle.defmt_words.specs.declared.job.DumpOptions.{DumpOptions}
 use Rattle.defmt_words.specs.declared.job.Kind.{Kind}
 use Rattle.defmt_words.specs.declared.job.Kind.TheVariants.{Place, Value, Flag}
-use Rattle.defmt_words.specs.Numbers.{decimal_in}
+use Rattle.defmt_hooks.specs.declared.rules.Rules.{Rules}
+use Rattle.defmt_words.specs.Numbers.{decimal_in, hexadecimal_in}
+use Rattle.defmt_words.specs.Only.{only_in}
 
 -- A parameter: its name, how it stands in the words, the commands that take it, and those that need it.
 pub record Parameter : Type 0 where
@@ -24,8 +26,12 @@ pub record Parameter : Type 0 where
 abbrev pub parameters : List Parameter
 parameters =
     record { name = codes "number"; kind = Place; taken = codes "gen" ∷ []; needed = codes "gen" ∷ [] }
-    ∷ record { name = codes "table"; kind = Value; taken = codes "decode" ∷ []; needed = codes "decode" ∷ [] }
+    ∷ record { name = codes "table"; kind = Value; taken = codes "decode" ∷ codes "dump" ∷ []; needed = codes "decode" ∷ codes "dump" ∷ [] }
     ∷ record { name = codes "group"; kind = Flag; taken = codes "run" ∷ []; needed = [] }
+    ∷ record { name = codes "base"; kind = Value; taken = codes "dump" ∷ []; needed = [] }
+    ∷ record { name = codes "up"; kind = Value; taken = codes "dump" ∷ []; needed = [] }
+    ∷ record { name = codes "old"; kind = Flag; taken = codes "dump" ∷ []; needed = [] }
+    ∷ record { name = codes "only"; kind = Value; taken = codes "run" ∷ codes "decode" ∷ codes "dump" ∷ []; needed = [] }
     ∷ []
 
 -- ---- the command line, as `clap` sees it: the command, which is required, and then the parameters
@@ -84,11 +90,34 @@ all_go command rows (parameter ∷ more) = if goes command rows parameter then a
 
 -- ---- the job of a command, by parameters that go with it
 
-abbrev pub run_options : List Row → RunOptions
-run_options rows = record { group = is_set (codes "group") rows }
+-- the rules for what is printed, where there are some
+abbrev pub only_by : List Row → Option (Option Rules)
+only_by rows = only_in (first_of (codes "only") rows)
+
+abbrev pub run_by : List Row → Option Job
+run_by rows = option_map (λ only. Script (Run (record { group = is_set (codes "group") rows; only = only }))) (only_by rows)
 
 abbrev pub decode_by : List Row → Option Job
-decode_by rows = option_map (λ table. Decode table) (first_of (codes "table") rows)
+decode_by rows =
+    option_and_then (λ table. option_map (λ only. Decode table only) (only_by rows)) (first_of (codes "table") rows)
+
+-- the address that `--base` spells, or 20000000
+abbrev pub base_in : List Row → Option ℕ
+base_in rows = option_map_or hexadecimal_in (first_of (codes "base") rows) (Some 536870912)
+
+-- the number that `--up` spells, or 0
+abbrev pub up_in : List Row → Option ℕ
+up_in rows = option_map_or (decimal_in 0 15) (first_of (codes "up") rows) (Some 0)
+
+abbrev pub dump_options : List Row → Option DumpOptions
+dump_options rows = option_and_then
+    (λ base. option_map (λ up. record { base = base; up = up; old = is_set (codes "old") rows }) (up_in rows))
+    (base_in rows)
+
+abbrev pub dump_by : List Row → Option Job
+dump_by rows = option_and_then
+    (λ table. option_and_then (λ options. option_map (λ only. Dump table options only) (only_by rows)) (dump_options rows))
+    (first_of (codes "table") rows)
 
 abbrev pub generate_by : List Row → Option Job
 generate_by rows =
@@ -97,11 +126,14 @@ generate_by rows =
 -- A row a command.
 abbrev pub choice : Text → List Row → Option Job
 choice command rows =
-    if bytes_eq command (codes "run") then Some (Script (Run (run_options rows)))
+    if bytes_eq command (codes "run") then run_by rows
     else if bytes_eq command (codes "record") then Some (Script Record)
+    else if bytes_eq command (codes "term") then Some (Script Terminals)
+    else if bytes_eq command (codes "steer") then Some (Script Steer)
     else if bytes_eq command (codes "table") then Some (Script Table)
     else if bytes_eq command (codes "print") then Some (Script Print)
     else if bytes_eq command (codes "decode") then decode_by rows
+    else if bytes_eq command (codes "dump") then dump_by rows
     else if bytes_eq command (codes "gen") then generate_by rows
     else None
 

@@ -6,26 +6,42 @@ ghost use Rattle.defmt_words.specs.View.{parameter_view};
 
 use crate::number::Count;
 use defmt_grammar::Text;
+use defmt_hooks::Rules;
 
 /// What the words ask for.
 #[derive(Drop)]
 pub enum Job {
     /// A command on a script.
     Script(ScriptJob),
-    /// `decode --table FILE`: the lines of a recording.
+    /// `decode --table FILE [--only RULES]`: the lines of a recording.
     Decode {
         /// The name of the file that holds the table.
         table: Text,
+        /// `--only RULES`: which lines are printed, or else all.
+        only: Option<Rules>,
+    },
+    /// `dump --table FILE [--base 0xHEX] [--up N] [--old] [--only RULES]`: the lines of an up-buffer in an image of memory.
+    Dump {
+        /// The name of the file that holds the table.
+        table: Text,
+        /// Which bytes of the image are decoded.
+        options: DumpOptions,
+        /// `--only RULES`: which lines are printed, or else all.
+        only: Option<Rules>,
     },
 }
 
 /// What is done with a script.
 #[derive(Drop)]
 pub enum ScriptJob {
-    /// `run [--group]`: the script is run, and its lines are written.
+    /// `run [--group] [--only RULES]`: the script is run, and its lines are written.
     Run(RunOptions),
     /// `record`: the script is run, and what was sent is written.
     Record,
+    /// `term`: the script is run with its texts for terminals, and its lines and these texts are written.
+    Terminals,
+    /// `steer`: the script is run under its orders, and its lines and from which turn each order was heard are written.
+    Steer,
     /// `table`: the ELF file of its table is written.
     Table,
     /// `print`: the lines of its statements are written.
@@ -35,10 +51,23 @@ pub enum ScriptJob {
 }
 
 /// The options of `run`.
-#[derive(Clone, Copy, Drop)]
+#[derive(Drop)]
 pub struct RunOptions {
     /// `--group`: whether the lines are grouped by writer.
     pub group: bool,
+    /// `--only RULES`: which lines are printed, or else all.
+    pub only: Option<Rules>,
+}
+
+/// The options of `dump`.
+#[derive(Clone, Copy, Drop)]
+pub struct DumpOptions {
+    /// `--base 0xHEX`: the address of the first byte of an image that isn't a core file, or else 0x20000000.
+    pub base: u32,
+    /// `--up N`: the number of the up-buffer, or else 0.
+    pub up: u32,
+    /// `--old`: whether all bytes of the buffer are decoded, and not those alone that wait.
+    pub old: bool,
 }
 
 /// How a parameter stands in the words.
@@ -66,7 +95,7 @@ pub struct Parameter<'a> {
 }
 
 /// A row a parameter.
-pub fn parameters<'a>() -> [Parameter<'a>; 3]
+pub fn parameters<'a>() -> [Parameter<'a>; 7]
     ensures { map parameter_view result ≡ parameters }
 {
     [
@@ -79,13 +108,37 @@ pub fn parameters<'a>() -> [Parameter<'a>; 3]
         Parameter {
             name: "table",
             kind: Kind::Value,
-            taken: &["decode"],
-            needed: &["decode"],
+            taken: &["decode", "dump"],
+            needed: &["decode", "dump"],
         },
         Parameter {
             name: "group",
             kind: Kind::Flag,
             taken: &["run"],
+            needed: &[],
+        },
+        Parameter {
+            name: "base",
+            kind: Kind::Value,
+            taken: &["dump"],
+            needed: &[],
+        },
+        Parameter {
+            name: "up",
+            kind: Kind::Value,
+            taken: &["dump"],
+            needed: &[],
+        },
+        Parameter {
+            name: "old",
+            kind: Kind::Flag,
+            taken: &["dump"],
+            needed: &[],
+        },
+        Parameter {
+            name: "only",
+            kind: Kind::Value,
+            taken: &["run", "decode", "dump"],
             needed: &[],
         },
     ]

@@ -4,9 +4,10 @@
 mod command_line;
 mod job;
 mod number;
+mod only;
 mod parameters;
 mod reading;
 
-pub use job::{Job, RunOptions, ScriptJob};
+pub use job::{DumpOptions, Job, RunOptions, ScriptJob};
 pub use number::{Count, Within};
 pub use reading::job_of;

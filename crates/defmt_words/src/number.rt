@@ -1,7 +1,9 @@
 //! Numbers in words.
 
-ghost use Rattle.std.specs.Prelude.{◌≡◌, ◌≤◌};
-ghost use Rattle.defmt_words.specs.Numbers.{numeral_in, decimal_in};
+ghost use Rattle.std.specs.Prelude.{◌≡◌, ◌≤◌, length};
+ghost use Rattle.std.specs.Option.{option_copied};
+ghost use Rattle.defmt_grammar.specs.Cut.{strip};
+ghost use Rattle.defmt_words.specs.Numbers.{numeral_in, decimal_in, hexadecimal_digits, hexadecimal_in};
 
 use std::marker::Model;
 
@@ -13,6 +15,9 @@ pub struct Within<const LEAST: u32, const MOST: u32> {
 
 /// How many statements are generated.
 pub type Count = Within<1, 4096>;
+
+/// The number of an up-buffer.
+pub type Up = Within<0, 15>;
 
 impl<const LEAST: u32, const MOST: u32> Model for Within<LEAST, MOST> {
     ghost use Rattle.std.specs.Prelude.{ℕ, ◌≤◌};
@@ -62,4 +67,39 @@ pub fn decimal_of<const LEAST: u32, const MOST: u32>(text: &str) -> Option<Withi
         Some(number) if LEAST <= number && number <= MOST => Some(Within { number }),
         _ => None,
     }
+}
+
+// What stands behind a text's front, if it is this one.
+fn behind<'a>(text: &'a str, front: &str) -> Option<&'a str>
+    ensures { option_copied result ≡ strip front.now text.now }
+{
+    text.strip_prefix(front)
+}
+
+// The number that at most 8 hexadecimal digits spell, where there is one.
+fn hexadecimal_digits(digits: &str) -> Option<u32>
+    requires { length digits.now ≤ 8 }
+    ensures { result ≡ hexadecimal_digits digits.now }
+{
+    let [first, ..] = digits.as_bytes() else {
+        return None;
+    };
+    if *first == b'+' {
+        return None;
+    }
+    match u32::from_str_radix(digits, 16) {
+        Ok(number) => Some(number),
+        Err(_) => None,
+    }
+}
+
+/// The number that the text spells: `0x` and 1 to 8 hexadecimal digits of either case.
+pub fn hexadecimal_of(text: &str) -> Option<u32>
+    ensures { result ≡ hexadecimal_in text.now }
+{
+    let digits = behind(text, "0x")?;
+    if digits.len() > 8 {
+        return None;
+    }
+    hexadecimal_digits(digits)
 }

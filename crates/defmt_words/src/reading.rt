@@ -1,23 +1,33 @@
 // The job by what was found in the words.
 ghost use Rattle.std.specs.Prelude.{◌≡◌, map, IfOk, string_bytes};
 ghost use Rattle.clap.specs.Words.{found_of, rows_of};
-ghost use Rattle.defmt_words.specs.Words.{chosen, job, choice, decode_by, generate_by, run_options};
+ghost use Rattle.defmt_words.specs.Words.{chosen, job, choice, base_in, decode_by, dump_by, dump_options, generate_by, only_by, run_by, up_in};
 
 use crate::command_line::matches_of;
-use crate::job::{Job, RunOptions, ScriptJob, parameters};
-use crate::number::decimal_of;
+use crate::job::{DumpOptions, Job, RunOptions, ScriptJob, parameters};
+use crate::number::{Up, decimal_of, hexadecimal_of};
+use crate::only::only_of;
 use crate::parameters::{all_go, is_set, value_of};
 use clap::ArgMatches;
 use defmt_grammar::Text;
+use defmt_hooks::Rules;
 use dl_io::Memory;
 use std::alloc::Global;
 
-fn run_options(matches: &ArgMatches<'_>) -> RunOptions
-    ensures { result ≡ run_options (rows_of (found_of matches.now)) }
+fn only_by(alloc: Global, matches: &ArgMatches<'_>) -> Result<Option<Option<Rules>>, Memory>
+    ensures { IfOk result (λ only. only ≡ only_by (rows_of (found_of matches.now))) }
 {
-    RunOptions {
-        group: is_set(matches, "group"),
-    }
+    only_of(alloc, value_of(matches, "only"))
+}
+
+fn run_job(alloc: Global, matches: &ArgMatches<'_>) -> Result<Option<Job>, Memory>
+    ensures { IfOk result (λ job. job ≡ run_by (rows_of (found_of matches.now))) }
+{
+    let Some(only) = only_by(alloc, matches)? else {
+        return Ok(None);
+    };
+    let group = is_set(matches, "group");
+    Ok(Some(Job::Script(ScriptJob::Run(RunOptions { group, only }))))
 }
 
 fn text_of(alloc: Global, text: &str) -> Result<Text, Memory>
@@ -33,9 +43,62 @@ fn text_of(alloc: Global, text: &str) -> Result<Text, Memory>
 fn decode_job(alloc: Global, matches: &ArgMatches<'_>) -> Result<Option<Job>, Memory>
     ensures { IfOk result (λ job. job ≡ decode_by (rows_of (found_of matches.now))) }
 {
-    match value_of(matches, "table") {
-        Some(name) => Ok(Some(Job::Decode {
-            table: text_of(alloc, name)?,
+    let Some(name) = value_of(matches, "table") else {
+        return Ok(None);
+    };
+    let table = text_of(alloc, name)?;
+    match only_by(alloc, matches)? {
+        Some(only) => Ok(Some(Job::Decode { table, only })),
+        None => Ok(None),
+    }
+}
+
+// Where the memory of a Cortex-M begins.
+const BASE: u32 = 0x2000_0000;
+
+fn base_of(matches: &ArgMatches<'_>) -> Option<u32>
+    ensures { result ≡ base_in (rows_of (found_of matches.now)) }
+{
+    match value_of(matches, "base") {
+        Some(text) => hexadecimal_of(text),
+        None => Some(BASE),
+    }
+}
+
+fn up_of(matches: &ArgMatches<'_>) -> Option<u32>
+    ensures { result ≡ up_in (rows_of (found_of matches.now)) }
+{
+    let Some(text) = value_of(matches, "up") else {
+        return Some(0);
+    };
+    let up: Up = decimal_of(text)?;
+    Some(up.number())
+}
+
+fn dump_options(matches: &ArgMatches<'_>) -> Option<DumpOptions>
+    ensures { result ≡ dump_options (rows_of (found_of matches.now)) }
+{
+    let base = base_of(matches)?;
+    let up = up_of(matches)?;
+    let old = is_set(matches, "old");
+    Some(DumpOptions { base, up, old })
+}
+
+fn dump_job(alloc: Global, matches: &ArgMatches<'_>) -> Result<Option<Job>, Memory>
+    ensures { IfOk result (λ job. job ≡ dump_by (rows_of (found_of matches.now))) }
+{
+    let Some(name) = value_of(matches, "table") else {
+        return Ok(None);
+    };
+    let Some(options) = dump_options(matches) else {
+        return Ok(None);
+    };
+    let table = text_of(alloc, name)?;
+    match only_by(alloc, matches)? {
+        Some(only) => Ok(Some(Job::Dump {
+            table,
+            options,
+            only,
         })),
         None => Ok(None),
     }
@@ -53,11 +116,14 @@ fn choice_of(alloc: Global, command: &str, matches: &ArgMatches<'_>) -> Result<O
     ensures { IfOk result (λ job. job ≡ choice command.now (rows_of (found_of matches.now))) }
 {
     match command {
-        "run" => Ok(Some(Job::Script(ScriptJob::Run(run_options(matches))))),
+        "run" => run_job(alloc, matches),
         "record" => Ok(Some(Job::Script(ScriptJob::Record))),
+        "term" => Ok(Some(Job::Script(ScriptJob::Terminals))),
+        "steer" => Ok(Some(Job::Script(ScriptJob::Steer))),
         "table" => Ok(Some(Job::Script(ScriptJob::Table))),
         "print" => Ok(Some(Job::Script(ScriptJob::Print))),
         "decode" => decode_job(alloc, matches),
+        "dump" => dump_job(alloc, matches),
         "gen" => Ok(generate_job(matches)),
         _ => Ok(None),
     }
@@ -78,11 +144,12 @@ fn chosen_of(alloc: Global, matches: &ArgMatches<'_>) -> Result<Option<Job>, Mem
 
 /// What the words ask for, or `None` where they ask for nothing. The first word is the program's name.
 ///
-/// `clap` reads them as one simple command: a required positional `command`, an optional positional `number`, an option
-/// `--table` with one value, and a flag `--group`. The variants of [`Job`] and [`ScriptJob`] say which go with which command:
-/// what stands there in brackets may be left out, what stands there without must be there, and nothing else may. N is decimal,
-/// 1 to 4,096, without sign or leading zero. What `clap` answers with help or a version asks for nothing. The one error is want
-/// of memory.
+/// `clap` reads them as one simple command: a required positional `command`, an optional positional `number`, the options
+/// `--table`, `--base`, `--up` and `--only` with one value each, and the flags `--group` and `--old`. The variants of [`Job`] and
+/// [`ScriptJob`] say which go with which command: what stands there in brackets may be left out, what stands there without must be
+/// there, and nothing else may. N is decimal, without sign or leading zero: of `gen` from 1 to 4,096, of `--up` from 0 to 15. HEX is
+/// 1 to 8 hexadecimal digits of either case. RULES is what `defmt_hooks::read_rules` reads. What `clap` answers with help or a
+/// version asks for nothing. The one error is want of memory.
 pub fn job_of(alloc: Global, words: &[String]) -> Result<Option<Job>, Memory>
     ensures { IfOk result (λ answer. answer ≡ job (map string_bytes words.now)) }
 {

@@ -21,9 +21,9 @@ add_statement-requires c =
     let within : c.loop-place.place < length list = omega (arith, c.count-count.ensures) in
     let stm : Statement = c.in-Some.statement.now in
     record {
-      sound = subst (IsSound c.args.script.now.table c.args.script.now.settings.stamp) (at_place list c.loop-place.place stm within c.in-Some.ensures)
-          (all_at (IsSound c.args.script.now.table c.args.script.now.settings.stamp) list c.loop-place.place stm
-          (all_at (λ (l : List Statement). AllByRecursion (IsSound c.args.script.now.table c.args.script.now.settings.stamp) l) c.args.script.now.writers c.args.writer [] c.lawful.ensures.sound c.requires.writer) within);
+      sound = subst (IsSound c.args.script.now.table c.args.script.now.settings) (at_place list c.loop-place.place stm within c.in-Some.ensures)
+          (all_at (IsSound c.args.script.now.table c.args.script.now.settings) list c.loop-place.place stm
+          (all_at (λ (l : List Statement). AllByRecursion (IsSound c.args.script.now.table c.args.script.now.settings) l) c.args.script.now.writers c.args.writer [] c.lawful.ensures.sound c.requires.writer) within);
       few = omega (arith, within, c.requires.few);
     }
 

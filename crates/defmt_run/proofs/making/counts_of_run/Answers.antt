@@ -1,6 +1,7 @@
+use Rattle.std.specs.Prelude.{None}
 use Rattle.defmt_print.proofs.Marks.{few_marks}
-use Rattle.defmt_run.proofs.RunMade.{heard, so_told}
-use Rattle.defmt_run.specs.Making.{RanHeard}
+use Rattle.defmt_run.proofs.RunMade.{alone, so_told}
+use Rattle.defmt_run.specs.Making.{RanAlone}
 use Rattle.defmt_print.specs.Printed.{summary}
 use Rattle.defmt_run.specs.Told.{told, told_of}
 use Rattle.defmt_run.proofs.making.counts_of_run.Goals as goal
@@ -10,8 +11,8 @@ summary-requires c = few_marks c.args.run.script c.args.run.tape.marks c.lawful.
 
 pub returns : goal.returns
 returns c =
-    so_told (RanHeard c.args.run.script) (λ t. summary c.args.run.script t.tape)
-    (told c.with_run.result.outcome) (told_of c.args.run.tape.marks c.args.run.settled c.in_ok-events.events c.args.run.looks)
+    so_told (RanAlone c.args.run.script) (λ t. summary c.args.run.script t.tape)
+    (told c.with_run.result.outcome) (told_of c.args.run.tape.marks c.args.run.settled c.in_ok-events.events c.args.run.looks c.new.result.words None)
     c.with_run.result.output.items c.in_ok-output.output.items c.with_run.ensures.run c.with_run.ensures.output c.in_ok-output.ensures
-    (heard c.args.run.script c.args.run.tape.marks c.args.run.settled c.args.run.captured.items c.args.run.rest.items c.args.run.looks
-    c.requires.0 c.requires.1 c.in_ok-events.events c.in_ok-events.ensures.events c.in_ok-events.ensures.lines)
+    (alone c.args.run.script c.args.run.tape.marks c.args.run.settled c.args.run.captured.items c.args.run.rest.items c.args.run.looks
+    c.requires.0 c.requires.1 c.in_ok-events.events c.new.result.words c.in_ok-events.ensures.events c.in_ok-events.ensures.lines c.in_ok-events.ensures.gaps c.new.ensures.words)

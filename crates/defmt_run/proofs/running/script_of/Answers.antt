@@ -29,11 +29,21 @@ returns-in-Generate-clause-comes_not g c =
     (IfErr-weaker c.generated_script.result (λ (f : Fault). f ≡ Memory) (λ (f : Fault). ComesNot (Generate c.in-Generate.count) input f)
     (λ f memory. (memory, unread)) c.generated_script.ensures.memory)
 
+pub returns-in-Steer-clause-comes : goal.returns-in-Steer-clause-comes
+returns-in-Steer-clause-comes g c =
+    let input : Input = input_of g.S.Source.left g.S.Source.faults c.args.src.now c.steered_script.new.src in
+    subst (λ (job : ScriptJob). IfOk c.steered_script.result (λ (s : Read). Comes job input s)) (sym c.in-Steer.is) c.steered_script.ensures.gave
+
+pub returns-in-Steer-clause-comes_not : goal.returns-in-Steer-clause-comes_not
+returns-in-Steer-clause-comes_not g c =
+    let input : Input = input_of g.S.Source.left g.S.Source.faults c.args.src.now c.steered_script.new.src in
+    subst (λ (job : ScriptJob). IfErr c.steered_script.result (λ (f : Fault). ComesNot job input f)) (sym c.in-Steer.is) c.steered_script.ensures.withheld
+
 pub returns-in_default-clause-comes : goal.returns-in_default-clause-comes
 returns-in_default-clause-comes g c =
     let input : Input = input_of g.S.Source.left g.S.Source.faults c.args.src.now c.read_script.new.src in
     IfOk-weaker c.read_script.result (λ (s : Read). Gave input s) (λ (s : Read). Comes c.args.job.now input s)
-    (λ s gave. from_source c.args.job.now input s c.in_default.not-Generate gave) c.read_script.ensures.gave
+    (λ s gave. from_source c.args.job.now input s c.in_default.not-Generate c.in_default.not-Steer gave) c.read_script.ensures.gave
 
 pub returns-in_default-clause-comes_not : goal.returns-in_default-clause-comes_not
 returns-in_default-clause-comes_not g c =

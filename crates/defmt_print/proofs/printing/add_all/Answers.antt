@@ -1,16 +1,16 @@
-use Rattle.std.proofs.Common.{◌<◌, List, length, sym, arith}
+use Rattle.std.proofs.Common.{◌<◌, List, length, None, sym, arith}
 use Rattle.defmt_decode.specs.declared.event.Event.{Event}
-use Rattle.defmt_print.specs.Output.{by_line}
+use Rattle.defmt_print.specs.Output.{by_line, printer_behind}
 use Rattle.defmt_print.proofs.Events.{more_lines, more_state}
-use Rattle.defmt_print.proofs.printing.add_events.Goals as goal
+use Rattle.defmt_print.proofs.printing.add_all.Goals as goal
 
 pub loop-event-preserved : goal.loop-event-preserved
 loop-event-preserved c =
     let list : List Event = c.as_slice-event-items.result.now in
     let within : c.loop-event.event-index < length list = omega (arith, c.loop-event-test.true, c.loop-event.auto.event-index-end) in
     record {
-      lines = more_lines by_line (record {}) c.loop-event.printer list c.loop-event.event-index c.event-item.result within (sym c.event-item.is) c.loop-event.invariant.state
+      lines = more_lines by_line (printer_behind None) c.loop-event.printer list c.loop-event.event-index c.event-item.result within (sym c.event-item.is) c.loop-event.invariant.state
           c.args.out.now.items c.loop-event.out.items c.print.new.out.items c.loop-event.invariant.lines c.in_ok-print.ensures.appended;
-      state = more_state by_line (record {}) c.loop-event.printer list c.loop-event.event-index c.event-item.result within (sym c.event-item.is) c.loop-event.invariant.state
+      state = more_state by_line (printer_behind None) c.loop-event.printer list c.loop-event.event-index c.event-item.result within (sym c.event-item.is) c.loop-event.invariant.state
           c.print.new.self c.in_ok-print.ensures.moved;
     }

@@ -1,0 +1,147 @@
+-- What is printed where rules say which lines are shown: the others are left out, and nothing else changes.
+use Rattle.std.specs.Prelude.{◌==◌, ◌&&◌, ◌+◌, ℕ, Bool, true, List, [], ◌∷◌, ◌++◌, Option, Some, None, flat_map, option_map, refl, if◌then◌else◌}
+use Rattle.std.specs.FinMap as map
+use Rattle.std.specs.Coded.{Coded, code_by, coded×, coded_option, coded_ℕ}
+use Rattle.defmt_decode.specs.Event.{tells}
+use Rattle.defmt_decode.specs.Shown.{shows, shows_line}
+use Rattle.defmt_decode.specs.declared.event.Event.{Event}
+use Rattle.defmt_hooks.specs.contracts.rules.Rules.{the_row as rules_row}
+use Rattle.defmt_hooks.specs.declared.rules.Rules.{Rules}
+use Rattle.defmt_intern.specs.Catalog.{Catalog}
+use Rattle.defmt_intern.specs.Table.{Map}
+use Rattle.defmt_intern.specs.contracts.entry.Entry.{the_row as entry_row}
+use Rattle.defmt_intern.specs.declared.table.Profile.{Profile}
+use Rattle.defmt_intern.specs.declared.table.Profile.TheVariants as profiles
+use Rattle.defmt_listen.specs.Heard.{Reporting, Reports, lines_from}
+use Rattle.defmt_logger.specs.Tape.{mark_line}
+use Rattle.defmt_logger.specs.declared.mark.Mark.{Mark}
+use Rattle.defmt_print.specs.Output.{ended, event_line, event_lines_behind, gap_before, gap_line, is_fault, last_behind}
+use Rattle.defmt_print.specs.Printed.{mark_statement, whole_by}
+use Rattle.defmt_script.specs.Script.{Script}
+use Rattle.defmt_values.specs.declared.value.Statement.{Statement}
+use Rattle.rtt_modes.specs.declared.fate.Fate.{Fate}
+use Rattle.rtt_modes.specs.declared.fate.Fate.TheVariants.{Whole, Dropped, Cut}
+
+-- ---- events
+
+-- an event's line, and nothing of a line that isn't shown
+abbrev pub kept_event : Option Rules → Map → Event → List ℕ
+kept_event None table event = event_line event
+kept_event (Some rules) table event = if shows rules table event then event_line event else []
+
+-- the same behind the report of those that are missing in front of it, which stands also where the line isn't shown
+unfoldable pub shown_line : Rules → Map → Option ℕ → Event → List ℕ
+shown_line rules table last event = gap_line (gap_before last event) ++ kept_event (Some rules) table event
+
+-- rules, the table that they are asked with, and the place of the last line, where it had one
+pub record Screening : Type 0 where
+  pub rules : Rules
+  pub table : Map
+  pub last : Option ℕ
+
+abbrev pub screening : Rules → Map → Option ℕ → Screening
+screening rules table last = record { rules = rules; table = table; last = last }
+
+-- how the logic stores it: as its parts
+abbrev pub screening_code : Coded Screening
+screening_code =
+    code_by (Rules × (Map × Option ℕ)) (coded× rules_row.coded (coded× (map.code coded_ℕ entry_row.coded) (coded_option coded_ℕ)))
+    (λ s. (s.rules, (s.table, s.last)))
+    (λ p. screening p.0 p.1.0 p.1.1)
+    (λ _. refl)
+
+-- each event that is shown has its line, and in front of a line stands how many frames are missing since the last
+abbrev pub by_rules : Reporting Screening Event
+by_rules = record {
+  line = λ s event. shown_line s.rules s.table s.last event;
+  after = λ s event. screening s.rules s.table (last_behind s.last event);
+  is_fault = is_fault;
+}
+
+-- the events of a recording, by a table
+abbrev pub shown_reports : Rules → Catalog → Reports Screening Event
+shown_reports rules table = record { tells = tells table; reporting = by_rules; start = screening rules table.entries None }
+
+-- what events print behind a line with this place, by rules where there are some
+abbrev pub event_lines_from : Option Rules → Map → Option ℕ → List Event → List ℕ
+event_lines_from None table last events = event_lines_behind last events
+event_lines_from (Some rules) table last events = lines_from by_rules (screening rules table last) events
+
+-- what a list of events prints
+abbrev pub event_lines_by : Option Rules → Map → List Event → List ℕ
+event_lines_by only table events = event_lines_from only table None events
+
+-- ---- the shown lines of the frames that were sent whole, writer by writer
+
+abbrev pub shows_statement : Rules → Map → Option Statement → Bool
+shows_statement rules table (Some stm) = shows_line rules table stm.index
+shows_statement rules table None = true
+
+abbrev pub shows_by : Option Rules → Map → Option Statement → Bool
+shows_by None table statement = true
+shows_by (Some rules) table statement = shows_statement rules table statement
+
+-- the statement of a mark is shown
+abbrev pub shows_mark : Option Rules → Script → Mark → Bool
+shows_mark only s m = shows_by only s.table (mark_statement s m)
+
+abbrev pub writer_line : Option Rules → Script → ℕ → Mark → List ℕ
+writer_line only s writer m = if m.writer == writer && shows_mark only s m then whole_by m.fate (mark_line s m) else []
+
+-- the lines of one writer in the tape's order
+abbrev pub writer_lines : Option Rules → Script → List Mark → ℕ → List ℕ
+writer_lines only s tape writer = flat_map (writer_line only s writer) tape
+
+-- those of the writers 0 to 7 in order
+abbrev pub group_lines : Option Rules → Script → List Mark → List ℕ
+group_lines only s tape = flat_map (writer_lines only s tape) (0 ∷ 1 ∷ 2 ∷ 3 ∷ 4 ∷ 5 ∷ 6 ∷ 7 ∷ [])
+
+-- ---- the eager lines of the shown statements whose frames were sent whole, in the tape's order
+
+-- a line with this index is shown
+abbrev pub shows_index : Option Rules → Map → ℕ → Bool
+shows_index None table index = true
+shows_index (Some rules) table index = shows_line rules table index
+
+-- a line, where it is shown
+abbrev pub kept_line : Bool → List ℕ → List ℕ
+kept_line shown line = if shown then ended line else []
+
+abbrev pub shown_by : Fate → Option Statement → Bool → List ℕ → List ℕ
+shown_by Whole (Some stm) shown line = kept_line shown line
+shown_by fate statement shown line = []
+
+abbrev pub shown_mark_line : Option Rules → Script → Mark → List ℕ
+shown_mark_line only s m = shown_by m.fate (mark_statement s m) (shows_mark only s m) (mark_line s m)
+
+abbrev pub shown_mark_lines : Option Rules → Script → List Mark → List ℕ
+shown_mark_lines only s tape = flat_map (shown_mark_line only s) tape
+
+-- ---- the same with the gaps between them
+
+-- how many frames were dropped since the last that was sent whole, behind a mark; nothing where none was sent whole yet
+abbrev pub dropped_behind : Fate → Option ℕ → Option ℕ
+dropped_behind Whole dropped = Some 0
+dropped_behind (Dropped need room) dropped = option_map (λ d. d + 1) dropped
+dropped_behind (Cut need room) dropped = option_map (λ d. d + 1) dropped
+
+abbrev pub dropped_line : Option ℕ → List ℕ
+dropped_line None = []
+dropped_line (Some d) = gap_line d
+
+-- in place of a frame that was sent whole, a report of those that were dropped in front of it, and its line, where it is shown
+abbrev pub tape_line : Fate → Option ℕ → Bool → List ℕ → List ℕ
+tape_line Whole dropped shown line = dropped_line dropped ++ kept_line shown line
+tape_line (Dropped need room) dropped shown line = []
+tape_line (Cut need room) dropped shown line = []
+
+-- behind so many dropped frames
+abbrev pub tape_lines : Option Rules → Script → Option ℕ → List Mark → List ℕ
+tape_lines only s dropped [] = []
+tape_lines only s dropped (m ∷ ms) =
+    tape_line m.fate dropped (shows_mark only s m) (mark_line s m) ++ tape_lines only s (dropped_behind m.fate dropped) ms
+
+-- what a tape prints: in profile Two with the gaps
+abbrev pub tape_lines_by : Profile → Option Rules → Script → List Mark → List ℕ
+tape_lines_by profiles.One only s tape = shown_mark_lines only s tape
+tape_lines_by profiles.Two only s tape = tape_lines only s None tape

@@ -1,0 +1,63 @@
+// The lines of orders.
+ghost use Rattle.std.specs.Prelude.{◌≡◌, ◌++◌, OnOk};
+ghost use Rattle.defmt_hooks.specs.Spelling.{word_of};
+ghost use Rattle.defmt_hooks.specs.declared.level.Floor.TheVariants.{At};
+ghost use Rattle.defmt_print.specs.OrderLines.{order_lines, order_text};
+ghost use Rattle.defmt_print.specs.Output.{ended};
+
+use crate::output::add_count;
+use defmt_hooks::Level;
+use defmt_script::Script;
+use dl_io::{Bytes, Memory};
+use rtt_down::Turns;
+use std::alloc::Global;
+
+/// Appends a line for each order of a script, which tells from which of these turns on it was heard, or that none heard it.
+pub fn add_orders(
+    alloc: Global,
+    script: &Script,
+    turns: &Turns,
+    out: &mut Bytes,
+) -> Result<(), Memory>
+    ensures { OnOk result (out.new.items ≡ out.old.items
+        ++ order_lines script.now.settings.orders turns.now.turns) }
+{
+    script.lawful();
+    let mut number = 0;
+    while let Some((_, level)) = script.order(number) {
+        add_order(alloc, level, turns.heard_at(number), out)?;
+        number += 1;
+    }
+    Ok(())
+}
+
+// Appends the line of an order of this level, which the turn with this number heard first, or none.
+fn add_order(
+    alloc: Global,
+    level: Level,
+    turn: Option<usize>,
+    out: &mut Bytes,
+) -> Result<(), Memory>
+    ensures { OnOk result (out.new.items ≡ out.old.items ++ ended (order_text level turn)) }
+{
+    out.extend_from_slice(b"-- level ")?;
+    out.extend_from_slice(word_of(level).as_bytes())?;
+    match turn {
+        Some(turn) => add_count(alloc, b" from turn ", turn as u64, out)?,
+        None => out.extend_from_slice(b" unheard")?,
+    }
+    out.push(b'\n')
+}
+
+// The word of a level.
+fn word_of(level: Level) -> &'static str
+    ensures { result.now ≡ word_of (At level) }
+{
+    match level {
+        Level::Trace => "trace",
+        Level::Debug => "debug",
+        Level::Info => "info",
+        Level::Warn => "warn",
+        Level::Error => "error",
+    }
+}

@@ -1,0 +1,28 @@
+use Rattle.std.proofs.Common.{◌≡◌, Ok, Err, subst, sym}
+use Rattle.std.specs.Prelude.{IfOk, Result}
+use Rattle.defmt_run.specs.Making.{IsWordRun, IsWordTalk}
+use Rattle.defmt_script.specs.Script.{Script}
+use Rattle.defmt_writers.specs.Runs.{IsRun}
+use Rattle.defmt_writers.specs.Talks.{IsTalk}
+use Rattle.defmt_writers.specs.declared.script_run.Run.{Run}
+use Rattle.defmt_writers.specs.declared.talk_run.Talk.{Talk}
+use Rattle.rtt_ring.specs.declared.settled.RingKind.TheVariants.{Word}
+use Rattle.defmt_run.proofs.logging.speak.Goals as goal
+
+run_of_itself : {E : Type 0} (s : Script) (answer : Result (Run × Talk) E) → IfOk answer (λ (r : Run × Talk). r.0.script ≡ s)
+    → IfOk answer (λ (r : Run × Talk). IsRun s r.0.tape.marks r.0.settled r.0.captured.items r.0.rest.items r.0.looks)
+    → IfOk answer (λ (r : Run × Talk). (r.0.settled.ring ≡ Word) × (r.1.settled.ring ≡ Word)) → IfOk answer (λ (r : Run × Talk). IsWordRun r.0)
+run_of_itself s (Ok r) is run rings = (subst (λ (x : Script). IsRun x r.0.tape.marks r.0.settled r.0.captured.items r.0.rest.items r.0.looks) (sym is) run, rings.0)
+run_of_itself s (Err fault) is run rings = tt
+
+talk_of_itself : {E : Type 0} (s : Script) (answer : Result (Run × Talk) E) → IfOk answer (λ (r : Run × Talk). r.0.script ≡ s)
+    → IfOk answer (λ (r : Run × Talk). IsTalk s.said r.1.said.words r.1.settled r.1.captured.items r.1.rest.items)
+    → IfOk answer (λ (r : Run × Talk). (r.0.settled.ring ≡ Word) × (r.1.settled.ring ≡ Word)) → IfOk answer (λ (r : Run × Talk). IsWordTalk r.0 r.1)
+talk_of_itself s (Ok r) is talk rings = (subst (λ (x : Script). IsTalk x.said r.1.said.words r.1.settled r.1.captured.items r.1.rest.items) (sym is) talk, rings.1)
+talk_of_itself s (Err fault) is talk rings = tt
+
+pub returns-clause-run : goal.returns-clause-run
+returns-clause-run g c = run_of_itself c.args.script c.speak_by.result c.speak_by.ensures.script c.speak_by.ensures.run c.speak_by.ensures.rings
+
+pub returns-clause-talk : goal.returns-clause-talk
+returns-clause-talk g c = talk_of_itself c.args.script c.speak_by.result c.speak_by.ensures.script c.speak_by.ensures.talk c.speak_by.ensures.rings

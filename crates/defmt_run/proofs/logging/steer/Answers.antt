@@ -1,0 +1,18 @@
+use Rattle.std.proofs.Common.{◌≡◌, Ok, Err, subst, sym}
+use Rattle.std.specs.Prelude.{IfOk, Result}
+use Rattle.defmt_run.specs.Making.{IsWordSteered}
+use Rattle.defmt_script.specs.Script.{Script}
+use Rattle.defmt_writers.specs.Steers.{IsSteeredRun}
+use Rattle.defmt_writers.specs.declared.steer_run.SteeredRun.{SteeredRun}
+use Rattle.rtt_ring.specs.declared.settled.RingKind.TheVariants.{Word}
+use Rattle.defmt_run.proofs.logging.steer.Goals as goal
+
+of_itself : {E : Type 0} (s : Script) (answer : Result SteeredRun E) → IfOk answer (λ (r : SteeredRun). r.script ≡ s)
+    → IfOk answer (λ (r : SteeredRun). IsSteeredRun s r.turns.turns r.settled r.captured.items r.rest.items r.orders r.unheard.items)
+    → IfOk answer (λ (r : SteeredRun). (r.settled.ring ≡ Word) × (r.orders.ring ≡ Word)) → IfOk answer (λ (r : SteeredRun). IsWordSteered r)
+of_itself s (Ok r) is run rings =
+    (subst (λ (x : Script). IsSteeredRun x r.turns.turns r.settled r.captured.items r.rest.items r.orders r.unheard.items) (sym is) run, rings.0, rings.1)
+of_itself s (Err fault) is run rings = tt
+
+pub returns-clause-run : goal.returns-clause-run
+returns-clause-run g c = of_itself c.args.script c.steer_by.result c.steer_by.ensures.script c.steer_by.ensures.run c.steer_by.ensures.rings

@@ -1,0 +1,18 @@
+use Rattle.std.proofs.Common.{◌≡◌, ◌++◌, ◌∙◌, List, ℕ, ap, sym}
+use Rattle.std.proofs.lemmas.Result.{IfOk-weaker}
+use Rattle.defmt_decode.specs.Event.{events_of}
+use Rattle.defmt_decode.specs.declared.event.Event.{Event}
+use Rattle.defmt_print.specs.Heard.{catalog_of}
+use Rattle.defmt_run.proofs.showing.hear_steered.Goals as goal
+
+both : (a b first rest sent : List ℕ) → first ≡ a → rest ≡ b → sent ≡ a ++ b → first ++ rest ≡ sent
+both a b first rest sent first_is rest_is sent_is =
+    ap (λ (l : List ℕ). l ++ rest) first_is ∙ ap (λ (l : List ℕ). a ++ l) rest_is ∙ sym sent_is
+
+pub returns : goal.returns
+returns c =
+    let run = c.args.run.now in
+    IfOk-weaker c.heard_events.result (λ (events : List Event). events ≡ events_of (catalog_of run.script) (c.as_slice.result.now ++ c.as_slice-2.result.now))
+    (λ (events : List Event). events ≡ events_of (catalog_of run.script) run.settled.sent)
+    (λ events is. is ∙ ap (events_of (catalog_of run.script)) (both run.captured.items run.rest.items c.as_slice.result.now c.as_slice-2.result.now run.settled.sent c.as_slice.ensures c.as_slice-2.ensures c.requires.whole))
+    c.heard_events.ensures
