@@ -1,6 +1,7 @@
 // Macros with their arguments one by one: a proved caller of each, and messages that they put.
 ghost use Rattle.std.specs.Prelude.{◌≡◌, ◌≤◌, ◌<◌, ◌^◌, ◌∷◌, [], length, take};
 ghost use Rattle.defmt_encode.specs.Carry.{bytes_val, bytes_vals, message_of, stamp_args};
+ghost use Rattle.defmt_encode.specs.Placed.{HasPlace};
 ghost use Rattle.defmt_grammar.specs.Sizes.{IsSigned};
 ghost use Rattle.defmt_grammar.specs.declared.kind.IntSize.TheVariants as sizes;
 ghost use Rattle.defmt_grammar.specs.declared.kind.Kind.TheVariants as kinds;
@@ -16,6 +17,7 @@ ghost use Rattle.defmt_macros.specs.Stamps.{StampSuits};
 
 use crate::rows::{self, each_block};
 use crate::scripts::{script_of, site_at};
+use defmt_encode::place_suits;
 use defmt_grammar::{IntSize, Kind, Slot};
 use defmt_intern::{Table, Tag};
 use defmt_macros::{Frame, Site, debug, error, info, println_, put, stamp_suits, trace, warn};
@@ -58,6 +60,7 @@ fn with_trace(
     buf: &mut [u8],
     table: &Table,
     site: &Site,
+    place: Option<u16>,
     stamp: Option<u64>,
     a: u8,
     b: bool,
@@ -66,16 +69,19 @@ fn with_trace(
     requires tag { site.now.tag ≡ tags.Trace }
     requires slots { site.now.slots ≡ slots.One (kinds.Uint sizes.W8) ∷ slots.One kinds.Bool ∷ [] }
     requires entry { IsSite table.now.entries site.now.index site.now.tag site.now.slots }
+    requires place { HasPlace table.now.profile place }
     requires stamp { StampSuits table.now.entries stamp }
-    ensures { take result buf.new ≡ message_of table.now.entries (stamp_args stamp) site.now.index (val (uint a) (val (flag b) no_vals)) }
+    ensures { take result buf.new
+        ≡ message_of table.now.entries place (stamp_args stamp) site.now.index (val (uint a) (val (flag b) no_vals)) }
 {
-    trace!(buf, table, site, stamp; u8 a, bool b)
+    trace!(buf, table, site, place, stamp; u8 a, bool b)
 }
 
 fn with_debug(
     buf: &mut [u8],
     table: &Table,
     site: &Site,
+    place: Option<u16>,
     stamp: Option<u64>,
     a: i128,
     b: &[u8],
@@ -84,17 +90,20 @@ fn with_debug(
     requires tag { site.now.tag ≡ tags.Debug }
     requires slots { site.now.slots ≡ slots.One (kinds.Int sizes.W128) ∷ slots.One kinds.Bytes ∷ [] }
     requires entry { IsSite table.now.entries site.now.index site.now.tag site.now.slots }
+    requires place { HasPlace table.now.profile place }
     requires stamp { StampSuits table.now.entries stamp }
     requires short { length b.now ≤ 1000 }
-    ensures { take result buf.new ≡ message_of table.now.entries (stamp_args stamp) site.now.index (val (int a) (val (bytes b.now) no_vals)) }
+    ensures { take result buf.new
+        ≡ message_of table.now.entries place (stamp_args stamp) site.now.index (val (int a) (val (bytes b.now) no_vals)) }
 {
-    debug!(buf, table, site, stamp; i128 a, bytes b)
+    debug!(buf, table, site, place, stamp; i128 a, bytes b)
 }
 
 fn with_info(
     buf: &mut [u8],
     table: &Table,
     site: &Site,
+    place: Option<u16>,
     stamp: Option<u64>,
     a: &str,
     b: char,
@@ -103,17 +112,20 @@ fn with_info(
     requires tag { site.now.tag ≡ tags.Info }
     requires slots { site.now.slots ≡ slots.One kinds.Str ∷ slots.One kinds.Char ∷ [] }
     requires entry { IsSite table.now.entries site.now.index site.now.tag site.now.slots }
+    requires place { HasPlace table.now.profile place }
     requires stamp { StampSuits table.now.entries stamp }
     requires short { length a.now ≤ 1000 }
-    ensures { take result buf.new ≡ message_of table.now.entries (stamp_args stamp) site.now.index (val (str a.now) (val (char b) no_vals)) }
+    ensures { take result buf.new
+        ≡ message_of table.now.entries place (stamp_args stamp) site.now.index (val (str a.now) (val (char b) no_vals)) }
 {
-    info!(buf, table, site, stamp; str a, char b)
+    info!(buf, table, site, place, stamp; str a, char b)
 }
 
 fn with_warn(
     buf: &mut [u8],
     table: &Table,
     site: &Site,
+    place: Option<u16>,
     stamp: Option<u64>,
     a: u128,
     b: usize,
@@ -122,33 +134,52 @@ fn with_warn(
     requires tag { site.now.tag ≡ tags.Warn }
     requires slots { site.now.slots ≡ slots.One (kinds.Uint sizes.W128) ∷ slots.One (kinds.Uint sizes.Native) ∷ [] }
     requires entry { IsSite table.now.entries site.now.index site.now.tag site.now.slots }
+    requires place { HasPlace table.now.profile place }
     requires stamp { StampSuits table.now.entries stamp }
     requires range { b < 2 ^ 32 }
-    ensures { take result buf.new ≡ message_of table.now.entries (stamp_args stamp) site.now.index (val (uint a) (val (uint b) no_vals)) }
+    ensures { take result buf.new
+        ≡ message_of table.now.entries place (stamp_args stamp) site.now.index (val (uint a) (val (uint b) no_vals)) }
 {
-    warn!(buf, table, site, stamp; u128 a, usize b)
+    warn!(buf, table, site, place, stamp; u128 a, usize b)
 }
 
-fn with_error(buf: &mut [u8], table: &Table, site: &Site, stamp: Option<u64>, a: &Value) -> usize
+fn with_error(
+    buf: &mut [u8],
+    table: &Table,
+    site: &Site,
+    place: Option<u16>,
+    stamp: Option<u64>,
+    a: &Value,
+) -> usize
     requires room { 2000 ≤ length buf.old }
     requires tag { site.now.tag ≡ tags.Error }
     requires slots { (slot : AnySlot) × (site.now.slots ≡ slot ∷ []) × FitsVal table.now.entries 16 slot (plain a.now) × (length (bytes_val table.now.entries slot (plain a.now)) ≤ 1000) }
     requires entry { IsSite table.now.entries site.now.index site.now.tag site.now.slots }
+    requires place { HasPlace table.now.profile place }
     requires stamp { StampSuits table.now.entries stamp }
-    ensures { take result buf.new ≡ message_of table.now.entries (stamp_args stamp) site.now.index (val (plain a.now) no_vals) }
+    ensures { take result buf.new
+        ≡ message_of table.now.entries place (stamp_args stamp) site.now.index (val (plain a.now) no_vals) }
 {
-    error!(buf, table, site, stamp; value a)
+    error!(buf, table, site, place, stamp; value a)
 }
 
-fn with_println(buf: &mut [u8], table: &Table, site: &Site, stamp: Option<u64>) -> usize
+fn with_println(
+    buf: &mut [u8],
+    table: &Table,
+    site: &Site,
+    place: Option<u16>,
+    stamp: Option<u64>,
+) -> usize
     requires room { 2000 ≤ length buf.old }
     requires tag { site.now.tag ≡ tags.Println }
     requires slots { site.now.slots ≡ [] }
     requires entry { IsSite table.now.entries site.now.index site.now.tag site.now.slots }
+    requires place { HasPlace table.now.profile place }
     requires stamp { StampSuits table.now.entries stamp }
-    ensures { take result buf.new ≡ message_of table.now.entries (stamp_args stamp) site.now.index no_vals }
+    ensures { take result buf.new
+        ≡ message_of table.now.entries place (stamp_args stamp) site.now.index no_vals }
 {
-    println_!(buf, table, site, stamp;)
+    println_!(buf, table, site, place, stamp;)
 }
 
 // Each integer is put for a slot of its own size, as the bytes of its value.
@@ -187,6 +218,7 @@ fn put_front(buf: &[u8], count: usize, out: &mut String) -> Result<(), Fail> {
 fn put_trace(table: &Table, site: &Site, a: &str, b: &str, out: &mut String) -> Result<(), Fail>
     requires tag { site.now.tag ≡ tags.Trace }
     requires entry { IsSite table.now.entries site.now.index site.now.tag site.now.slots }
+    requires place { HasPlace table.now.profile None }
     requires stamp { StampSuits table.now.entries None }
 {
     let [Slot::One(Kind::Uint(IntSize::W8)), Slot::One(Kind::Bool)] = site.slots() else {
@@ -194,7 +226,7 @@ fn put_trace(table: &Table, site: &Site, a: &str, b: &str, out: &mut String) -> 
     };
     let a = u8::from_str_radix(a, 10)?;
     let mut buf = [0; 2000];
-    let count = with_trace(&mut buf, table, site, None, a, b == "true");
+    let count = with_trace(&mut buf, table, site, None, None, a, b == "true");
     put_front(&buf, count, out)
 }
 
@@ -207,6 +239,7 @@ fn put_debug(
 ) -> Result<(), Fail>
     requires tag { site.now.tag ≡ tags.Debug }
     requires entry { IsSite table.now.entries site.now.index site.now.tag site.now.slots }
+    requires place { HasPlace table.now.profile None }
     requires stamp { StampSuits table.now.entries None }
 {
     let [Slot::One(Kind::Int(IntSize::W128)), Slot::One(Kind::Bytes)] = site.slots() else {
@@ -217,13 +250,14 @@ fn put_debug(
         return Err(Fail::new("many bytes"));
     }
     let mut buf = [0; 2000];
-    let count = with_debug(&mut buf, table, site, None, a, bytes);
+    let count = with_debug(&mut buf, table, site, None, None, a, bytes);
     put_front(&buf, count, out)
 }
 
 fn put_info(table: &Table, site: &Site, a: &str, b: &str, out: &mut String) -> Result<(), Fail>
     requires tag { site.now.tag ≡ tags.Info }
     requires entry { IsSite table.now.entries site.now.index site.now.tag site.now.slots }
+    requires place { HasPlace table.now.profile None }
     requires stamp { StampSuits table.now.entries None }
 {
     let [Slot::One(Kind::Str), Slot::One(Kind::Char)] = site.slots() else {
@@ -236,13 +270,14 @@ fn put_info(table: &Table, site: &Site, a: &str, b: &str, out: &mut String) -> R
         return Err(Fail::new("a long text"));
     }
     let mut buf = [0; 2000];
-    let count = with_info(&mut buf, table, site, None, a, b);
+    let count = with_info(&mut buf, table, site, None, None, a, b);
     put_front(&buf, count, out)
 }
 
 fn put_warn(table: &Table, site: &Site, a: &str, b: &str, out: &mut String) -> Result<(), Fail>
     requires tag { site.now.tag ≡ tags.Warn }
     requires entry { IsSite table.now.entries site.now.index site.now.tag site.now.slots }
+    requires place { HasPlace table.now.profile None }
     requires stamp { StampSuits table.now.entries None }
 {
     let [
@@ -255,7 +290,7 @@ fn put_warn(table: &Table, site: &Site, a: &str, b: &str, out: &mut String) -> R
     let a = u128::from_str_radix(a, 10)?;
     let b = u32::from_str_radix(b, 10)?;
     let mut buf = [0; 2000];
-    let count = with_warn(&mut buf, table, site, None, a, b as usize);
+    let count = with_warn(&mut buf, table, site, None, None, a, b as usize);
     put_front(&buf, count, out)
 }
 
@@ -268,6 +303,7 @@ fn put_by_tag(
     out: &mut String,
 ) -> Result<(), Fail>
     requires entry { IsSite table.now.entries site.now.index site.now.tag site.now.slots }
+    requires place { HasPlace table.now.profile None }
     requires stamp { StampSuits table.now.entries None }
 {
     let (a, b) = parted(row, ' ');
@@ -282,6 +318,9 @@ fn put_by_tag(
 
 // The same of the first string of a table, where no message has a stamp.
 fn put_by_table(alloc: Global, table: &Table, row: &str, out: &mut String) -> Result<(), Fail> {
+    if !place_suits(table, None) {
+        return Err(Fail::new("a place"));
+    }
     if !stamp_suits(table, None) {
         return Err(Fail::new("a stamp"));
     }

@@ -1,10 +1,13 @@
 #![tactic(auto)]
 
-//! Tests of the device: stamps, the macros that put messages, a logger with its pens, and writers in threads.
+//! Tests of the device: stamps, the macros that put messages, a logger with its pens, a steered logger with its helms, and
+//! writers in threads, with texts and under orders too.
 #[cfg(test)]
 mod forms;
 #[cfg(test)]
 mod hooks;
+#[cfg(test)]
+mod hosted;
 #[cfg(test)]
 mod logger;
 #[cfg(test)]
@@ -15,5 +18,9 @@ mod rows;
 mod scripts;
 #[cfg(test)]
 mod sites;
+#[cfg(test)]
+mod steering;
+#[cfg(test)]
+mod talks;
 #[cfg(test)]
 mod writers;

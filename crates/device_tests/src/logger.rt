@@ -39,7 +39,20 @@ w 0 hi
 0.0 at 1250 Whole
 0.1 at 1500 Dropped { need: 7, room: 1 }
 3 marks, room for 4093
-sent 00 01 e8 03 72 7f 00 00 01 e2 04 72 7f 00";
+sent 00 01 e8 03 72 7f 00 00 01 e2 04 72 7f 00
+
+ring 64
+profile 2
+s hi defmt_info hello
+w 0 hi
+w 1 hi
+w 0 hi
+=
+1.0 at 0 Whole
+0.0 at 0 Whole
+0.1 at 0 Whole
+3 marks, room for 4093
+sent 00 01 7e 00 00 01 01 7a 00 00 01 02 7a 00";
 
 // The same where a frame of the first statement's string is begun, given two numbers and dropped afterwards.
 const DROPPED: &str = "\
@@ -52,7 +65,7 @@ sent 00 01 01 02 72 00";
 
 // Waits for nobody.
 #[derive(Drop)]
-struct NoRelief;
+pub(crate) struct NoRelief;
 
 impl Relief for NoRelief {
     ghost kept = { λ _. ⊤ };
@@ -92,7 +105,7 @@ fn drop_frame(site: &Site, table: &Table) -> Result<(), Fail> {
         return Err(Fail::new("other slots"));
     };
     let mut message = [0; 2000];
-    let mut frame = Frame::begin(&mut message, site, None);
+    let mut frame = Frame::begin(&mut message, site, None, None);
     put!(frame, table, u8 1);
     put!(frame, table, u8 2);
     drop(frame);
@@ -199,6 +212,6 @@ pub(crate) fn put_logged_and_dropped<W: Wait>(
 
 #[test]
 fn pens_log_what_fits_and_a_dropped_frame_leaves_no_trace(rt: HostRuntime) -> Result<(), Fail> {
-    each_block(&rt, rt.alloc(), LOGGED, 1, &rows::Kind::Logged)?;
+    each_block(&rt, rt.alloc(), LOGGED, 2, &rows::Kind::Logged)?;
     each_block(&rt, rt.alloc(), DROPPED, 1, &rows::Kind::LoggedAndDropped)
 }

@@ -3,8 +3,8 @@ ghost use Rattle.defmt_macros.specs.Sites.{IsSite};
 
 use crate::rows::{Kind, each_block};
 use crate::scripts::{script_of, site_at};
-use defmt_encode::message;
-use defmt_intern::Table;
+use defmt_encode::{message, place_suits};
+use defmt_intern::{Profile, Table};
 use defmt_macros::{Site, log, stamp_suits};
 use defmt_script::Script;
 use defmt_values::{Statement, check};
@@ -12,7 +12,8 @@ use std::alloc::Global;
 use std::test::Fail;
 use test_rows::put_digits;
 
-// A script: the message of its statement, with the script's first stamp, by the macro of the string's tag with all arguments.
+// A script, in the second profile where that is said first: the message of its statement, with the script's first stamp, by the
+// macro of the string's tag with all arguments.
 const MESSAGES: &str = "\
 s v defmt_trace {=u8}
 w 0 v 7
@@ -56,12 +57,26 @@ s point defmt_derived Pt {{ x: {=?}, y: {=?} }}
 s at defmt_debug at {} {:x}
 w 0 at point(number(3) number(255)) optional:1(number(255))
 =
-04 00 03 00 02 00 03 02 00 ff 01 00 01 02 00 ff";
+04 00 03 00 02 00 03 02 00 ff 01 00 01 02 00 ff
+
+two
+s v defmt_info {=u8}
+w 0 v 7
+=
+01 00 03 01 07
+
+two
+stamp 1000 1
+s hello defmt_warn hello
+w 0 hello
+=
+01 00 03 01 e8 03 00 00 00 00 00 00";
 
 // Puts the message of the macro of the site's tag.
 fn put_by_macro(
     table: &Table,
     site: &Site,
+    place: Option<u16>,
     stamp: Option<u64>,
     statement: &Statement,
     out: &mut String,
@@ -74,15 +89,18 @@ fn put_by_macro(
     if check(table, statement).is_err() {
         return Err(Fail::new("the statement doesn't fit"));
     }
+    if !place_suits(table, place) {
+        return Err(Fail::new("the place doesn't suit"));
+    }
     let mut whole = [0; 2000];
-    if message(table, stamp, statement, &mut whole).is_err() {
+    if message(table, place, stamp, statement, &mut whole).is_err() {
         return Err(Fail::new("the message is too long"));
     }
     if !stamp_suits(table, stamp) {
         return Err(Fail::new("the stamp doesn't suit"));
     }
     let mut buf = [0; 2000];
-    let count = log(&mut buf, table, site, stamp, &statement.args);
+    let count = log(&mut buf, table, site, place, stamp, &statement.args);
     put_digits(out, &buf[..count])
 }
 
@@ -93,20 +111,40 @@ fn first_stamp(script: &Script) -> Option<u64> {
     }
 }
 
-fn put_first_message(alloc: Global, script: &Script, out: &mut String) -> Result<(), Fail> {
+// A place where there has to be one.
+fn first_place(profile: Profile) -> Option<u16> {
+    match profile {
+        Profile::One => None,
+        Profile::Two => Some(259),
+    }
+}
+
+fn put_first_message(
+    alloc: Global,
+    profile: Profile,
+    script: &Script,
+    out: &mut String,
+) -> Result<(), Fail> {
     let Some(statement) = script.statement(0, 0) else {
         return Err(Fail::new("no statement"));
     };
-    let site = site_at(alloc, script.table(), statement.index)?;
-    put_by_macro(script.table(), &site, first_stamp(script), statement, out)
+    let mut table = script.table().copy()?;
+    table.set_profile(profile);
+    let site = site_at(alloc, &table, statement.index)?;
+    let (place, stamp) = (first_place(profile), first_stamp(script));
+    put_by_macro(&table, &site, place, stamp, statement, out)
 }
 
 pub(crate) fn put_message(alloc: Global, text: &str, out: &mut String) -> Result<(), Fail> {
-    let script = script_of(alloc, text)?;
-    put_first_message(alloc, &script, out)
+    let (profile, lines) = match text.strip_prefix("two\n") {
+        Some(lines) => (Profile::Two, lines),
+        None => (Profile::One, text),
+    };
+    let script = script_of(alloc, lines)?;
+    put_first_message(alloc, profile, &script, out)
 }
 
 #[test]
 fn each_tag_has_its_macro(rt: HostRuntime) -> Result<(), Fail> {
-    each_block(&rt, rt.alloc(), MESSAGES, 8, &Kind::Message)
+    each_block(&rt, rt.alloc(), MESSAGES, 10, &Kind::Message)
 }

@@ -1,9 +1,12 @@
 // The rows of the tests, by what is asked of their inputs.
 use crate::forms::put_form;
-use crate::hooks::put_stamps;
+use crate::hooks::{put_packages, put_rules, put_stamps};
+use crate::hosted::put_hosted;
 use crate::logger::{put_logged, put_logged_and_dropped};
 use crate::macros::put_message;
 use crate::sites::{put_list, put_site};
+use crate::steering::{put_heard, put_steered};
+use crate::talks::put_talk;
 use crate::writers::{put_alone, put_in_time, put_meeting, put_open, put_queued};
 use std::alloc::Global;
 use std::sync::Wait;
@@ -15,16 +18,22 @@ use std::thread::Threads;
 pub(crate) enum Kind {
     Form,
     Stamps,
+    Rules,
+    Packages,
     Site,
     List,
     Message,
     Logged,
     LoggedAndDropped,
+    Heard,
+    Steered,
     Meeting,
     Queued,
     InTime,
     Open,
     Alone,
+    Talk,
+    Hosted,
 }
 
 fn put_answer<R: Threads + Wait + Sync>(
@@ -37,16 +46,22 @@ fn put_answer<R: Threads + Wait + Sync>(
     match kind {
         Kind::Form => put_form(alloc, input, out),
         Kind::Stamps => put_stamps(input, out),
+        Kind::Rules => put_rules(alloc, input, out),
+        Kind::Packages => put_packages(alloc, input, out),
         Kind::Site => put_site(alloc, input, out),
         Kind::List => put_list(alloc, input, out),
         Kind::Message => put_message(alloc, input, out),
         Kind::Logged => put_logged(rt, alloc, input, out),
         Kind::LoggedAndDropped => put_logged_and_dropped(rt, alloc, input, out),
+        Kind::Heard => put_heard(input, out),
+        Kind::Steered => put_steered(rt, alloc, input, out),
         Kind::Meeting => put_meeting(rt, alloc, input, out),
         Kind::Queued => put_queued(rt, alloc, input, out),
         Kind::InTime => put_in_time(rt, alloc, input, out),
         Kind::Open => put_open(rt, alloc, input, out),
         Kind::Alone => put_alone(rt, alloc, input, out),
+        Kind::Talk => put_talk(rt, alloc, input, out),
+        Kind::Hosted => put_hosted(rt, alloc, input, out),
     }
 }
 

@@ -221,7 +221,8 @@ enum Told<'g> {
     Reached(&'g AtomicU64),
 }
 
-fn put_account(run: &Run, out: &mut String) -> Result<(), Fail> {
+/// Puts how many marks a run has, what it sent over which ring, and what was captured of that.
+pub(crate) fn put_account(run: &Run, out: &mut String) -> Result<(), Fail> {
     let (count, sent, ring) = (run.tape.len(), run.settled.sent_len(), run.settled.ring());
     write!(out, "{count} marks, {sent} bytes sent, {ring:?}\ncaptured ")?;
     put_digits_or_nothing(out, run.captured.as_slice())?;
@@ -330,7 +331,8 @@ fn serve_alone<H: Channel, E: Names, K: Naming, C: Clock + Drop, W: Wait>(
     rest: &mut Bytes,
 ) -> Result<(), Fail>
     requires pace { stamp ≡ pace_of script.settings.stamp }
-    requires up { H.Up.view up ≡ new_up (H.Up.view up).split script.settings.ring (H.Up.view up).tells }
+    requires up { H.Up.view up
+        ≡ new_up (H.Up.view up).split script.settings.ring (H.Up.view up).tells }
     requires told { TellsIn script.settings.mode (H.Up.view up) }
     requires down { H.Down.view down ≡ new_down (H.Up.view up).split script.settings.ring }
     requires empty { (captured.old.items ≡ []) × (rest.old.items ≡ []) }

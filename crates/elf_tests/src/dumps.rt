@@ -1,11 +1,10 @@
 //! Images of memory, bare and in core files, their segments and the bytes of a buffer, and each refusal.
-use crate::files::parted;
 use crate::rows::Kind;
 use rtt_dump::{Cause, DumpFault, Flaw, dumped, segments};
 use std::alloc::Global;
 use std::fmt::Write;
 use std::test::Fail;
-use test_rows::{each_line, image_of, put_digits, put_str};
+use test_rows::{each_line, image_of, parted, put_digits, put_str};
 
 fn put_fault(fault: DumpFault, out: &mut String) -> Result<(), Fail> {
     match fault {
@@ -45,7 +44,7 @@ fn put_parts(alloc: Global, file: &[u8], base: u32, out: &mut String) -> Result<
 }
 
 pub fn put_segments(alloc: Global, row: &str, out: &mut String) -> Result<(), Fail> {
-    let (base, steps) = parted(row);
+    let (base, steps) = parted(row, ' ');
     let base = u32::from_str_radix(base, 16)?;
     put_parts(alloc, &image_of(alloc, steps)?, base, out)
 }
@@ -125,9 +124,9 @@ ffffffc1 1 waiting zeros 64 = cause 8 at 0
 0 0 waiting image|core 64|84 01 = cause 7 at 8";
 
 pub fn put_dumps(alloc: Global, row: &str, out: &mut String) -> Result<(), Fail> {
-    let (base, rest) = parted(row);
-    let (up, rest) = parted(rest);
-    let (which, steps) = parted(rest);
+    let (base, rest) = parted(row, ' ');
+    let (up, rest) = parted(rest, ' ');
+    let (which, steps) = parted(rest, ' ');
     let base = u32::from_str_radix(base, 16)?;
     let up = up.parse::<u32>()?;
     put_dumped(

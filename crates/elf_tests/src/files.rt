@@ -2,15 +2,7 @@
 use std::alloc::Global;
 use std::fmt::Write;
 use std::test::Fail;
-use test_rows::bytes_of;
-
-/// What stands in front of the first space and behind it, and nothing where there is no space.
-pub fn parted(text: &str) -> (&str, &str) {
-    match text.split_once(' ') {
-        Some(parts) => parts,
-        None => (text, ""),
-    }
-}
+use test_rows::{bytes_of, parted};
 
 /// The number in so many bytes, at most eight, the lowest first.
 fn put(out: &mut Vec<u8>, len: usize, number: u64) -> Result<(), Fail> {
@@ -98,8 +90,8 @@ impl Linked {
     /// The symbols of these lines, each with its section, value and name.
     pub fn push_lines(&mut self, lines: &str) -> Result<(), Fail> {
         for line in lines.lines() {
-            let (section, rest) = parted(line);
-            let (value, name) = parted(rest);
+            let (section, rest) = parted(line, ' ');
+            let (value, name) = parted(rest, ' ');
             self.push_named(section.parse::<u64>()?, value.parse::<u64>()?, name)?;
         }
         Ok(())
@@ -187,8 +179,8 @@ pub fn put_over(file: &mut Vec<u8>, at: usize, bytes: &[u8]) -> Result<(), Fail>
 
 /// Damages a file: `cut 15` leaves its first 15 bytes, `at 4 03` puts other bytes over those at a place.
 pub fn damage(alloc: Global, file: &mut Vec<u8>, text: &str) -> Result<(), Fail> {
-    let (what, rest) = parted(text);
-    let (number, digits) = parted(rest);
+    let (what, rest) = parted(text, ' ');
+    let (number, digits) = parted(rest, ' ');
     let at = number.parse::<usize>()?;
     match what {
         "cut" => file.truncate(at),

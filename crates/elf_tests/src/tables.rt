@@ -1,14 +1,14 @@
 //! Tables that are written and read back, those of linked files, and refusals.
-use crate::files::{Linked, REFUSED, damage, parted, put_unlike};
+use crate::files::{Linked, REFUSED, damage, put_unlike};
 use crate::rows::Kind;
 use defmt_grammar::Text;
-use defmt_intern::{Entry, Table, Tag};
+use defmt_intern::{Entry, Profile, Table, Tag};
 use dl_io::Bytes;
 use elf_table::{LoadFault, is_writable, read_table, write_table};
 use std::alloc::Global;
 use std::fmt::Write;
 use std::test::Fail;
-use test_rows::{each_block, each_line, expect, put_str};
+use test_rows::{each_block, each_line, expect, parted, put_str};
 
 fn put_word(word: &str, out: &mut String) -> Result<(), Fail> {
     put_str(out, " ")?;
@@ -23,9 +23,13 @@ fn put_entry(index: u16, entry: &Entry, out: &mut String) -> Result<(), Fail> {
     put_word(entry.text.as_str(), out)
 }
 
-/// How many entries there are, the index of the timestamp, and each entry's index, tag, package, disambiguator and text.
+/// How many entries there are, the profile where it is the second, the index of the timestamp, and each entry's index, tag,
+/// package, disambiguator and text.
 fn put_listing(table: &Table, out: &mut String) -> Result<(), Fail> {
     write!(out, "{} entries", table.len())?;
+    if let Profile::Two = table.profile() {
+        put_str(out, " of profile Two")?;
+    }
     if let Some(index) = table.stamp() {
         write!(out, ", stamp {index}")?;
     }
@@ -75,8 +79,8 @@ fn entry_of(alloc: Global, tag: &str, text: &str) -> Result<Entry, Fail> {
 
 /// Puts the entry of a line, which has its index, tag and text, into a table.
 fn insert_line(alloc: Global, line: &str, table: &mut Table) -> Result<(), Fail> {
-    let (index, rest) = parted(line);
-    let (tag, text) = parted(rest);
+    let (index, rest) = parted(line, ' ');
+    let (tag, text) = parted(rest, ' ');
     Ok(table.insert(index.parse::<u16>()?, entry_of(alloc, tag, text)?)?)
 }
 
@@ -94,8 +98,16 @@ fn file_of(alloc: Global, table: &Table) -> Result<Bytes, Fail> {
     Ok(write_table(alloc, table)?)
 }
 
-fn written(alloc: Global, lines: &str) -> Result<Bytes, Fail> {
+// The lines of a table, in the second profile where it is said first.
+fn written(alloc: Global, text: &str) -> Result<Bytes, Fail> {
     let mut table = Table::new(alloc);
+    let lines = match text.strip_prefix("two\n") {
+        Some(lines) => {
+            table.set_profile(Profile::Two);
+            lines
+        }
+        None => text,
+    };
     insert_lines(alloc, lines, &mut table)?;
     file_of(alloc, &table)
 }
@@ -111,7 +123,17 @@ const WRITTEN: &str = "\
 700 defmt_prim None|Some({=?})
 =
 3 entries, stamp 65535; 0 defmt_bitflags script 1 a\"b\\é\u{1}; 700 defmt_prim script 1 None|Some({=?}); \
-65535 defmt_timestamp script 1 {=u64:us}";
+65535 defmt_timestamp script 1 {=u64:us}
+
+two
+1 defmt_info hello
+=
+1 entries of profile Two; 1 defmt_info script 1 hello
+
+two
+65535 defmt_timestamp {=u64:us}
+=
+1 entries of profile Two, stamp 65535; 65535 defmt_timestamp script 1 {=u64:us}";
 
 pub fn put_read_back(alloc: Global, lines: &str, out: &mut String) -> Result<(), Fail> {
     let file = written(alloc, lines)?;
@@ -119,15 +141,19 @@ pub fn put_read_back(alloc: Global, lines: &str, out: &mut String) -> Result<(),
 }
 
 #[test]
-fn one_entry_makes_472_bytes(rt: HostRuntime) -> Result<(), Fail> {
+fn one_entry_makes_472_bytes_and_36_more_in_the_second_profile(
+    rt: HostRuntime,
+) -> Result<(), Fail> {
     let file = written(rt.alloc(), "1 defmt_info hello")?;
     assert_eq!(rt; file.len(), 472);
+    let of_two = written(rt.alloc(), "two\n1 defmt_info hello")?;
+    assert_eq!(rt; of_two.len(), 508);
     Ok(())
 }
 
 #[test]
 fn a_table_reads_back_with_its_indexes(rt: HostRuntime) -> Result<(), Fail> {
-    each_block(rt.alloc(), WRITTEN, 2, &Kind::TableReadBack)?;
+    each_block(rt.alloc(), WRITTEN, 4, &Kind::TableReadBack)?;
     let mut none = String::new(rt.alloc());
     put_read_back(rt.alloc(), "", &mut none)?;
     expect(none.as_str(), "0 entries")
@@ -195,7 +221,19 @@ cause 5 symbol 1
 3 1 {"package":"app","data":"hello","disambiguator":"7"}
 3 2 {"package":"app","tag":"defmt_timestamp","data":"{=u64}","disambiguator":"7"}
 =
-cause 8 Nothing 0"#;
+cause 8 Nothing 0
+
+65521 0 _defmt_encoding_ = rzcobs
+65521 0 "_defmt_profile_ = 2"
+3 3 {"package":"app","tag":"defmt_info","data":"hello","disambiguator":"7","crate_name":"app","x":[1,{"y":null}]}
+=
+1 entries of profile Two; 3 defmt_info app 7 hello
+
+65521 0 _defmt_encoding_ = rzcobs
+65521 0 _defmt_profile_ = 3
+3 1 {"package":"app","data":"hello","disambiguator":"7"}
+=
+cause 9 Nothing 0"#;
 
 fn push_linked(linked: &mut Linked, lines: &str) -> Result<(), Fail> {
     linked.begin(FRONT)?;
@@ -228,7 +266,7 @@ pub fn put_answer_to_symbols(alloc: Global, lines: &str, out: &mut String) -> Re
 
 #[test]
 fn linked_files_of_both_classes_name_their_table(rt: HostRuntime) -> Result<(), Fail> {
-    each_block(rt.alloc(), LINKED, 7, &Kind::AnswerToSymbols)
+    each_block(rt.alloc(), LINKED, 9, &Kind::AnswerToSymbols)
 }
 
 // The second symbol's text has 4,097 bytes.

@@ -63,6 +63,66 @@ fn a_script_is_printed_writer_by_writer_and_a_generated_one_is_counted(
     each_block(&rt, rt.alloc(), LINES, 4, &Kind::Lines)
 }
 
+// The lines that rules show, of a run and of one in groups. A println line and the reports don't depend on rules.
+const SHOWN: &str = "\
+defmtl run --only warn --group
+ring 64
+s a defmt_info a {=u8}
+s b defmt_warn b {=bool}
+w 0 a 1
+w 1 b true
+w 0 a 2
+w 1 b false
+=
+status 0 fine
+WARN  b true
+WARN  b false
+
+defmtl run --group --only off,script=info
+ring 64
+s a defmt_info a {=u8}
+s b defmt_warn b {=bool}
+w 0 a 1
+w 1 b true
+w 0 a 2
+w 1 b false
+=
+status 0 fine
+INFO  a 1
+INFO  a 2
+WARN  b true
+WARN  b false
+
+defmtl run --only warn
+s a defmt_info a {=u8}
+s b defmt_warn b {=bool}
+s p defmt_println done
+w 0 a 1
+w 0 b true
+w 0 p
+=
+status 0 fine
+WARN  b true
+done
+
+defmtl run --only off
+ring 16
+mode skip
+reader late
+s hi defmt_info hello
+w 0 hi
+w 0 hi
+w 0 hi
+w 0 hi
+=
+status 0 fine
+-- dropped writer 0 statement 3 need 4 room 3";
+
+#[test]
+fn lines_that_rules_do_not_show_are_left_out_and_nothing_else(rt: HostRuntime) -> Result<(), Fail> {
+    each_block(&rt, rt.alloc(), SHOWN, 4, &Kind::Lines)
+}
+
 // The status and the digits of the bytes.
 const RECORDINGS: &str = "\
 defmtl record
@@ -80,7 +140,16 @@ s log defmt_debug at {} {:x}
 w 0 log pt(num(3) num(255)) opt:1(num(255))
 =
 status 0 fine
-00 04 03 02 03 2a 02 ff 01 01 02 12 ff 7d 00";
+00 04 03 02 03 2a 02 ff 01 01 02 12 ff 7d 00
+
+defmtl record
+profile 2
+s hi defmt_info hello
+w 0 hi
+w 0 hi
+=
+status 0 fine
+00 01 7e 00 00 01 01 7a 00";
 
 /// Puts the status of an outcome, and below it the digits of what was written.
 pub(crate) fn put_bytes(
@@ -100,7 +169,14 @@ defmtl table
 s hi defmt_info hello
 w 0 hi
 =
-status 0 fine, 472 bytes";
+status 0 fine, 472 bytes
+
+defmtl table
+profile 2
+s hi defmt_info hello
+w 0 hi
+=
+status 0 fine, 508 bytes";
 
 /// Puts the status of an outcome, and how many bytes were written.
 pub(crate) fn put_length(
@@ -117,6 +193,6 @@ pub(crate) fn put_length(
 fn a_recording_is_the_bytes_that_were_sent_and_a_table_has_its_length(
     rt: HostRuntime,
 ) -> Result<(), Fail> {
-    each_block(&rt, rt.alloc(), RECORDINGS, 2, &Kind::Digits)?;
-    each_block(&rt, rt.alloc(), TABLES, 1, &Kind::Length)
+    each_block(&rt, rt.alloc(), RECORDINGS, 3, &Kind::Digits)?;
+    each_block(&rt, rt.alloc(), TABLES, 2, &Kind::Length)
 }

@@ -12,6 +12,9 @@ use test_rows::{bytes_of, number_of, parted};
 /// A script that logs one string.
 pub(crate) const HI: &str = "s hi defmt_info hello\nw 0 hi";
 
+// The same in profile Two.
+const HI_AT: &str = "profile 2\ns hi defmt_info hello\nw 0 hi";
+
 const RECORDINGS: &str = "\
 defmtl decode --table hi.elf
 00 01 7e 00
@@ -39,6 +42,64 @@ defmtl decode --table hi.elf
 status 9 events with faults 1
 -- front 2
 
+defmtl decode --table hi-at.elf
+00 01 7e 00 00 01 03 7a 00
+=
+status 0 fine
+INFO  hello
+-- gap 2
+INFO  hello
+
+defmtl decode --table hi-at.elf
+00 01 ff ff 72 00 00 01 01 7a 00
+=
+status 0 fine
+INFO  hello
+-- gap 1
+INFO  hello
+
+defmtl decode --table hi-at.elf
+00 01 7e 00 7f 00 01 03 7a 00
+=
+status 9 events with faults 1
+INFO  hello
+-- E2 NoEntry
+-- gap 2
+INFO  hello
+
+defmtl decode --table hi-at.elf
+00 01 7e 00 00 01 7e 00
+=
+status 0 fine
+INFO  hello
+-- gap 65535
+INFO  hello
+
+defmtl decode --table hi.elf
+00 01 7e 00 00 01 01 7a 00
+=
+status 9 events with faults 1
+INFO  hello
+-- E11 Trailing
+
+defmtl decode --table hi-at.elf --only off
+00 01 7e 00 00 01 03 7a 00
+=
+status 0 fine
+-- gap 2
+
+defmtl decode --table hi.elf --only off
+00 01 00 00 01 7e 00
+=
+status 9 events with faults 1
+-- E1 Cobs
+
+defmtl decode --table hi.elf --only off,script=info
+00 01 7e 00
+=
+status 0 fine
+INFO  hello
+
 defmtl decode --table hi.elf
 =
 status 0 fine
@@ -55,18 +116,20 @@ defmtl decode --table other.elf
 =
 status 7 shelf";
 
-/// Puts the table of `HI` on the shelf, and a file that is no table.
+/// Puts the tables of `HI` and `HI_AT` on the shelf, and a file that is no table.
 pub(crate) fn add_files<R: Threads + Wait + Sync>(
     rt: &R,
     alloc: Global,
     shelf: &mut MemShelf,
 ) -> Result<(), Fail> {
     add_table(rt, alloc, "hi.elf", HI, shelf)?;
+    add_table(rt, alloc, "hi-at.elf", HI_AT, shelf)?;
     let file = Bytes::from_slice(alloc, b"hello")?;
     Ok(shelf.put("no.elf", file)?)
 }
 
-fn put_recording<R: Threads + Wait + Sync>(
+/// Puts what is told of a session whose source gives these bytes, with the files on the shelf.
+pub(crate) fn put_recording<R: Threads + Wait + Sync>(
     rt: &R,
     alloc: Global,
     line: &str,
@@ -93,13 +156,19 @@ pub(crate) fn put_decoded<R: Threads + Wait + Sync>(
 }
 
 // Tables with a byte that was changed: the byte's place, the byte that is put there and the digits of a recording, and the script of the table, and the
-// status and the lines. The second table has a string with `{=f32}`.
+// status and the lines. The second table is one of profile Two, and the third has a string with `{=f32}`.
 const CHANGES: &str = "\
 120 \x01
 s a defmt_info a
 s b defmt_info b
 =
 status 6 table name cause 2 symbol 1
+
+197 3
+profile 2
+s hi defmt_info hello
+=
+status 6 table elf cause 9 place 0
 
 352 f/00 09 7e 00 00 02 7e 00 00 03 7e 00 00 01 7e 00
 s hi defmt_info hello
@@ -180,6 +249,6 @@ pub(crate) fn put_changed<R: Threads + Wait + Sync>(
 
 #[test]
 fn a_recording_is_decoded_unless_its_table_is_refused(rt: HostRuntime) -> Result<(), Fail> {
-    each_block(&rt, rt.alloc(), RECORDINGS, 8, &Kind::Decoded)?;
-    each_block(&rt, rt.alloc(), CHANGES, 2, &Kind::Changed)
+    each_block(&rt, rt.alloc(), RECORDINGS, 16, &Kind::Decoded)?;
+    each_block(&rt, rt.alloc(), CHANGES, 3, &Kind::Changed)
 }

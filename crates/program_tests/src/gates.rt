@@ -13,8 +13,9 @@ use std::thread;
 use std::thread::Threads;
 use test_rows::{number_of, parted};
 
-// In the last row the writer 1 goes on once the writer 0 was asked, and the writer 0 once both frames of the writer 1 were taken. So a writer that was asked
-// behind its own frame would have it in front of the second of these.
+// In the row before the last the writer 1 goes on once the writer 0 was asked, and the writer 0 once both frames of the writer 1 were taken. So a writer that
+// was asked behind its own frame would have it in front of the second of these. In the last the writer 1 goes on once the writer 0 was asked for the statement
+// behind its text. So its own text, which stands behind its statement, is said second.
 const HELD: &str = "\
 2 0 0/defmtl run --group
 ring 64
@@ -143,7 +144,22 @@ w 1 b false
 WARN  b true
 WARN  b false
 INFO  a 1
-1 and 2 asked, 14 bytes told, 0 out of turn";
+1 and 2 asked, 14 bytes told, 0 out of turn
+
+2 0 0/defmtl term
+s hi defmt_info hello
+t 0 3 a
+w 0 hi
+w 1 hi
+t 1 3 b
+=
+8 bytes got, status 0 fine
+INFO  hello
+INFO  hello
+== terminal 3
+a
+b
+1 and 1 asked, 8 bytes told, 0 out of turn";
 
 // How many turns a gate holds a writer at most.
 const TURNS: u64 = 10_000_000;
@@ -273,5 +289,5 @@ pub(crate) fn put_held<R: Threads + Wait + Sync>(
 
 #[test]
 fn writers_wait_for_each_other_and_for_the_reader(rt: HostRuntime) -> Result<(), Fail> {
-    each_block(&rt, rt.alloc(), HELD, 8, &Kind::Held)
+    each_block(&rt, rt.alloc(), HELD, 9, &Kind::Held)
 }

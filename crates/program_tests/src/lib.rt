@@ -9,6 +9,8 @@ mod decode;
 #[cfg(test)]
 mod device;
 #[cfg(test)]
+mod dump;
+#[cfg(test)]
 mod gates;
 #[cfg(test)]
 mod limits;
@@ -22,6 +24,10 @@ mod rows;
 mod run;
 #[cfg(test)]
 mod sessions;
+#[cfg(test)]
+mod steering;
+#[cfg(test)]
+mod terminals;
 #[cfg(test)]
 mod told;
 #[cfg(test)]

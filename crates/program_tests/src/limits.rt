@@ -23,6 +23,15 @@ zeros 0 defmtl decode --table long.elf
 =
 status 8 too long";
 
+const LONG_IMAGES: &str = "\
+zeros 268435457 defmtl dump --table hi.elf
+=
+status 8 too long
+
+zeros 0 defmtl dump --table long.elf
+=
+status 8 too long";
+
 // Puts a table on the shelf, and a file with one byte more than a table's file may have.
 fn add_files<R: Threads + Wait + Sync>(
     rt: &R,
@@ -78,4 +87,9 @@ pub(crate) fn put_long<R: Threads + Wait + Sync>(
 #[test]
 fn longer_inputs_are_too_long(rt: HostRuntime) -> Result<(), Fail> {
     each_block(&rt, rt.alloc(), LONG, 3, &Kind::Long)
+}
+
+#[test]
+fn longer_images_are_too_long(rt: HostRuntime) -> Result<(), Fail> {
+    each_block(&rt, rt.alloc(), LONG_IMAGES, 2, &Kind::Long)
 }

@@ -14,7 +14,7 @@ use test_rows::{parted, put_once};
 // Calls that fail one after the other, until none does; of a sink without room for all, room for one byte more after the other. A row is who fails, the
 // words and what the source gives. Told are of the sessions with a fault what each comes to, how many marks there are and how much was written, each once;
 // then how many of them there are, and what comes of the one without. So a source that gives all at one read has its end found by a second, and isn't read
-// again. The recordings have a front, a frame and a tail.
+// again. The recordings have a front, a frame and a tail. The images are those of a control block in whose buffer a frame waits.
 const TURNS: &str = "\
 source defmtl run --group
 ring 64
@@ -67,6 +67,30 @@ INFO  a 1
 INFO  a 2
 WARN  b true
 WARN  b false
+
+room defmtl term
+s hi defmt_info hello
+w 0 hi
+t 0 3 a
+=
+status 4 sink, 1 marks, nothing
+status 4 sink, 1 marks, a front
+28 calls
+status 0 fine
+INFO  hello
+== terminal 3
+a
+
+sink defmtl steer
+d 0 warn
+s b defmt_warn b
+w 0 b
+=
+status 4 sink, 0 marks, nothing
+1 calls
+status 0 fine
+WARN  b
+-- level warn from turn 0
 
 source defmtl run
 s hi defmt_info hello
@@ -141,7 +165,40 @@ status 4 sink, 0 marks, a front
 status 9 events with faults 2
 -- front 1
 INFO  hello
--- tail 1";
+-- tail 1
+
+shelf defmtl dump --table hi.elf
+SEGGER RTT\x00\x00\x00\x00\x00\x00\x01\x00\x00\x00\x00\x00\x00\x00\x00\x00\x00\x000\x00\x00 \x10\x00\x00\x00\x02\x00\x00\x00\x0e\x00\x00\x00\x02\x00\x00\x00~\x00\x00\x00\x00\x00\x00\x00\x00\x00\x00\x00\x00\x00\x00\x01
+=
+status 7 shelf, 0 marks, nothing
+2 calls
+status 0 fine
+INFO  hello
+
+source defmtl dump --table hi.elf
+SEGGER RTT\x00\x00\x00\x00\x00\x00\x01\x00\x00\x00\x00\x00\x00\x00\x00\x00\x00\x000\x00\x00 \x10\x00\x00\x00\x02\x00\x00\x00\x0e\x00\x00\x00\x02\x00\x00\x00~\x00\x00\x00\x00\x00\x00\x00\x00\x00\x00\x00\x00\x00\x00\x01
+=
+status 3 source, 0 marks, nothing
+2 calls
+status 0 fine
+INFO  hello
+
+sink defmtl dump --table hi.elf
+SEGGER RTT\x00\x00\x00\x00\x00\x00\x01\x00\x00\x00\x00\x00\x00\x00\x00\x00\x00\x000\x00\x00 \x10\x00\x00\x00\x02\x00\x00\x00\x0e\x00\x00\x00\x02\x00\x00\x00~\x00\x00\x00\x00\x00\x00\x00\x00\x00\x00\x00\x00\x00\x00\x01
+=
+status 4 sink, 0 marks, nothing
+1 calls
+status 0 fine
+INFO  hello
+
+room defmtl dump --table hi.elf
+SEGGER RTT\x00\x00\x00\x00\x00\x00\x01\x00\x00\x00\x00\x00\x00\x00\x00\x00\x00\x000\x00\x00 \x10\x00\x00\x00\x02\x00\x00\x00\x0e\x00\x00\x00\x02\x00\x00\x00~\x00\x00\x00\x00\x00\x00\x00\x00\x00\x00\x00\x00\x00\x00\x01
+=
+status 4 sink, 0 marks, nothing
+status 4 sink, 0 marks, a front
+12 calls
+status 0 fine
+INFO  hello";
 
 // Whether no call of the outside failed.
 fn is_sound(stage: &Stage) -> bool {
@@ -269,5 +326,5 @@ pub(crate) fn put_turns<R: Threads + Wait + Sync>(
 
 #[test]
 fn each_call_of_the_outside_that_fails_is_told(rt: HostRuntime) -> Result<(), Fail> {
-    each_block(&rt, rt.alloc(), TURNS, 10, &Kind::Turns)
+    each_block(&rt, rt.alloc(), TURNS, 16, &Kind::Turns)
 }

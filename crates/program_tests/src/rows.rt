@@ -1,11 +1,14 @@
 // The rows of the tests, by what is asked of their inputs.
 use crate::decode::{put_changed, put_decoded};
 use crate::device::put_device;
+use crate::dump::put_dumped;
 use crate::gates::put_held;
 use crate::limits::put_long;
 use crate::live::put_live;
 use crate::outside::put_turns;
 use crate::sessions::{Stage, Told, empty_stage, put_row};
+use crate::steering::put_ordered;
+use crate::terminals::put_talkers;
 use crate::words::put_words;
 use std::alloc::Global;
 use std::sync::Wait;
@@ -21,10 +24,13 @@ pub(crate) enum Kind {
     Length,
     Decoded,
     Changed,
+    Dumped,
     Long,
     Turns,
     Held,
     Live,
+    Talkers,
+    Ordered,
     Device,
     Job,
 }
@@ -44,10 +50,13 @@ fn put_answer_on<R: Threads + Wait + Sync>(
         Kind::Length => put_row(rt, alloc, row, &Told::Length, stage, out),
         Kind::Decoded => put_decoded(rt, alloc, row, stage, out),
         Kind::Changed => put_changed(rt, alloc, row, stage, out),
+        Kind::Dumped => put_dumped(rt, alloc, row, stage, out),
         Kind::Long => put_long(rt, alloc, row, stage, out),
         Kind::Turns => put_turns(rt, alloc, row, stage, out),
         Kind::Held => put_held(rt, alloc, row, stage, out),
         Kind::Live => put_live(rt, alloc, row, stage, out),
+        Kind::Talkers => put_talkers(rt, alloc, row, stage, out),
+        Kind::Ordered => put_ordered(rt, alloc, row, stage, out),
         Kind::Device => put_device(rt, alloc, row, stage, out),
         Kind::Job => put_words(alloc, row, out),
     }

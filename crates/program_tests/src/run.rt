@@ -89,6 +89,58 @@ status 0 fine
 -- tail 14
 -- cut writer 0 statement 0 need 40 room 15
 
+defmtl run
+ring 16
+mode skip
+reader late
+profile 2
+s hi defmt_info hello
+w 0 hi
+w 0 hi
+w 0 hi
+w 0 hi
+w 0 hi
+=
+status 0 fine
+INFO  hello
+INFO  hello
+INFO  hello
+-- dropped writer 0 statement 3 need 5 room 1
+-- dropped writer 0 statement 4 need 5 room 1
+
+defmtl run
+ring 16
+mode skip
+reader late
+profile 2
+s hi defmt_info hello
+s say defmt_info {=str}
+w 0 hi
+w 0 say "0123456789abcdef"
+w 0 hi
+=
+status 0 fine
+INFO  hello
+-- gap 1
+INFO  hello
+-- dropped writer 0 statement 1 need 24 room 11
+
+defmtl run --group
+ring 16
+mode skip
+reader late
+profile 2
+s hi defmt_info hello
+s say defmt_info {=str}
+w 0 hi
+w 0 say "0123456789abcdef"
+w 0 hi
+=
+status 0 fine
+INFO  hello
+INFO  hello
+-- dropped writer 0 statement 1 need 24 room 11
+
 defmtl frob
 w 0 hi
 =
@@ -108,5 +160,5 @@ status 5 script line 1 cause 8 inner 0"#;
 fn a_run_prints_what_was_sent_and_reports_what_was_not_unless_it_is_refused(
     rt: HostRuntime,
 ) -> Result<(), Fail> {
-    each_block(&rt, rt.alloc(), RUNS, 11, &Kind::Lines)
+    each_block(&rt, rt.alloc(), RUNS, 14, &Kind::Lines)
 }

@@ -1,6 +1,8 @@
 // Sessions over sources, shelves and sinks in memory.
 use crate::commands::{put_bytes, put_length};
 use crate::live::put_verdict;
+use crate::steering::put_heard;
+use crate::terminals::put_order;
 use crate::told::{put_account, put_got};
 use defmt_run::{Gate, OpenGate, Outcome, session};
 use dl_io::{Bytes, MemShelf, MemSink, MemSource, Source};
@@ -157,6 +159,10 @@ pub(crate) enum Told {
     Got,
     /// Whether the lines and reports are those that the tape asks for.
     Tape,
+    /// How many lines of two writers stand in their order.
+    Order,
+    /// How many turns there are, and how many lines of orders and of errors.
+    Heard,
 }
 
 fn put_told(
@@ -173,6 +179,8 @@ fn put_told(
         Told::Account => put_account(alloc, outcome, out),
         Told::Got => put_got(alloc, outcome, written, out),
         Told::Tape => put_verdict(alloc, outcome, written, out),
+        Told::Order => put_order(alloc, outcome, written, out),
+        Told::Heard => put_heard(alloc, outcome, written, out),
     }
 }
 

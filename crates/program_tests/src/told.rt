@@ -21,7 +21,19 @@ w 0 hi
 status 0 fine
 1 marks, at least as many looks
 word ring, 4 bytes sent
-event 1 INFO  hello";
+event 1 INFO  hello
+
+defmtl run
+profile 2
+s hi defmt_info hello
+w 0 hi
+w 0 hi
+=
+status 0 fine
+2 marks, at least as many looks
+word ring, 9 bytes sent
+event 1 at 0 INFO  hello
+event 1 at 1 INFO  hello";
 
 fn put_marks(outcome: &Outcome, out: &mut String) -> Result<(), Fail> {
     let marks = outcome.tape.len();
@@ -32,35 +44,66 @@ fn put_marks(outcome: &Outcome, out: &mut String) -> Result<(), Fail> {
     Ok(())
 }
 
-fn put_settled(settled: &Settled, out: &mut String) -> Result<(), Fail> {
+fn put_settled(settled: &Settled, done: &str, out: &mut String) -> Result<(), Fail> {
     let kind = match settled.ring() {
         RingKind::Word => "word",
         RingKind::Queue => "queue",
         RingKind::Plain => "plain",
     };
     let sent = settled.sent_len();
-    Ok(write!(out, "\n{kind} ring, {sent} bytes sent")?)
+    Ok(write!(out, "\n{kind} ring, {sent} bytes {done}")?)
 }
 
 fn put_ring(outcome: &Outcome, out: &mut String) -> Result<(), Fail> {
     match &outcome.settled {
-        Some(settled) => put_settled(settled, out),
+        Some(settled) => put_settled(settled, "sent", out),
         None => put_str(out, "\nno ring"),
     }
 }
 
+fn put_place(place: Option<u16>, out: &mut String) -> Result<(), Fail> {
+    match place {
+        Some(place) => Ok(write!(out, "at {place} ")?),
+        None => Ok(()),
+    }
+}
+
+// What was said on terminals, nothing where there is no account of their ring.
+fn put_terminals(outcome: &Outcome, out: &mut String) -> Result<(), Fail> {
+    if let Some(term) = &outcome.term {
+        put_settled(term, "spoken", out)?;
+        write!(out, ", {} words", outcome.said.len())?;
+    }
+    Ok(())
+}
+
+// What was sent down, nothing where there is no account of its ring.
+fn put_orders(outcome: &Outcome, out: &mut String) -> Result<(), Fail> {
+    if let Some(orders) = &outcome.orders {
+        put_settled(orders, "ordered", out)?;
+        write!(out, ", {} turns", outcome.turns.len())?;
+    }
+    Ok(())
+}
+
 fn put_event(event: &Event, out: &mut String) -> Result<(), Fail> {
     match event {
-        Event::Line { index, text } => Ok(write!(out, "\nevent {index} {}", text.as_str())?),
+        Event::Line { index, place, text } => {
+            write!(out, "\nevent {index} ")?;
+            put_place(*place, out)?;
+            put_str(out, text.as_str())
+        }
         _ => put_str(out, "\nanother event"),
     }
 }
 
-/// Puts the status of an outcome, its marks, its ring and its events.
+/// Puts the status of an outcome, its marks, its ring, what was said on terminals and sent down, and its events.
 pub(crate) fn put_account(alloc: Global, outcome: &Outcome, out: &mut String) -> Result<(), Fail> {
     put_status(alloc, outcome, out)?;
     put_marks(outcome, out)?;
     put_ring(outcome, out)?;
+    put_terminals(outcome, out)?;
+    put_orders(outcome, out)?;
     for event in outcome.events.as_slice() {
         put_event(event, out)?;
     }
@@ -86,5 +129,5 @@ pub(crate) fn put_got(
 fn a_run_tells_its_tape_its_ring_and_its_events_and_an_empty_one_sends_nothing(
     rt: HostRuntime,
 ) -> Result<(), Fail> {
-    each_block(&rt, rt.alloc(), ACCOUNTS, 2, &Kind::Account)
+    each_block(&rt, rt.alloc(), ACCOUNTS, 3, &Kind::Account)
 }

@@ -1,7 +1,7 @@
 // What words ask for. A row is the words, which single spaces part, and the job.
 use crate::rows::{Kind, each_line};
 use crate::sessions::words_of;
-use defmt_words::{Job, ScriptJob, job_of};
+use defmt_words::{DumpOptions, Job, RunOptions, ScriptJob, job_of};
 use std::alloc::Global;
 use std::fmt::Write;
 use std::test::Fail;
@@ -11,12 +11,22 @@ const JOBS: &str = "\
 defmtl run = run
 defmtl --group run = run in groups
 defmtl record = record
+defmtl term = term
+defmtl steer = steer
 defmtl table = table
 defmtl print = print
 defmtl decode --table=t.elf = decode by t.elf
 defmtl decode --table t.elf = decode by t.elf
 defmtl gen 1 = generate 1
-defmtl gen 4096 = generate 4096";
+defmtl gen 4096 = generate 4096
+defmtl dump --table t.elf = what waits in 0 from 20000000 by t.elf
+defmtl --old dump --up 15 --table=t.elf --base 0x1FfF0000 = all of 15 from 1fff0000 by t.elf
+defmtl dump --table t.elf --base=0x0 --up=0 = what waits in 0 from 0 by t.elf
+defmtl dump --table t.elf --base 0xffffffff = what waits in 0 from ffffffff by t.elf
+defmtl run --only warn = run by rules
+defmtl run --only=off,script=info --group = run in groups by rules
+defmtl decode --only off --table t.elf = decode by t.elf by rules
+defmtl dump --table t.elf --only trace = what waits in 0 from 20000000 by t.elf by rules";
 
 const NO_JOBS: &str = "\
 defmtl frob = nothing
@@ -27,16 +37,58 @@ defmtl gen = nothing
 defmtl run 5 = nothing
 defmtl run --table t.elf = nothing
 defmtl print --group = nothing
+defmtl term --group = nothing
+defmtl steer --group = nothing
+defmtl steer --only warn = nothing
 defmtl decode = nothing
 defmtl gen --table t.elf 4 = nothing
 defmtl record 4 = nothing
-defmtl --help = nothing";
+defmtl --help = nothing
+defmtl dump = nothing
+defmtl dump --table t.elf 4 = nothing
+defmtl dump --table t.elf --base 20000000 = nothing
+defmtl dump --table t.elf --base 0x = nothing
+defmtl dump --table t.elf --base 0x123456789 = nothing
+defmtl dump --table t.elf --base 0X1 = nothing
+defmtl dump --table t.elf --base 0x+1 = nothing
+defmtl dump --table t.elf --base 0x1g = nothing
+defmtl dump --table t.elf --base= = nothing
+defmtl dump --table t.elf --up 16 = nothing
+defmtl dump --table t.elf --up 01 = nothing
+defmtl dump --table t.elf --up -1 = nothing
+defmtl run --old = nothing
+defmtl decode --table t.elf --up 1 = nothing
+defmtl record --base 0x0 = nothing
+defmtl run --only loud = nothing
+defmtl run --only warn,a=info,a=warn = nothing
+defmtl run --only= = nothing
+defmtl run --only = nothing
+defmtl run --only warn --only warn = nothing
+defmtl print --only warn = nothing
+defmtl record --only warn = nothing
+defmtl gen 4 --only warn = nothing";
+
+fn put_rules(by_rules: bool, out: &mut String) -> Result<(), Fail> {
+    if by_rules {
+        put_str(out, " by rules")?;
+    }
+    Ok(())
+}
+
+fn put_run(options: &RunOptions, out: &mut String) -> Result<(), Fail> {
+    put_str(out, "run")?;
+    if options.group {
+        put_str(out, " in groups")?;
+    }
+    put_rules(options.only.is_some(), out)
+}
 
 fn put_script_job(job: &ScriptJob, out: &mut String) -> Result<(), Fail> {
     let word = match job {
-        ScriptJob::Run(options) if options.group => "run in groups",
-        ScriptJob::Run(_) => "run",
+        ScriptJob::Run(options) => return put_run(options, out),
         ScriptJob::Record => "record",
+        ScriptJob::Terminals => "term",
+        ScriptJob::Steer => "steer",
         ScriptJob::Table => "table",
         ScriptJob::Print => "print",
         ScriptJob::Generate(count) => return Ok(write!(out, "generate {}", count.number())?),
@@ -44,10 +96,36 @@ fn put_script_job(job: &ScriptJob, out: &mut String) -> Result<(), Fail> {
     put_str(out, word)
 }
 
+fn put_dump(table: &str, options: &DumpOptions, out: &mut String) -> Result<(), Fail> {
+    let what = if options.old {
+        "all of"
+    } else {
+        "what waits in"
+    };
+    Ok(write!(
+        out,
+        "{what} {} from {:x} by {table}",
+        options.up, options.base
+    )?)
+}
+
 fn put_job(job: &Option<Job>, out: &mut String) -> Result<(), Fail> {
     match job {
         Some(Job::Script(job)) => put_script_job(job, out),
-        Some(Job::Decode { table }) => Ok(write!(out, "decode by {}", table.as_str())?),
+        Some(Job::Decode { table, only }) => {
+            write!(out, "decode by {}", table.as_str())?;
+            put_rules(only.is_some(), out)
+        }
+        Some(
+            Job::Dump {
+                table,
+                options,
+                only,
+            },
+        ) => {
+            put_dump(table.as_str(), options, out)?;
+            put_rules(only.is_some(), out)
+        }
         None => put_str(out, "nothing"),
     }
 }
@@ -66,6 +144,6 @@ pub(crate) fn put_words(alloc: Global, row: &str, out: &mut String) -> Result<()
 
 #[test]
 fn words_ask_for_their_job_and_others_for_nothing(rt: HostRuntime) -> Result<(), Fail> {
-    each_line(&rt, rt.alloc(), JOBS, 9, &Kind::Job)?;
-    each_line(&rt, rt.alloc(), NO_JOBS, 12, &Kind::Job)
+    each_line(&rt, rt.alloc(), JOBS, 19, &Kind::Job)?;
+    each_line(&rt, rt.alloc(), NO_JOBS, 38, &Kind::Job)
 }

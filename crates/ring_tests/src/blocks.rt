@@ -1,11 +1,11 @@
 //! Images, their blocks and the bytes that wait, and each refusal.
 use crate::rows::Kind;
-use crate::words::{parted, put_digits_or_nothing};
+use crate::words::put_digits_or_nothing;
 use rtt_control::{Block, Cause, ControlFault, Descriptor, Descriptors, find, read, unread, write};
 use std::alloc::Global;
 use std::fmt::Write;
 use std::test::Fail;
-use test_rows::{each_block, each_line, image_of, put_digits, put_str};
+use test_rows::{each_block, each_line, image_of, parted, put_digits, put_str};
 
 const BASE: u32 = 0x2000_0000;
 
@@ -91,7 +91,7 @@ pub fn put_read(alloc: Global, image: &[u8], at: u32, out: &mut String) -> Resul
 }
 
 pub fn put_blocks(alloc: Global, row: &str, out: &mut String) -> Result<(), Fail> {
-    let (at, steps) = parted(row);
+    let (at, steps) = parted(row, ' ');
     let at = at.parse::<u32>()?;
     put_read(alloc, &image_of(alloc, steps)?, at, out)
 }
@@ -119,11 +119,11 @@ fn number(text: &str) -> Result<u32, Fail> {
 
 // The descriptor of six hexadecimal numbers.
 fn descriptor_of(text: &str) -> Result<Descriptor, Fail> {
-    let (name, rest) = parted(text);
-    let (start, rest) = parted(rest);
-    let (size, rest) = parted(rest);
-    let (wr, rest) = parted(rest);
-    let (rd, flags) = parted(rest);
+    let (name, rest) = parted(text, ' ');
+    let (start, rest) = parted(rest, ' ');
+    let (size, rest) = parted(rest, ' ');
+    let (wr, rest) = parted(rest, ' ');
+    let (rd, flags) = parted(rest, ' ');
     Ok(Descriptor {
         name: number(name)?,
         start: number(start)?,
@@ -151,7 +151,7 @@ pub fn put_unread(
 }
 
 pub fn put_waiting(alloc: Global, row: &str, out: &mut String) -> Result<(), Fail> {
-    let (base, rest) = parted(row);
+    let (base, rest) = parted(row, ' ');
     let base = number(base)?;
     let descriptor = descriptor_of(rest)?;
     put_unread(alloc, &image_of(alloc, "image")?, base, &descriptor, out)
@@ -183,7 +183,7 @@ up 0 20000030 10 2 e 2
 cause 2 at 25, untouched";
 
 fn push_line(block: &mut Block, line: &str) -> Result<(), Fail> {
-    let (side, rest) = parted(line);
+    let (side, rest) = parted(line, ' ');
     let descriptor = descriptor_of(rest)?;
     match side {
         "up" => block.up.push(descriptor)?,
@@ -223,7 +223,7 @@ pub fn put_written(alloc: Global, row: &str, out: &mut String) -> Result<(), Fai
     let Some((sizes, lines)) = row.split_once('\n') else {
         return Err(Fail::new("no block"));
     };
-    let (at, len) = parted(sizes);
+    let (at, len) = parted(sizes, ' ');
     let (at, len) = (at.parse::<u32>()?, len.parse::<u8>()?);
     put_image(&block_of(alloc, lines)?, len, at, out)
 }

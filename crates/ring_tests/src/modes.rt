@@ -3,13 +3,13 @@ ghost use Rattle.std.specs.Prelude.{⊤};
 
 use crate::rings::{Plain, plain_of};
 use crate::rows::Kind;
-use crate::words::{parted, put_digits_or_nothing};
+use crate::words::put_digits_or_nothing;
 use rtt_modes::{Both, Fate, Relief, block, skip, trim};
 use rtt_ring::{DownEnd, UpEnd};
 use std::alloc::Global;
 use std::fmt::Write;
 use std::test::Fail;
-use test_rows::{bytes_of, each_line, expect, put_str};
+use test_rows::{bytes_of, each_line, expect, parted, put_str};
 
 fn put_fate(fate: Fate, out: &mut String) -> Result<(), Fail> {
     match fate {
@@ -53,7 +53,7 @@ fn put_sent(plain: &mut Plain, mode: &str, frame: &[u8], out: &mut String) -> Re
 }
 
 fn put_step(alloc: Global, plain: &mut Plain, step: &str, out: &mut String) -> Result<(), Fail> {
-    let (mode, digits) = parted(step);
+    let (mode, digits) = parted(step, ' ');
     put_sent(plain, mode, &bytes_of(alloc, digits)?, out)
 }
 

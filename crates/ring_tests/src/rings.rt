@@ -4,7 +4,7 @@ ghost use Rattle.rtt_ring.specs.PlainView.{up_of};
 
 use crate::blocks::{put_found, put_read, put_unread};
 use crate::rows::Kind;
-use crate::words::{parted, put_digits_or_nothing};
+use crate::words::put_digits_or_nothing;
 use dl_io::Bytes;
 use rtt_control::Descriptor;
 use rtt_ring::{
@@ -17,7 +17,7 @@ use std::sync::Wait;
 use std::test::Fail;
 use std::thread;
 use std::thread::Threads;
-use test_rows::{bytes_of, each_line, expect, put_str};
+use test_rows::{bytes_of, each_line, expect, parted, put_str};
 
 fn put_no_ring(fault: RingFault, out: &mut String) -> Result<(), Fail> {
     match fault {
@@ -170,7 +170,7 @@ fn put_step<S: Stepped>(
     step: &str,
     out: &mut String,
 ) -> Result<(), Fail> {
-    let (what, rest) = parted(step);
+    let (what, rest) = parted(step, ' ');
     if what == "send" {
         return put_sent(ring, &bytes_of(alloc, rest)?, out);
     }

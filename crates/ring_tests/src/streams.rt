@@ -2,7 +2,7 @@
 ghost use Rattle.std.specs.Prelude.{None};
 
 use crate::rows::Kind;
-use crate::words::{part, parted};
+use crate::words::part;
 use dl_io::{
     Bytes, DirShelf, Failed, MemShelf, MemSink, MemSource, ReadFault, RepeatSource, Shelf, Sink,
     Source, StdSink, StdSource, fetch_all, read_all, write_all,
@@ -11,7 +11,7 @@ use std::alloc::Global;
 use std::fmt::Write;
 use std::test::Fail;
 use std::{io, mem, process};
-use test_rows::{bytes_of, each_line, expect, put_digits, put_str};
+use test_rows::{bytes_of, each_line, expect, parted, put_digits, put_str};
 
 // Steps, the list that is made first, and the list behind each: its length, bytes and room.
 const LISTS: &str = "\
@@ -60,7 +60,7 @@ fn add(list: &mut Bytes, what: &str, bytes: &[u8]) -> Result<(), Fail> {
 }
 
 fn change(alloc: Global, list: &mut Bytes, step: &str) -> Result<(), Fail> {
-    let (what, rest) = parted(step);
+    let (what, rest) = parted(step, ' ');
     match what {
         "of" => *list = Bytes::from_slice(alloc, &bytes_of(alloc, rest)?)?,
         "again" => *list = Bytes::from_vec(mem::replace(list, Bytes::new(alloc)).into_vec()),
@@ -191,9 +191,9 @@ fn memory(alloc: Global, bytes: &str, fails: &str) -> Result<MemSource, Fail> {
 }
 
 pub fn put_sources(alloc: Global, row: &str, out: &mut String) -> Result<(), Fail> {
-    let (form, rest) = parted(row);
-    let (bytes, rest) = parted(rest);
-    let (fails, limits) = parted(rest);
+    let (form, rest) = parted(row, ' ');
+    let (bytes, rest) = parted(rest, ' ');
+    let (fails, limits) = parted(rest, ' ');
     match form {
         "memory" => put_reads(alloc, &mut memory(alloc, bytes, fails)?, limits, out),
         "trickle" => put_reads(
@@ -276,7 +276,7 @@ fn put_once<K: Sink>(sink: &mut K, bytes: &[u8], out: &mut String) -> Result<(),
 // Writes the bytes of each step as a whole, or once, and puts what came of it and the count of faults.
 fn put_writes<K: Sink>(sink: &mut K, steps: &str, out: &mut String) -> Result<(), Fail> {
     for step in steps.split('|') {
-        let (what, bytes) = parted(step);
+        let (what, bytes) = parted(step, ' ');
         if what == "all" {
             put_all(sink, bytes.as_bytes(), out)?;
         } else {
@@ -332,8 +332,8 @@ pub fn put_sinks(alloc: Global, row: &str, out: &mut String) -> Result<(), Fail>
     let Some((form, steps)) = row.split_once('|') else {
         return Err(Fail::new("no steps"));
     };
-    let (form, rest) = parted(form);
-    let (room, fails) = parted(rest);
+    let (form, rest) = parted(form, ' ');
+    let (room, fails) = parted(rest, ' ');
     match form {
         "memory" => put_memory(sink(alloc, room, fails)?, steps, out),
         "narrow" => put_narrow(sink(alloc, room, fails)?, steps, out),
@@ -385,8 +385,8 @@ fn put_whole<F: Shelf>(
 }
 
 fn put_step(alloc: Global, shelf: &mut MemShelf, step: &str, out: &mut String) -> Result<(), Fail> {
-    let (what, rest) = parted(step);
-    let (name, rest) = parted(rest);
+    let (what, rest) = parted(step, ' ');
+    let (name, rest) = parted(rest, ' ');
     match what {
         "put" => {
             put_file(alloc, shelf, name, rest)?;

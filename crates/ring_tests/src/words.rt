@@ -2,14 +2,6 @@
 use std::test::Fail;
 use test_rows::{put_digits, put_str};
 
-/// What stands in front of the first space and behind it, and nothing where there is no space.
-pub fn parted(text: &str) -> (&str, &str) {
-    match text.split_once(' ') {
-        Some(parts) => parts,
-        None => (text, ""),
-    }
-}
-
 /// Puts a semicolon behind what others put, if anything.
 pub fn part(out: &mut String) -> Result<(), Fail> {
     if !out.is_empty() {

@@ -1,6 +1,6 @@
 // The lines of scripts: where they are cut, what each says, and what the first lines set.
 use crate::rows::Kind;
-use crate::texts::{inside_of, put_digits_or_nothing, put_settings};
+use crate::texts::{inside_of, put_digits_or_nothing, put_profile, put_settings};
 use defmt_intern::Tag;
 use defmt_lines::{
     ActionLine, Cause, EntryLine, Form, Line, Settings, Words, judge, next_line, read_line,
@@ -28,6 +28,10 @@ const LINES: &str = "\
 <reader late> = reader <late>
 <stamp 1 2> = stamp <1> <2>
 <stamp 1> = other
+<profile 2> = profile <2>
+<profile 1 2> = other
+<d 4 warn> = order <4> <warn>
+<d 4> = other
 <s a defmt_info  b c > = entry <a> defmt_info < b c >
 <s a defmt_str> = entry <a> defmt_str <>
 <s a defmt_timestamp x> = other
@@ -35,7 +39,13 @@ const LINES: &str = "\
 <w 8 hi> = statement above <hi> <>
 <w 0 > = statement 0 <> <>
 <w 0> = other
-<w +1 hi> = other";
+<w +1 hi> = other
+<t 0 A tick  tock > = say 0 <A> <tick  tock >
+<t 07 0> = say 7 <0> <>
+<t 8  x> = say above <> <x>
+<t 0> = other
+<t x 0 y> = other
+<tt 0 0 y> = other";
 
 // The same of bytes that are no text.
 const BYTES: &str = "\
@@ -52,7 +62,14 @@ const SETTINGS: &str = "\
 <reader live> = ring 1024 block live
 <reader late> = cause 8
 <stamp 0 281474976710656> = ring 1024 block live stamp 0 281474976710656
-<stamp 007 1> = cause 13";
+<stamp 007 1> = cause 13
+<profile 1> = ring 1024 block live
+<profile 2> = ring 1024 block live profile 2
+<profile 3> = cause 15
+<profile 02> = cause 15
+<profile > = cause 15
+<d 4096 trace> = ring 1024 block live order 4096 Trace
+<d 4097 trace> = cause 19";
 
 // A tag and a text; the number of the fault for which the text is refused.
 const TEXTS: &str = "\
@@ -92,8 +109,11 @@ fn name_of(form: Form) -> &'static str {
         Form::Mode => "mode",
         Form::Reader => "reader",
         Form::Stamp => "stamp",
+        Form::Profile => "profile",
+        Form::Order => "order",
         Form::Entry => "entry",
         Form::Statement => "statement",
+        Form::Say => "say",
     }
 }
 
@@ -140,9 +160,21 @@ fn set_by(line: Line<'_>) -> Option<Result<Settings, Cause>> {
     }
 }
 
+// The first order, where there is one.
+fn put_first_order(set: &Settings, out: &mut String) -> Result<(), Fail> {
+    match set.orders.get(0) {
+        Some((number, level)) => Ok(write!(out, " order {number} {level:?}")?),
+        None => Ok(()),
+    }
+}
+
 pub fn put_setting(row: &str, out: &mut String) -> Result<(), Fail> {
     match set_by(read_line(inside_of(row)?.as_bytes())) {
-        Some(Ok(set)) => put_settings(set.ring, set.mode, set.late, set.stamp, out),
+        Some(Ok(set)) => {
+            put_settings(set.ring, set.mode, set.late, set.stamp, out)?;
+            put_profile(set.profile, out)?;
+            put_first_order(&set, out)
+        }
         Some(Err(cause)) => Ok(write!(out, "cause {}", cause.number())?),
         None => put_str(out, "no setting"),
     }
@@ -172,13 +204,13 @@ fn a_carriage_return_is_passed_over_before_a_newline_alone(rt: HostRuntime) -> R
 
 #[test]
 fn lines_are_cut_at_every_space_where_they_are_texts(rt: HostRuntime) -> Result<(), Fail> {
-    each_line(rt.alloc(), LINES, 18, &Kind::SaidByText)?;
+    each_line(rt.alloc(), LINES, 28, &Kind::SaidByText)?;
     each_line(rt.alloc(), BYTES, 1, &Kind::SaidByBytes)
 }
 
 #[test]
 fn settings_are_decimal_numbers_and_words(rt: HostRuntime) -> Result<(), Fail> {
-    each_line(rt.alloc(), SETTINGS, 10, &Kind::SettingOf)
+    each_line(rt.alloc(), SETTINGS, 17, &Kind::SettingOf)
 }
 
 #[test]

@@ -1,24 +1,29 @@
 // What scripts say, and the first line for which a text is none.
 use crate::rows::Kind;
-use crate::texts::{put_args, put_settings, script_of};
+use crate::texts::{put_args, put_lines, put_profile, put_settings, put_whole, script_of};
 use defmt_intern::Entry;
-use defmt_script::{Script, ScriptFault, read};
+use defmt_script::{Script, ScriptFault, Step, read};
 use std::alloc::Global;
 use std::fmt::Write;
 use std::test::Fail;
 use test_rows::{each_line, expect, put_str};
 
 const FULL: &str =
-    "ring 64\nmode skip\nreader late\nstamp 1000 250\ns a defmt_info a {=u8}\r\n\ns b defmt_warn b {=bool}\n# note\nw 0 a 1\nw 1 b true\nw 0 a 2\nw 1 b false";
+    "ring 64\nmode skip\nreader late\nstamp 1000 250\nprofile 2\nd 7 info\nd 0 error\ns a defmt_info a {=u8}\r\n\ns b defmt_warn b {=bool}\n# note\nw 0 a 1\nt 0 A tick\nw 1 b true\nw 0 a 2\nt 0 0 \nw 1 b false\nt 1 F done";
 
-// The settings, the strings by their indexes, and the statements of each writer with their indexes.
+// The settings, the strings by their indexes, the statements of each writer with their indexes, and its texts, each with its
+// terminal and how many of the writer's statements stand in front, and below these its steps.
 const FULL_SAYS: &str = "\
-ring 64 skip late stamp 1000 250
+ring 64 skip late stamp 1000 250 profile 2 order 7 Info order 0 Error
 a = 1: script defmt_info 1 <a {=u8}>
 b = 2: script defmt_warn 2 <b {=bool}>
 none = 3: script defmt_timestamp 3 <{=u64:us}>
 writer 0 has 2: 1 <1>, 1 <2>
 writer 1 has 2: 2 <true>, 2 <false>
+writer 0 says 2: 10 <tick> behind 1, 0 <> behind 2
+log say log say
+writer 1 says 1: 15 <done> behind 2
+log log say
 ";
 
 const PLAIN: &str = "s hi defmt_info hello\nw 0 hi\n";
@@ -47,18 +52,52 @@ ring 64\r = line 1 cause 6 inner 0
 mode  = line 1 cause 7 inner 0
 reader late = line 1 cause 8 inner 0
 s b defmt_info {=u8:z} = line 1 cause 10 inner 3
-stamp 007 1 = line 1 cause 13 inner 0";
+stamp 007 1 = line 1 cause 13 inner 0
+profile 3 = line 1 cause 15 inner 0
+profile 1 / profile 1 = line 2 cause 1 inner 0
+profile 2 / stamp 0 0 = line 2 cause 1 inner 0
+profile 2 / reader late = line 2 cause 1 inner 0
+t 0 A tick = read
+t 0 0 = read
+t 0 0 x / w 0 hi = line 2 cause 2 inner 0
+t 0 0 x / s a defmt_info = line 2 cause 1 inner 0
+t 0 = line 1 cause 1 inner 0
+t 8 G a\tb = line 1 cause 5 inner 0
+t 0 G a\tb = line 1 cause 16 inner 0
+t 0 a x = line 1 cause 16 inner 0
+t 0 10 x = line 1 cause 16 inner 0
+t 0  x = line 1 cause 16 inner 0
+t 0 F a\tb = line 1 cause 17 inner 0
+t 0 9 \u{7f} = line 1 cause 17 inner 0
+d 0 warn / d 4096 trace / s a defmt_info a = read
+stamp 0 0 / d 1 error = read
+d 0 warn / profile 2 = line 2 cause 1 inner 0
+d 0 warn / stamp 0 0 = line 2 cause 1 inner 0
+s a defmt_info a / d 0 warn = line 2 cause 1 inner 0
+d 0 = line 1 cause 1 inner 0
+d 4097 warn = line 1 cause 19 inner 0
+d 007 warn = line 1 cause 19 inner 0
+d 1 Warn = line 1 cause 19 inner 0";
 
 // The same, where `<PART*COUNT>` stands for a part that is repeated.
 const LIMITS: &str = r#"s say defmt_info {=str} / w 0 say "<a*1994>" = read
 s say defmt_info {=str} / w 0 say "<a*1995>" = line 2 cause 9 inner 0
+profile 2 / s say defmt_info {=str} / w 0 say "<a*1992>" = read
+profile 2 / s say defmt_info {=str} / w 0 say "<a*1993>" = line 3 cause 9 inner 0
 s d defmt_info {=[u8]:#0255b} / w 0 d #<00*255> = read
 s d defmt_info {=[u8]:#0255b} / w 0 d #<00*256> = line 2 cause 12 inner 0
 s e defmt_prim {<|*255> = line 1 cause 10 inner 0
 s t defmt_info <t*4096> = read
 s t defmt_info <t*4097> = line 1 cause 10 inner 0
+<d 1 info / *64>s hi defmt_info = read
+<d 1 info / *65>s hi defmt_info = line 65 cause 11 inner 0
+<d 1 info / *64>d 1 x = line 65 cause 19 inner 0
 s hi defmt_info / <w 0 hi / *4096> = read
 s hi defmt_info / <w 0 hi / *4097> = line 4098 cause 11 inner 0
+t 0 F <x*2000> = read
+t 0 F <x*2001> = line 1 cause 17 inner 0
+<t 7 0 x / *4096> = read
+<t 7 0 x / *4097> = line 4097 cause 11 inner 0
 s n defmt_prim {} / s z defmt_prim z / s g defmt_info {} / w 0 g <n(*15>z()<)*15> = read
 s n defmt_prim {} / s z defmt_prim z / s g defmt_info {} / w 0 g <n(*16>z()<)*16> = line 4 cause 4 inner 6"#;
 
@@ -105,6 +144,80 @@ fn put_writer(alloc: Global, script: &Script, writer: u8, out: &mut String) -> R
     Ok(out.push('\n')?)
 }
 
+// Puts a text of a writer behind a gap, and answers whether it is there.
+fn put_text(
+    script: &Script,
+    writer: u8,
+    place: u32,
+    gap: &str,
+    out: &mut String,
+) -> Result<bool, Fail> {
+    let Some((terminal, text)) = script.said(writer, place) else {
+        return Ok(false);
+    };
+    let behind = match script.speech().get(writer, place) {
+        Some(saying) => saying.behind(),
+        None => 9999,
+    };
+    write!(out, "{gap}{terminal} <{text}> behind {behind}")?;
+    Ok(true)
+}
+
+// The texts of a writer up to the first that isn't there.
+fn put_texts(script: &Script, writer: u8, out: &mut String) -> Result<(), Fail> {
+    write!(out, "writer {writer} says {}: ", script.count_said(writer))?;
+    let mut gap = "";
+    for place in 0..100 {
+        if !put_text(script, writer, place, gap, out)? {
+            break;
+        }
+        gap = ", ";
+    }
+    Ok(out.push('\n')?)
+}
+
+// The steps of a writer.
+fn put_steps(script: &Script, writer: u8, out: &mut String) -> Result<(), Fail> {
+    let mut gap = "";
+    for number in 0..100 {
+        let word = match script.step(writer, number) {
+            Some(Step::Log) => "log",
+            Some(Step::Say) => "say",
+            None => break,
+        };
+        write!(out, "{gap}{word}")?;
+        gap = " ";
+    }
+    Ok(out.push('\n')?)
+}
+
+// The statements of the writers that have some, and then the texts.
+fn put_writers(alloc: Global, script: &Script, out: &mut String) -> Result<(), Fail> {
+    for writer in 0..9u8 {
+        if script.count(writer) > 0 || script.statement(writer, 0).is_some() {
+            put_writer(alloc, script, writer, out)?;
+        }
+    }
+    for writer in 0..9u8 {
+        if script.count_said(writer) > 0 || script.said(writer, 0).is_some() {
+            put_texts(script, writer, out)?;
+            put_steps(script, writer, out)?;
+        }
+    }
+    Ok(())
+}
+
+// The orders of levels.
+fn put_orders(script: &Script, out: &mut String) -> Result<(), Fail> {
+    for number in 0..100 {
+        let Some((frames, level)) = script.order(number) else {
+            break;
+        };
+        write!(out, " order {frames} {level:?}")?;
+    }
+    Ok(())
+}
+
 fn put_script(alloc: Global, script: &Script, out: &mut String) -> Result<(), Fail> {
     put_settings(
         script.ring(),
@@ -113,14 +226,11 @@ fn put_script(alloc: Global, script: &Script, out: &mut String) -> Result<(), Fa
         script.stamp(),
         out,
     )?;
+    put_profile(script.profile(), out)?;
+    put_orders(script, out)?;
     out.push('\n')?;
     put_strings(script, out)?;
-    for writer in 0..9u8 {
-        if script.count(writer) > 0 || script.statement(writer, 0).is_some() {
-            put_writer(alloc, script, writer, out)?;
-        }
-    }
-    Ok(())
+    put_writers(alloc, script, out)
 }
 
 fn put_said(alloc: Global, text: &str, out: &mut String) -> Result<(), Fail> {
@@ -132,37 +242,6 @@ fn said(alloc: Global, text: &str) -> Result<String, Fail> {
     let mut out = String::new(alloc);
     put_said(alloc, text, &mut out)?;
     Ok(out)
-}
-
-// The text with a newline for each ` / `.
-fn put_lines(row: &str, text: &mut String) -> Result<(), Fail> {
-    let mut first = true;
-    for line in row.split(" / ") {
-        if !first {
-            text.push('\n')?;
-        }
-        put_str(text, line)?;
-        first = false;
-    }
-    Ok(())
-}
-
-fn put_repeated(part: &str, text: &mut String) -> Result<(), Fail> {
-    let (part, count) = part.split_once('*').unwrap_or((part, "1"));
-    for _ in 0..count.parse::<u32>()? {
-        put_lines(part, text)?;
-    }
-    Ok(())
-}
-
-// The same, with each part in brackets as often as it says.
-fn put_whole(row: &str, text: &mut String) -> Result<(), Fail> {
-    for piece in row.split('>') {
-        let (plain, part) = piece.split_once('<').unwrap_or((piece, ""));
-        put_lines(plain, text)?;
-        put_repeated(part, text)?;
-    }
-    Ok(())
 }
 
 fn put_fault(fault: &ScriptFault, out: &mut String) -> Result<(), Fail> {
@@ -208,6 +287,6 @@ fn a_script_has_what_its_lines_say_and_defaults(rt: HostRuntime) -> Result<(), F
 fn the_first_refused_line_is_told_with_its_first_cause_and_texts_have_limits(
     rt: HostRuntime,
 ) -> Result<(), Fail> {
-    each_line(rt.alloc(), REFUSALS, 17, &Kind::RefusalOf)?;
-    each_line(rt.alloc(), LIMITS, 11, &Kind::RefusalAtLimit)
+    each_line(rt.alloc(), REFUSALS, 42, &Kind::RefusalOf)?;
+    each_line(rt.alloc(), LIMITS, 20, &Kind::RefusalAtLimit)
 }

@@ -1,5 +1,5 @@
 // The texts of rows, and their scripts. Texts that begin or end with a space, or are empty, stand between `<` and `>`.
-use defmt_intern::Table;
+use defmt_intern::{Profile, Table};
 use defmt_lines::RingMode;
 use defmt_script::{Script, read};
 use defmt_spelling::{Names, print_args};
@@ -56,7 +56,15 @@ fn mode_said(mode: RingMode) -> &'static str {
     }
 }
 
-/// Puts what the first lines of a script set.
+/// Puts the profile, where it is the second.
+pub fn put_profile(profile: Profile, out: &mut String) -> Result<(), Fail> {
+    match profile {
+        Profile::One => Ok(()),
+        Profile::Two => put_str(out, " profile 2"),
+    }
+}
+
+/// Puts what the lines in front of the profile set.
 pub fn put_settings(
     ring: u32,
     mode: RingMode,
@@ -71,4 +79,35 @@ pub fn put_settings(
         Some((base, step)) => Ok(write!(out, " stamp {base} {step}")?),
         None => Ok(()),
     }
+}
+
+/// Puts the text with a newline for each ` / `.
+pub fn put_lines(row: &str, text: &mut String) -> Result<(), Fail> {
+    let mut first = true;
+    for line in row.split(" / ") {
+        if !first {
+            text.push('\n')?;
+        }
+        put_str(text, line)?;
+        first = false;
+    }
+    Ok(())
+}
+
+fn put_repeated(part: &str, text: &mut String) -> Result<(), Fail> {
+    let (part, count) = part.split_once('*').unwrap_or((part, "1"));
+    for _ in 0..count.parse::<u32>()? {
+        put_lines(part, text)?;
+    }
+    Ok(())
+}
+
+/// The same, with each part in brackets as often as it says.
+pub fn put_whole(row: &str, text: &mut String) -> Result<(), Fail> {
+    for piece in row.split('>') {
+        let (plain, part) = piece.split_once('<').unwrap_or((piece, ""));
+        put_lines(plain, text)?;
+        put_repeated(part, text)?;
+    }
+    Ok(())
 }

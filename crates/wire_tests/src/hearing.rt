@@ -3,7 +3,7 @@ ghost use Rattle.std.specs.Prelude.{[], ◌∷◌, true, false, None};
 // Recordings that a listener hears, which has a letter for each part.
 use crate::rows::Kind;
 use defmt_framing::{Framer, Teller};
-use defmt_listen::{ListenFault, Listener, Reporter, listen};
+use defmt_listen::{ListenFault, Listener, Reporter, listen, listen_bytes};
 use dl_io::{Bytes, Failed, MemSink, MemSource, Memory, RepeatSource, Source};
 use std::alloc::Global;
 use std::fmt::Write;
@@ -20,6 +20,12 @@ const HEARD: &str = "\
 const REPEATED: &str = "\
 0 268435457 = too long, nothing, 65536 at most
 0 200000 = 0 faults, nothing, 65536 at most";
+
+// The digits of bytes at hand and of a write that fails, and the answer and the lines.
+const AT_HAND: &str = "\
+07 00 01 02 00 00 03 00 09/ = 2 faults, f.p.p.t.
+07 00 01 02 00 00 03 00 09/01 = sink, f.p.p.
+/ = 0 faults, nothing";
 
 // What a part tells: a letter. All but pieces are faults.
 #[derive(Drop)]
@@ -209,6 +215,25 @@ pub fn put_heard(alloc: Global, row: &str, out: &mut String) -> Result<(), Fail>
     put_heard_of(alloc, &mut source, writes, out)
 }
 
+fn put_listened(alloc: Global, bytes: &[u8], fails: &str, out: &mut String) -> Result<(), Fail> {
+    if bytes.len() > 65_536 {
+        return Err(Fail::new("there are too many bytes"));
+    }
+    let mut sink = sink_of(alloc, fails)?;
+    let ear = Ear {
+        framer: Framer::new(alloc),
+        letters: Letters,
+    };
+    put_answer(listen_bytes(alloc, bytes, &mut sink, ear, Scribe), out)?;
+    put_letters(sink.held(), out)
+}
+
+pub fn put_at_hand(alloc: Global, row: &str, out: &mut String) -> Result<(), Fail> {
+    let (digits, fails) = row.split_once('/').unwrap_or((row, ""));
+    let bytes = bytes_of(alloc, digits)?;
+    put_listened(alloc, &bytes, fails, out)
+}
+
 // A source that gives a byte so often.
 fn repeat_of(row: &str) -> Result<Asked, Fail> {
     let (byte, count) = row.split_once(' ').unwrap_or((row, ""));
@@ -225,5 +250,6 @@ pub fn put_repeated(alloc: Global, row: &str, out: &mut String) -> Result<(), Fa
 #[test]
 fn a_recording_is_heard_in_parts_up_to_a_fault_or_its_limit(rt: HostRuntime) -> Result<(), Fail> {
     each_line(rt.alloc(), HEARD, 3, &Kind::Heard)?;
+    each_line(rt.alloc(), AT_HAND, 3, &Kind::AtHand)?;
     each_line(rt.alloc(), REPEATED, 2, &Kind::Repeated)
 }

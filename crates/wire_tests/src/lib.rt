@@ -1,6 +1,6 @@
 #![tactic(auto)]
 
-//! The tests of the wire: codes, the parts of streams, messages, events and the hearing of recordings, as rows of texts.
+//! The tests of the wire: codes, the parts of streams, messages, events, what a screen shows of them, and the hearing of recordings, as rows of texts.
 #[cfg(test)]
 mod codes;
 #[cfg(test)]
@@ -15,5 +15,7 @@ mod parts;
 mod rows;
 #[cfg(test)]
 mod runs;
+#[cfg(test)]
+mod screens;
 #[cfg(test)]
 mod strings;

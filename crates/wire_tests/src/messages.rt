@@ -2,9 +2,9 @@
 use crate::rows::Kind;
 use crate::runs::{bytes_of, put_words};
 use crate::strings::{end_line, script_of, table_of};
-use defmt_encode::{Heard, ReadCause, frame, is_long, message, read_message};
+use defmt_encode::{Heard, ReadCause, frame, is_long, message, place_suits, read_message};
 use defmt_grammar::Text;
-use defmt_intern::Table;
+use defmt_intern::{Profile, Table};
 use defmt_script::Script;
 use defmt_spelling::{Names, print_args, read_args};
 use defmt_values::{Args, Statement, Value};
@@ -151,12 +151,34 @@ defmt_prim {=?}
 defmt_bitflags
 read 04 00
 =
+cause 4
+
+two
+defmt_info hello
+defmt_info {=f32}
+read 01 00
+read 01 00 01
+read 01 00 03 01
+read 01 00 ff ff 00 00 00 00 00 00
+read 01 00 03 01 00 00 00 00 00 00 00
+read 09 00
+read 02 00
+=
+cause 5
+cause 5
+1 place 259
+1 place 65535
+cause 11
+cause 2
 cause 4";
 
-// How many letters a text has whose statement is written; whether its message is long, and the buffer's first byte, which was 9.
+// How many letters a text has whose statement is written, in the second profile where it is said first; whether its message is
+// long, and the buffer's first byte, which was 9.
 const LONG: &str = "\
 1995 = long true first 9
-1994 = size 2000 long false first 1";
+1994 = size 2000 long false first 1
+two 1993 = long true first 9
+two 1992 = size 2000 long false first 1";
 
 // The frame of a message.
 fn put_frame(message: &[u8], out: &mut String) -> Result<(), Fail> {
@@ -181,6 +203,13 @@ fn put_stamp(out: &mut String, stamp: &Args) -> Result<(), Fail> {
     Ok(())
 }
 
+fn put_place(out: &mut String, place: Option<u16>) -> Result<(), Fail> {
+    match place {
+        Some(place) => Ok(write!(out, " place {place}")?),
+        None => Ok(()),
+    }
+}
+
 fn put_text(out: &mut String, text: &Text) -> Result<(), Fail> {
     if text.len() > 100 {
         return Ok(write!(out, " {} bytes", text.len())?);
@@ -202,7 +231,7 @@ fn put_args(
     put_text(out, &args)
 }
 
-// The index, the arguments as they are spelled, and the stamp.
+// The index, the place, the arguments as they are spelled, and the stamp.
 fn put_spelled(
     alloc: Global,
     names: &Names,
@@ -211,6 +240,7 @@ fn put_spelled(
     out: &mut String,
 ) -> Result<(), Fail> {
     write!(out, "{}", heard.stm.index)?;
+    put_place(out, heard.place)?;
     put_args(alloc, names, table, &heard.stm, out)?;
     put_stamp(out, &heard.stamp)
 }
@@ -292,8 +322,17 @@ fn put_same(
     bytes: &[u8],
     out: &mut String,
 ) -> Result<(), Fail> {
+    if !place_suits(script.table(), None) {
+        return Err(Fail::new("no place"));
+    }
     let mut buffer = [0u8; 2000];
-    let count = match message(script.table(), first_stamp(script), &heard.stm, &mut buffer) {
+    let count = match message(
+        script.table(),
+        None,
+        first_stamp(script),
+        &heard.stm,
+        &mut buffer,
+    ) {
         Ok(count) if count <= 2000 => count,
         _ => return Err(Fail::new("long")),
     };
@@ -331,8 +370,11 @@ fn put_statement(
     stm: &Statement,
     out: &mut String,
 ) -> Result<(), Fail> {
+    if !place_suits(script.table(), None) {
+        return Err(Fail::new("no place"));
+    }
     let mut bytes = [0u8; 2000];
-    match message(script.table(), first_stamp(script), stm, &mut bytes) {
+    match message(script.table(), None, first_stamp(script), stm, &mut bytes) {
         Ok(count) if count <= 2000 => put_carried(alloc, script, &bytes[..count], out),
         _ => Err(Fail::new("long")),
     }
@@ -372,13 +414,22 @@ fn statement_of(alloc: Global, script: &Script, count: &str) -> Result<Statement
     Ok(Statement { index: 1, args })
 }
 
-fn put_written(table: &Table, stm: &Statement, out: &mut String) -> Result<(), Fail> {
+fn put_written(
+    table: &Table,
+    place: Option<u16>,
+    stm: &Statement,
+    out: &mut String,
+) -> Result<(), Fail> {
+    if !place_suits(table, place) {
+        return Err(Fail::new("the place doesn't suit"));
+    }
     let mut bytes = [9u8; 2000];
-    if let Ok(count) = message(table, None, stm, &mut bytes) {
+    if let Ok(count) = message(table, place, None, stm, &mut bytes) {
         write!(out, "size {count} ")?;
     }
     let first = bytes[0];
-    Ok(write!(out, "long {} first {first}", is_long(table, None, stm))?)
+    let long = is_long(table, place, None, stm);
+    Ok(write!(out, "long {long} first {first}")?)
 }
 
 fn put_written_by(
@@ -387,8 +438,14 @@ fn put_written_by(
     count: &str,
     out: &mut String,
 ) -> Result<(), Fail> {
-    let stm = statement_of(alloc, script, count)?;
-    put_written(script.table(), &stm, out)
+    let mut table = script.table().copy()?;
+    match count.strip_prefix("two ") {
+        Some(count) => {
+            table.set_profile(Profile::Two);
+            put_written(&table, Some(7), &statement_of(alloc, script, count)?, out)
+        }
+        None => put_written(&table, None, &statement_of(alloc, script, count)?, out),
+    }
 }
 
 pub fn put_written_of_letters(alloc: Global, count: &str, out: &mut String) -> Result<(), Fail> {
@@ -399,11 +456,11 @@ pub fn put_written_of_letters(alloc: Global, count: &str, out: &mut String) -> R
 #[test]
 fn statements_have_messages_and_frames_and_are_read_again(rt: HostRuntime) -> Result<(), Fail> {
     each_block(rt.alloc(), SENT, 7, &Kind::Sent)?;
-    each_line(rt.alloc(), LONG, 2, &Kind::WrittenOfLetters)
+    each_line(rt.alloc(), LONG, 4, &Kind::WrittenOfLetters)
 }
 
 #[test]
 fn messages_are_read_or_refused_with_their_causes(rt: HostRuntime) -> Result<(), Fail> {
     each_block(rt.alloc(), READ, 8, &Kind::ReadByScript)?;
-    each_block(rt.alloc(), READ_BY_TABLES, 2, &Kind::ReadByTable)
+    each_block(rt.alloc(), READ_BY_TABLES, 3, &Kind::ReadByTable)
 }

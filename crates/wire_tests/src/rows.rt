@@ -1,5 +1,5 @@
 // The rows of the tests, by what is asked of their inputs.
-use crate::{codes, events, hearing, messages, parts};
+use crate::{codes, events, hearing, messages, parts, screens};
 use std::alloc::Global;
 use std::test::Fail;
 use test_rows::Question;
@@ -16,6 +16,8 @@ pub enum Kind {
     EventCallsOf,
     ToldByScript,
     ToldByTable,
+    GapOf,
+    Shown,
     Sent,
     ReadByScript,
     ReadByTable,
@@ -24,6 +26,7 @@ pub enum Kind {
     PartCallsOf,
     PieceOf,
     Heard,
+    AtHand,
     Repeated,
 }
 
@@ -39,6 +42,8 @@ impl Question for Kind {
             Self::EventCallsOf => events::put_calls_of(alloc, input, out),
             Self::ToldByScript => events::put_told_by_script(alloc, input, out),
             Self::ToldByTable => events::put_told_by_table(alloc, input, out),
+            Self::GapOf => events::put_gap_of(input, out),
+            Self::Shown => screens::put_shown_of(alloc, input, out),
             Self::Sent => messages::put_sent(alloc, input, out),
             Self::ReadByScript => messages::put_read_by_script(alloc, input, out),
             Self::ReadByTable => messages::put_read_by_table(alloc, input, out),
@@ -47,6 +52,7 @@ impl Question for Kind {
             Self::PartCallsOf => parts::put_calls_of(alloc, input, out),
             Self::PieceOf => parts::put_piece_of(alloc, input, out),
             Self::Heard => hearing::put_heard(alloc, input, out),
+            Self::AtHand => hearing::put_at_hand(alloc, input, out),
             Self::Repeated => hearing::put_repeated(alloc, input, out),
         }
     }

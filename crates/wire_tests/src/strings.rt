@@ -1,6 +1,6 @@
 // The strings that rows of messages and events are told by.
 use defmt_grammar::Text;
-use defmt_intern::{Entry, Table, Tag};
+use defmt_intern::{Entry, Profile, Table, Tag};
 use defmt_script::{Script, read};
 use std::alloc::Global;
 use std::test::Fail;
@@ -27,12 +27,16 @@ fn entry_of(alloc: Global, tag: &str, text: &str) -> Result<Entry, Fail> {
     })
 }
 
-/// A table of lines `TAG TEXT` from the index 1 on, also one that no script has.
+/// A table of lines `TAG TEXT` from the index 1 on, also one that no script has; in the second profile where a line says so.
 pub fn table_of(alloc: Global, lines: &str) -> Result<Table, Fail> {
     let mut table = Table::new(alloc);
     for line in lines.lines() {
-        let (tag, text) = line.split_once(' ').unwrap_or((line, ""));
-        table.add(entry_of(alloc, tag, text)?)?;
+        if line == "two" {
+            table.set_profile(Profile::Two);
+        } else {
+            let (tag, text) = line.split_once(' ').unwrap_or((line, ""));
+            table.add(entry_of(alloc, tag, text)?)?;
+        }
     }
     Ok(table)
 }

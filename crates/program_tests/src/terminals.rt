@@ -1,0 +1,186 @@
+// Texts for terminals beside the log. A row is the words and the script, and the status and the lines that are written.
+use crate::rows::{Kind, each_block};
+use crate::sessions::{Stage, Told, put_played, put_status};
+use defmt_run::Outcome;
+use std::alloc::Global;
+use std::fmt::Write;
+use std::sync::Wait;
+use std::test::Fail;
+use std::thread::Threads;
+use test_rows::{number_of, put_str};
+
+const TERMINALS: &str = "\
+defmtl term
+s hi defmt_info hello
+w 0 hi
+t 0 0 ready
+t 0 A tick
+t 0 0 done
+=
+status 0 fine
+INFO  hello
+== terminal 0
+ready
+done
+== terminal A
+tick
+
+defmtl term
+s hi defmt_info hello
+w 0 hi
+=
+status 0 fine
+INFO  hello
+
+defmtl term
+t 7 F last
+t 7 1 a b
+t 7 1 c
+=
+status 0 fine
+== terminal 1
+a b
+c
+== terminal F
+last
+
+defmtl term
+ring 16
+mode skip
+reader late
+s hi defmt_info hello
+w 0 hi
+w 0 hi
+w 0 hi
+w 0 hi
+t 0 3 after
+=
+status 0 fine
+INFO  hello
+INFO  hello
+INFO  hello
+-- dropped writer 0 statement 3 need 4 room 3
+== terminal 3
+after
+
+defmtl run
+s hi defmt_info hello
+t 0 0 ready
+w 0 hi
+=
+status 0 fine
+INFO  hello
+
+defmtl term
+t 0 G x
+=
+status 5 script line 1 cause 16 inner 0
+
+defmtl term
+t 0 0 \u{7f}
+=
+status 5 script line 1 cause 17 inner 0";
+
+// What is told of a run beside its lines.
+const ACCOUNTS: &str = "\
+defmtl term
+s hi defmt_info hello
+w 0 hi
+t 0 0 ready
+t 0 A tick
+t 0 0 done
+=
+status 0 fine
+1 marks, at least as many looks
+word ring, 4 bytes sent
+word ring, 20 bytes spoken, 3 words
+event 1 INFO  hello
+
+defmtl run
+s hi defmt_info hello
+w 0 hi
+t 0 0 ready
+=
+status 0 fine
+1 marks, at least as many looks
+word ring, 4 bytes sent
+event 1 INFO  hello";
+
+// Two writers that log and say so many texts each on one terminal, over rings that have no room for all.
+const TALKERS: &str = "\
+100
+=
+status 0 fine, 200 marks, 200 words
+writer 0 said 100 in order
+writer 1 said 100 in order";
+
+// Puts how many lines there are that name a writer and the places from 0 on, one after the other.
+fn put_writer(alloc: Global, lines: &str, writer: u8, out: &mut String) -> Result<(), Fail> {
+    let mut place = 0u64;
+    for line in lines.split("\n") {
+        let due = format!(in alloc; "{writer} {place}")?;
+        if line == due.as_str() {
+            place = place.saturating_add(1);
+        }
+    }
+    Ok(write!(out, "\nwriter {writer} said {place} in order")?)
+}
+
+fn put_writers(alloc: Global, written: &[u8], out: &mut String) -> Result<(), Fail> {
+    let Ok(lines) = str::from_utf8(written) else {
+        return put_str(out, "no text");
+    };
+    put_writer(alloc, lines, 0, out)?;
+    put_writer(alloc, lines, 1, out)
+}
+
+/// Puts how many marks and words there are, and how many lines of the writers 0 and 1 stand in their order.
+pub(crate) fn put_order(
+    alloc: Global,
+    outcome: &Outcome,
+    written: &[u8],
+    out: &mut String,
+) -> Result<(), Fail> {
+    put_status(alloc, outcome, out)?;
+    let (marks, words) = (outcome.tape.len(), outcome.said.len());
+    write!(out, ", {marks} marks, {words} words")?;
+    put_writers(alloc, written, out)
+}
+
+fn add_script(count: &str, text: &mut String) -> Result<(), Fail> {
+    put_str(text, "ring 16\ns hi defmt_info hello")?;
+    for place in 0..number_of(count)? {
+        write!(text, "\nw 0 hi\nt 0 3 0 {place}\nw 1 hi\nt 1 3 1 {place}")?;
+    }
+    Ok(())
+}
+
+/// Puts what came of two writers: the row is how many statements and texts each has.
+pub(crate) fn put_talkers<R: Threads + Wait + Sync>(
+    rt: &R,
+    alloc: Global,
+    row: &str,
+    stage: &mut Stage,
+    out: &mut String,
+) -> Result<(), Fail> {
+    let mut script = String::new(alloc);
+    add_script(row, &mut script)?;
+    put_played(
+        rt,
+        alloc,
+        "defmtl term",
+        &Told::Order,
+        script.as_str(),
+        stage,
+        out,
+    )
+}
+
+#[test]
+fn texts_are_printed_terminal_by_terminal_behind_the_lines_of_the_run(
+    rt: HostRuntime,
+) -> Result<(), Fail> {
+    each_block(&rt, rt.alloc(), TERMINALS, 7, &Kind::Lines)?;
+    each_block(&rt, rt.alloc(), ACCOUNTS, 2, &Kind::Account)?;
+    each_block(&rt, rt.alloc(), TALKERS, 1, &Kind::Talkers)
+}
