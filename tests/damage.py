@@ -39,27 +39,33 @@ Frame = collections.namedtuple("Frame", "begin end line")
 class Device:
     """A script of these statements, its table, what was recorded of it, and its frames, each with its place and its line."""
 
-    def __init__(self, name, statements, has_stamps, base):
+    def __init__(self, name, statements, has_stamps, profile, base):
         self.random = random.Random(f"{seed} {name}")
         tags = {"wrong": "other"}
         entries = [formats.Entry(tags.get(it, tag), text, it != "float") for it, tag, text in formats.DEVICE]
-        self.table = formats.Table(entries, has_stamps)
+        self.table = formats.Table(entries, has_stamps, profile)
         self.maker = formats.Maker(self.random, self.table.entries)
-        self.script = ["stamp 1000 250"] if has_stamps else []
+        self.script = (["stamp 1000 250"] if has_stamps else []) + (["profile 2"] if profile == 2 else [])
         self.script += [f"s {it} defmt_{tag} {text}" for it, tag, text in formats.DEVICE]
         self.recording, self.frames, self.base = b"", [], base
         while len(self.frames) < statements:
-            self.add_statement(1000 + 250 * len(self.frames))
+            self.add_statement(len(self.frames))
         self.by_begin = {frame.begin: frame for frame in self.frames}
         self.origins = array.array("q", range(base, base + len(self.recording)))
         self.elf = f"{work}/{name}.elf"
         self.compare(name)
 
-    def add_statement(self, stamp):
+    def head(self, index, number, stamp):
+        """What stands in a message in front of its arguments: the index, in profile 2 the place of the mark of this number, and the stamp."""
+        place = (number % 65536).to_bytes(2, "little") if self.table.profile == 2 else b""
+        return index.to_bytes(2, "little") + place + (stamp if self.table.stamp else b"")
+
+    def add_statement(self, number):
         """Adds a statement by chance, unless its message is too long for a script. Its line is that of the arguments, which have been in no message."""
         index, body, arguments = self.maker.statement()
         has_stamps = self.table.stamp is not None
-        message = index.to_bytes(2, "little") + (stamp.to_bytes(8, "little") if has_stamps else b"") + self.maker.joined(body, arguments)
+        stamp = 1000 + 250 * number
+        message = self.head(index, number, stamp.to_bytes(8, "little")) + self.maker.joined(body, arguments)
         if len(message) > 2000:
             return
         line, tag = formats.text_of(body, arguments), self.table.entries[index].tag
@@ -79,7 +85,7 @@ class Device:
         with open(self.elf, "wb") as file:
             file.write(elf.replace(b"float {=u32}", b"float {=f32}").replace(wrong + b"rite", wrong + b"rong"))
         read_back = self.table.events(self.recording)
-        is_same = [(cause, line) for _, cause, line in read_back] == [(0, frame.line) for frame in self.frames]
+        is_same = [(it.cause, it.line, it.missing) for it in read_back] == [(0, frame.line, 0) for frame in self.frames]
         count(is_same, f"{name}: the second reading doesn't read the frames that it makes")
         count(answer(["record"], script) == (0, self.recording, b""), f"{name}: what is recorded isn't the frames of the statements")
         lines = "".join(frame.line + "\n" for frame in self.frames).encode()
@@ -210,7 +216,8 @@ def put_in_limit(chance, stream, device):
     """A frame at a limit: of weights, of a line's length, of depth, of the zeros behind the last argument."""
     if chance.random() < 0.7:
         return
-    index = {name: it.to_bytes(2, "little") for name, it in device.maker.indexes.items()}
+    indexes = device.maker.indexes
+    index = {name: it.to_bytes(2, "little") for name, it in indexes.items()}
     name, rest = chance.choice(
         (
             ("many", chance.randint(8191, 8194).to_bytes(4, "little") + index["dot"]),
@@ -221,7 +228,8 @@ def put_in_limit(chance, stream, device):
         )
     )
     place = stream.place(chance)
-    stream.replace(place, place, formats.frame_of(index[name] + (chance.randbytes(8) if device.table.stamp else b"") + rest))
+    head = device.head(indexes[name], chance.randrange(65536), chance.randbytes(8))
+    stream.replace(place, place, formats.frame_of(head + rest))
 
 
 def change_message(chance, stream, device):
@@ -256,7 +264,7 @@ DAMAGES += [put_in_bytes, put_in_long, put_in_limit, change_message, change_mess
 def damaged(number):
     """The device and the stream of this number, and the damages that it has."""
     chance = random.Random(f"{seed} {number}")
-    device = chance.choices(devices, (10, 10, 1))[0]
+    device = chance.choices(devices, (10, 10, 1, 10))[0]
     first, last = 0, len(device.frames) - 1
     if device is not devices[2] and chance.random() < 0.9:
         first = chance.randint(0, last)
@@ -287,16 +295,17 @@ def whole_frames(device, stream):
 def due_of(device, stream):
     """The answer that is due, in which the lines of whole frames stand in their places; else None."""
     events = device.table.events(bytes(stream.bytes))
-    by_place = {place: (cause, line) for place, cause, line in events}
+    by_place = {event.begin: (event.cause, event.line) for event in events}
     frames = list(whole_frames(device, stream))
     if any(by_place.get(place + 1) != (0, line) for place, line in frames):
         return None
-    faults = sum(1 for _, cause, _ in events if cause)
+    faults = sum(1 for event in events if event.cause)
     counts["frames"] += len(frames)
-    for _, cause, _ in events:
-        counts["cause", cause] += 1
+    for event in events:
+        counts["cause", event.cause] += 1
+        counts["gaps"] += event.missing > 0
     said = f"events with faults {faults}\n" if faults else ""
-    return (9 if faults else 0), "".join(line + "\n" for _, _, line in events).encode(), said.encode()
+    return (9 if faults else 0), formats.printed(events).encode(), said.encode()
 
 
 def compare(what, device, stream):
@@ -355,6 +364,7 @@ def try_wrong_programs():
         "tells its first line twice": "sed 1p",
         "ends at the first fault": "sed '/^-- E/q'",
         "tells a front and a tail as nothing": "sed '/^-- [ft]/d'",
+        "tells no gap": "sed '/^-- gap/d'",
     }
     for what, change in wrongs.items():
         with open(f"{work}/wrong", "w", encoding="utf-8") as file:
@@ -369,9 +379,9 @@ def try_wrong_programs():
 
 
 devices = []
-# The large recording is heard in several parts.
-for name, statements, has_stamps in (("plain", 60, False), ("stamped", 60, True), ("large", 4000, True)):
-    devices.append(Device(name, statements, has_stamps, sum(len(it.recording) for it in devices)))
+# The large recording is heard in several parts. The last has places.
+for name, statements, has_stamps, profile in (("plain", 60, False, 1), ("stamped", 60, True, 1), ("large", 4000, True, 1), ("placed", 60, True, 2)):
+    devices.append(Device(name, statements, has_stamps, profile, sum(len(it.recording) for it in devices)))
 
 count(len(devices[2].recording) > 65536, "the large recording is heard in one part")
 
@@ -381,7 +391,7 @@ for number in range(times):
     compare(f"recording {number} ({', '.join(damages)})", device, stream)
 
 pieces = [counts["cause", it] for it in range(1, 15)]
-print(f"{times} damaged recordings: {counts['frames']} whole frames, {sum(pieces)} damaged pieces, {counts['cause', 15]} fronts and tails")
+print(f"{times} damaged recordings: {counts['frames']} whole frames, {sum(pieces)} damaged pieces, {counts['cause', 15]} fronts and tails, {counts['gaps']} gaps")
 print("pieces by cause: " + ", ".join(f"{name} {it}" for name, it in zip(formats.CAUSES[1:], pieces)))
 try_wrong_programs()
 print(f"{counts['passed']} passed, {counts['failed']} failed")

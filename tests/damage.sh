@@ -3,7 +3,7 @@
 #
 #   tests/damage.sh PROGRAM [TIMES [SEED]]      10,000 times, and the seed 1, where they aren't said
 #
-# tests/formats.py reads frames, messages and lines by docs/FORMATS.md, apart from the program. By it three scripts are made, of statements by chance:
+# tests/formats.py reads frames, messages and lines by docs/FORMATS.md, apart from the program. By it four scripts are made, of statements by chance, one of them of profile 2:
 # the program's recording of each has to be the frames of these statements, and what it prints their lines. A recording, or a few of its frames, is then
 # damaged one to six times: bits and bytes are changed, stretches are cut out, at the ends too, moved, put in twice, or put in from elsewhere, zeros are put
 # in or taken out, and messages are changed and framed again. Of what `decode` answers the output, the status and the words are compared, all bytes: each

@@ -30,13 +30,18 @@ defmtl() { timeout 60 "$program" "$@"; }
 
 # ---- inputs on which each command writes more than 1,024 bytes: a script of 300 statements of one writer, and what comes of it
 
-{ printf 'ring 64\ns count defmt_info count {=u16}, and a text that is as long as this one\n'; for number in {1..20}; do echo "s s$number defmt_warn string $number"; done; } > script
+{ printf 'ring 64\nd 0 info\ns count defmt_info count {=u16}, and a text that is as long as this one\n'; for number in {1..20}; do echo "s s$number defmt_warn string $number"; done; } > script
 for number in {1..300}; do echo "w 0 count $number"; done >> script
 defmtl table < script > table.elf && defmtl record < script > recording || { echo "FAILED: there is no table or no recording"; exit 1; }
 : > nothing
 
-commands=('run' 'run --group' 'record' 'table' 'print' 'gen 4096' 'decode --table table.elf')
-input_of() { case $1 in decode*) echo recording ;; gen*) echo nothing ;; *) echo script ;; esac; }
+# an image of a memory in whose buffer the recording waits; le NUMBER: its four bytes, the lowest first
+le() { printf "$(printf '\\x%02x' $(($1 & 255)) $(($1 >> 8 & 255)) $(($1 >> 16 & 255)) $(($1 >> 24)))"; }
+size=$(stat -c %s recording)
+{ printf 'SEGGER RTT\0\0\0\0\0\0'; le 1; le 0; le 0; le 0x20000030; le $((size + 1)); le "$size"; le 0; le 0; cat recording; printf '\0'; } > image
+
+commands=('run' 'run --group' 'record' 'term' 'steer' 'table' 'print' 'gen 4096' 'decode --table table.elf' 'dump --table table.elf')
+input_of() { case $1 in decode*) echo recording ;; dump*) echo image ;; gen*) echo nothing ;; *) echo script ;; esac; }
 
 # ---- the standard input
 
@@ -88,6 +93,12 @@ defmtl run <&- > /dev/full 2> said; status=$?
 check 'a closed input before a full output' 3 source
 printf 'w 0 hi\n' | defmtl run > /dev/full 2> said; status=$?
 check 'a refused script before a full output' 5 'script line 1 cause 2 inner 0'
+printf 'mode skip\nd 0 warn\n' | defmtl steer > /dev/full 2> said; status=$?
+check 'another mode before a full output' 5 'script line 1 cause 18 inner 0'
+printf 'mode skip\nw 0 hi\n' | defmtl steer > written 2> said; status=$?
+check 'a refused line before another mode' 5 'script line 2 cause 2 inner 0'; wrote 'a refused line before another mode' nothing
+defmtl dump --table table.elf < nothing > /dev/full 2> said; status=$?
+check 'a refused image before a full output' 10 'control cause 1 place 0'
 defmtl frob <&- >&- 2> said; status=$?
 check 'words before all' 2 words
 

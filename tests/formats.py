@@ -48,6 +48,8 @@ Parameter = collections.namedtuple("Parameter", "position kind hint")
 Interned = collections.namedtuple("Interned", "index text")
 # A Format value or an item of a list: the string's index, the variant or None, the text's reading, and the arguments.
 Node = collections.namedtuple("Node", "index variant body arguments")
+# What a part of a stream tells: where it begins, its cause (0 for none, 15 of a front or tail), its output line, and how many frames are missing in front of it.
+Event = collections.namedtuple("Event", "begin cause line missing")
 
 
 class Fault(Exception):
@@ -323,20 +325,32 @@ class Reader:
         return Node(index, variant, body, self.arguments(body, depth + 1, weight))
 
 
-class Table:
-    """The strings by their indexes, and what pieces tell by them."""
+def missing_between(last, place):
+    """How many frames are missing between two lines, by their places, where both have one."""
+    return 0 if last is None or place is None else (place - last - 1) % 65536
 
-    def __init__(self, entries, has_stamps):
+
+def printed(events):
+    """The output of events: the line of each, and in front of a line how many frames are missing, where some are."""
+    return "".join((f"-- gap {event.missing}\n" if event.missing else "") + event.line + "\n" for event in events)
+
+
+class Table:
+    """The strings by their indexes, and what pieces tell by them. In profile 2 each message has a place."""
+
+    def __init__(self, entries, has_stamps, profile=1):
         self.entries = dict(enumerate(entries, 1))
+        self.profile = profile
         self.stamp = None
         if has_stamps:
             self.stamp = self.entries[len(entries) + 1] = Entry("timestamp", "{=u64:us}")
         self.told = {}
 
     def line_of(self, message):
-        """The index and the line of a message."""
+        """The line of a message, and its place, None in profile 1."""
         reader = Reader(self, message)
-        index, entry = reader.entry(LEVELS + ("println",))
+        _, entry = reader.entry(LEVELS + ("println",))
+        place = reader.number(2) if self.profile == 2 else None
         stamp = ""
         if self.stamp:
             body = self.stamp.bodies[0]
@@ -350,33 +364,35 @@ class Table:
         text = text_of(body, arguments)
         if len(text.encode()) > 65536:
             raise Fault(14)
-        return text if entry.tag == "println" else f"{stamp}{entry.tag.upper():5} {text}"
+        return (text if entry.tag == "println" else f"{stamp}{entry.tag.upper():5} {text}"), place
 
     def tell(self, piece):
-        """The cause of a piece, 0 for none, and its output line."""
+        """The cause of a piece, 0 for none, its output line, and its frame's place, where it has one."""
         if piece not in self.told:
             try:
                 if len(piece) > 65536:
                     raise Fault(13)
-                told = 0, self.line_of(stands_for(piece))
+                told = 0, *self.line_of(stands_for(piece))
             except Fault as fault:
-                told = fault.cause, f"-- E{fault.cause} {CAUSES[fault.cause]}"
+                told = fault.cause, f"-- E{fault.cause} {CAUSES[fault.cause]}", None
             if len(piece) > 3000:
                 return told
             self.told[piece] = told
         return self.told[piece]
 
     def events(self, stream):
-        """The events of a stream: where the part of each begins, its cause (15 of a front or tail), and its output line."""
-        events, place, parts = [], 0, stream.split(b"\0")
+        """The events of a stream. What is missing is counted from the line before, whatever faults stand between."""
+        events, begin, last, parts = [], 0, None, stream.split(b"\0")
         for number, part in enumerate(parts):
             if part and number == 0:
-                events.append((place, 15, f"-- front {len(part)}"))
+                events.append(Event(begin, 15, f"-- front {len(part)}", 0))
             elif part and number == len(parts) - 1:
-                events.append((place, 15, f"-- tail {len(part)}"))
+                events.append(Event(begin, 15, f"-- tail {len(part)}", 0))
             elif part:
-                events.append((place, *self.tell(part)))
-            place += len(part) + 1
+                cause, line, place = self.tell(part)
+                events.append(Event(begin, cause, line, 0 if cause else missing_between(last, place)))
+                last = last if cause else place
+            begin += len(part) + 1
         return events
 
 

@@ -117,7 +117,7 @@ def by_chance(chance):
         return chance.randbytes(chance.choice((0, 1, 5, 60, 1000)))
     if kind == 1:
         return b"".join(chance.choices(WORDS + NUMBERS, k=chance.randint(0, 60)))
-    starts = (b"ring ", b"mode ", b"reader ", b"stamp ", b"s a defmt_info ", b"s b defmt_prim ", b"w 0 a ", b"#")
+    starts = (b"ring ", b"mode ", b"reader ", b"stamp ", b"profile ", b"d 0 ", b"s a defmt_info ", b"s b defmt_prim ", b"w 0 a ", b"t 0 A ", b"#")
     return b"\n".join(chance.choice(starts) + b"".join(chance.choices(WORDS + NUMBERS, k=chance.randint(0, 4))) for _ in range(chance.randint(1, 8)))
 
 
@@ -130,18 +130,25 @@ def settings_of(chance):
     mode = chance.choice(("", "block", "skip", "trim"))
     settings += [f"mode {mode}"] if mode else []
     settings += [chance.choice(("reader live", "reader late"))] if mode in ("skip", "trim") else []
-    return settings + ([f"stamp {chance.choice((0, 1000, 2**48))} {chance.choice((0, 250, 2**48))}"] if chance.random() < 0.3 else [])
+    settings += [f"stamp {chance.choice((0, 1000, 2**48))} {chance.choice((0, 250, 2**48))}"] if chance.random() < 0.3 else []
+    settings += [f"profile {chance.choice((1, 2))}"] if chance.random() < 0.3 else []
+    levels = ("trace", "debug", "info", "warn", "error")
+    return settings + [f"d {chance.choice((0, 0, 1, 3, 4096))} {chance.choice(levels)}" for _ in range(chance.choice((0, 0, 0, 1, 3, 64)))]
 
 
 def whole_script(chance, settings, writers):
-    """A script that is taken, with strings and arguments of all kinds and statements of so many writers."""
+    """A script that is taken, with strings and arguments of all kinds, and statements and texts for terminals of so many writers."""
     table = formats.Table([formats.Entry(tag, text) for _, tag, text in formats.DEVICE], False)
     maker = formats.Maker(chance, table.entries)
     lines = settings + [f"s {name} defmt_{tag} {text}" for name, tag, text in formats.DEVICE]
     length = len(lines) + chance.randint(5, 30)
     while len(lines) < length:
+        if chance.random() < 0.2:
+            text = "".join(chance.choices("abcdefghijklmnopqrstuvwxyz ,.", k=chance.randint(0, 60)))
+            lines.append(f"t {chance.randrange(writers)} {chance.choice('0123456789ABCDEF')} {text}")
+            continue
         index, body, arguments = maker.statement()
-        if len(maker.joined(body, arguments)) <= 1990:
+        if len(maker.joined(body, arguments)) <= 1988:
             lines.append(f"w {chance.randrange(writers)} {maker.written(index, body, arguments)}")
     return "\n".join(lines).encode() + b"\n"
 
@@ -149,14 +156,18 @@ def whole_script(chance, settings, writers):
 REFUSED_LINE = re.compile(rb"script line (\d+) cause (\d+) inner (\d+)\n")
 
 
-def is_refused_line(script, said):
-    """Whether these are words of a line that this script has."""
+def is_refused_line(words, script, said):
+    """Whether these are words of a line that this script has. Another mode is refused by `steer` alone."""
     read = REFUSED_LINE.fullmatch(said)
     if not read:
         return False
     line, cause, inner = map(int, read.groups())
     inners = {4: range(1, 9), 10: range(9)}.get(cause, range(1))
-    return 1 <= line <= script.count(b"\n") + 1 and 1 <= cause <= 13 and inner in inners
+    if not 1 <= line <= script.count(b"\n") + 1 or inner not in inners:
+        return False
+    if cause == 18:
+        return words == ["steer"] and script.split(b"\n")[line - 1].startswith(b"mode ")
+    return 1 <= cause <= 13 or 15 <= cause <= 17 or cause == 19
 
 
 def try_script(chance):
@@ -167,12 +178,12 @@ def try_script(chance):
         script = whole_script(chance, settings_of(chance), 8) if kind < 6 else chance.choice(scripts)
         for change in chance.choices((change_bytes, change_words, change_words, change_lines), k=0 if kind < 4 else chance.choice((1, 1, 2, 3))):
             script = change(chance, script)
-    words = chance.choice((["run"], ["run", "--group"], ["record"], ["table"], ["print"]))
+    words = chance.choice((["run"], ["run", "--group"], ["record"], ["term"], ["steer"], ["table"], ["print"]))
     status, output, said = answer(words, script)
-    is_good = (status == 0 and said == b"") or (status == 5 and output == b"" and is_refused_line(script, said))
+    is_good = (status == 0 and said == b"") or (status == 5 and output == b"" and is_refused_line(words, script, said))
     if is_good and words != ["print"] and chance.random() < 0.25:
         also = answer(["print"], script)
-        is_good = also[0] == status and also[2] == said
+        is_good = also[0] == 0 if b" cause 18 " in said else also[0] == status and also[2] == said
         if status == 0 and words == ["run", "--group"] and not re.search(rb"^(stamp|mode (skip|trim))", script, re.MULTILINE):
             is_good = is_good and also[1] == output
     return is_good, words, script, (status, output, said)
@@ -266,7 +277,7 @@ def changed_table(chance):
     return bytes(given)
 
 
-REFUSED_FILE = re.compile(rb"table elf cause [1-8] place \d+\n|table name cause [2-6] symbol \d+\n")
+REFUSED_FILE = re.compile(rb"table elf cause [1-9] place \d+\n|table name cause [2-6] symbol \d+\n")
 FAULT = re.compile(rb"^-- (E([1-9]|1[0-4]) [A-Za-z]+|front \d+|tail \d+)$", re.MULTILINE)
 
 
@@ -344,7 +355,7 @@ def try_wrong_programs():
 # ---- all
 
 # Of one writer in blocking mode, so that each recording is the same in each run.
-scripts = [whole_script(random.Random(f"{seed} whole"), settings, 1) for settings in ([], ["stamp 1000 250"])]
+scripts = [whole_script(random.Random(f"{seed} whole"), settings, 1) for settings in ([], ["stamp 1000 250"], ["profile 2"])]
 recordings, tables = [], []
 for number, script in enumerate(scripts):
     made = answer(["table"], script), answer(["record"], script)

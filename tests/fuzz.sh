@@ -4,9 +4,9 @@
 #   tests/fuzz.sh PROGRAM [TIMES [SEED]]      10,000 inputs, and the seed 1, where they aren't said
 #
 # Each input is of one of three kinds, and goes to one call of the program, with standard input and files as they are meant to be read:
-#   script      to `run`, `run --group`, `record`, `table` or `print`. The status is 0, and nothing is said; or 5, with nothing written and the words of a
-#               refused line that is there. About a fourth go to `print` too: it has to refuse the same line in the same words, and to write what
-#               `run --group` writes in blocking mode without stamps
+#   script      to `run`, `run --group`, `record`, `term`, `steer`, `table` or `print`. The status is 0, and nothing is said; or 5, with nothing written and the words of a
+#               refused line that is there. About a fourth go to `print` too: it has to refuse the same line in the same words, but to take a script that
+#               `steer` refuses for its mode, and to write what `run --group` writes in blocking mode without stamps
 #   table       to `decode`, with a whole recording, or with frames for the indexes from 0 on. The status is 0 or 9, as for a recording; or 6, with nothing written and
 #               the words of a refused file
 #   recording   to `decode`, with a table of all kinds of strings. The status is 0, and nothing is said; or 9, and the number of faults that is said is that

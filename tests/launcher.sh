@@ -34,6 +34,7 @@ echo "TEXT" >&2
 case $1 in
     run) cat ;;
     end) exit "$2" ;;
+    say) echo "$3" >&2; exit "$2" ;;
     words) printf '%s\n' "$@" ;;
     open) for it in /proc/self/fd/*; do readlink "$it"; done | grep launcher ;;
     wait) touch "$2"; exec sleep 30 ;;
@@ -152,7 +153,7 @@ is 'each crate is proved once, test crates and those aside are not' "$(proofs)" 
 has 'the program is the proved one' "$said" 'proved one'
 has 'how far a build is' "$said" 'crate 2 of 6 is done: '
 has 'how long it will take' "$said" 'About '
-has 'how long the first build takes' "$said" '20 to 30 minutes on four processors, more on two'
+has 'how long the first build takes' "$said" '25 to 35 minutes on four processors, more on two'
 is 'a crate that stands alone gets all processors' "$(grep -c '^low lib --jobs 4\|^top lib --jobs 4\|^defmt_cli run --jobs 4' "$kit/calls")" 3
 is 'two side by side share the processors' "$(grep '^left\|^right' "$kit/calls" | grep -o '[0-9]*$' | sort | tr '\n' ' ')" '2 2 '
 is 'each crate has one call, but the last library has none of its own' "$(calls)" 5
@@ -168,6 +169,77 @@ for number in 0 1 2 9 63; do
     call end "$number"
     is "the program's status $number" "$status" "$number"
 done
+
+# ---- the page, what a refusal means, and the installation
+
+# on_terminal WORD..: a call whose standard error is a terminal; what is said there stands in the file `said`, with its newlines as they are typed
+on_terminal() {
+    printf -v line '%q ' ./defmtl "$@"
+    script -qec "$line > $work/wrote < /dev/null" /dev/null > "$work/said" < /dev/null
+    status=$? wrote=$(< "$work/wrote") said=$(tr -d '\r' < "$work/said")
+}
+mkdir docs && cp "$top"/docs/{EXPLAIN.md,defmtl.1,defmtl.completion} docs
+call --help
+is "the page and the program's own status" "$status" 0
+for name in decode dump run term steer record table print gen; do has "the page names $name" "$said" "defmtl $name"; done
+has 'and then stands what the program says' "$said" 'proved one'
+is 'the page is no output' "$wrote" ''
+if command -v script > /dev/null; then
+    on_terminal end 5
+    is 'on a terminal: the status' "$status" 5
+    has 'on a terminal: what the program says' "$said" 'proved one'
+    lacks 'on a terminal: a message that is none of the program is not explained' "$said" 'cause'
+    on_terminal words a 'b  c'
+    is 'on a terminal: the words and the output' "$wrote" $'words\na\nb  c'
+    on_terminal say 2 'words'
+    has 'wrong words' "$said" './defmtl --help shows all of them'
+    on_terminal say 5 'script line 3 cause 8 inner 0'
+    has 'a line of a script' "$said" 'cause 8, inner 0: `reader late` in blocking mode. (docs/EXPLAIN.md)'
+    on_terminal say 5 'script line 1 cause 18 inner 0'
+    has 'a mode that is not steered' "$said" "cause 18, inner 0: With \`steer\` alone: the script isn't in blocking mode"
+    on_terminal say 5 'script line 3 cause 4 inner 3'
+    has 'arguments of a line' "$said" 'cause 4, inner 3: The value is of another kind.'
+    on_terminal say 6 'table elf cause 6 place 0'
+    has 'a table' "$said" 'cause 6: There is no symbol table'
+    on_terminal say 6 'table name cause 5 symbol 2'
+    has "a symbol" "$said" 'cause 5: It is a second timestamp.'
+    on_terminal say 10 'control cause 4 place 1'
+    has 'an image' "$said" 'cause 4: The offsets or the flags of descriptor P'
+    is 'the status of a refusal' "$status" 10
+    call say 10 'control cause 4 place 1'
+    lacks 'nothing is explained to a file' "$said" 'The offsets'
+fi
+call --install "$work/prefix"
+is 'an installation' "$status $("$work/prefix/bin/defmtl" words a 2> /dev/null | tail -n 1)" '0 a'
+is 'its files' "$(cd "$work/prefix" && find . -type f | sort | tr '\n' ' ')" './bin/defmtl ./share/bash-completion/completions/defmtl ./share/man/man1/defmtl.1 '
+call --install /proc/nowhere
+is 'a folder that cannot be written' "$status" 73
+call --install
+is 'no folder' "$status" 73
+is 'nothing was built for these' "$(calls)" 0
+(
+    . docs/defmtl.completion
+    COMP_WORDS=(defmtl dump --) COMP_CWORD=2
+    _defmtl
+    echo "${COMPREPLY[*]}"
+) > "$work/said"
+is 'the completion' "$(< "$work/said")" '--table --base --up --old --only'
+(
+    . docs/defmtl.completion
+    COMP_WORDS=(defmtl st) COMP_CWORD=1
+    _defmtl
+    echo "${COMPREPLY[*]}"
+) > "$work/said"
+is 'the completion of a command' "$(< "$work/said")" 'steer'
+rm -r docs
+begin 0.1
+call --help
+is 'the page where nothing was built' "$status $(calls)" '2 0'
+begin 0.1
+mkdir docs && cp "$top"/docs/{EXPLAIN.md,defmtl.1,defmtl.completion} docs
+call --install "$work/prefix"
+is 'an installation builds what is not built' "$status $(proofs)" "0 $all_crates"
+rm -r docs
 
 # ---- what is proved when
 

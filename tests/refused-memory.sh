@@ -1,6 +1,6 @@
 #!/bin/bash
-# Runs three commands again and again with an allocation refused, and checks that each ends in order: a run of two writers in blocking mode, a run whose
-# ring is full, and a decoding that finds a fault.
+# Runs five commands again and again with an allocation refused, and checks that each ends in order: a run of two writers in blocking mode, a run whose
+# ring is full, a run with texts for terminals, a run under orders of levels, and a decoding that finds a fault.
 #
 #   tests/refused-memory.sh PROGRAM
 #
@@ -144,6 +144,12 @@ refuse 'run --group, two writers' 0 '' run --group
 
 printf '%s\n' 'ring 16' 'mode skip' 'reader late' 's hi defmt_info hello' 'w 0 hi' 'w 0 hi' 'w 0 hi' 'w 0 hi' 'w 0 hi' > "$work/input"
 refuse 'run, a ring that is full' 0 '' run
+
+printf '%s\n' 'ring 64' 's a defmt_info a {=u8}' 'w 0 a 1' 't 0 0 ready' 't 1 A tick' 'w 0 a 2' 't 1 A tock' 't 0 0 done' > "$work/input"
+refuse 'term, two writers' 0 '' term
+
+printf '%s\n' 'ring 64' 'd 0 warn' 's a defmt_info a {=u8}' 's b defmt_warn b {=bool}' 'w 0 a 1' 'w 1 b true' 'w 0 a 2' 'w 1 b false' > "$work/input"
+refuse 'steer, two writers' 0 '' steer
 
 printf '%s\n' 's hi defmt_info hello' 'w 0 hi' > "$work/input"
 "$program" table < "$work/input" > "$work/table.elf"

@@ -9,6 +9,14 @@
 #   alone      the same where no thread can be started, so that one thread does the work of all; a tenth of the times
 #   large      two writers with two frames each of more than 2,000 bytes in a ring of 16; a hundredth of the times
 #   many       eight writers with 512 statements each in a ring of 16; a hundredth of the times
+# By `term`, in blocking mode, each run prints all lines and then all texts, those of each writer in order, under their terminals:
+#   talking    eight writers with 64 statements and 64 texts each, a ring of 16 bytes; the terminals' own ring has 1,024
+#   wide       the same with a ring of 1,024 bytes
+#   single     the same as `talking` where no thread can be started; a tenth of the times
+# By `steer`, each run prints a line for each of 64 orders, and of the statements just those that aren't below the last order that their turns had heard:
+#   steered    eight writers with 50 statements each, half of them errors, which no order mutes; a ring of 16 bytes. Stamps tell the turns
+#   roomy      the same with a ring of 1,024 bytes and in profile 2, where the gaps are the turns that were muted
+#   unaided    the same as `steered` where no thread can be started; a tenth of the times
 # In skip mode, beside a live reader:
 #   skipping   200 frames of a writer in a ring of 16. Lines and reports add up to 200, the reports stand behind the lines, each with a frame of 4
 #              bytes and less room
@@ -81,17 +89,41 @@ many() {
         for (i = 0; i < 4096; i++) printf "w %d hi %d %d\n", i % 8, i % 8, i / 8
     }'
 }
+talking() {
+    awk -v size="${1:-16}" 'BEGIN {
+        print "ring " size "\nmode block\nreader live\ns hi defmt_info {=u8} {=u16}"
+        for (i = 0; i < 512; i++) {
+            writer = i % 8; place = int(i / 8)
+            printf "w %d hi %d %d\nt %d %d %d %d\n", writer, writer, place, writer, writer % 2 ? 3 : writer, writer, place
+        }
+    }'
+}
+wide() { talking 1024; }
+single() { talking; }
+steered() {
+    awk -v size="${1:-16}" -v profile="${2:-1}" 'BEGIN {
+        split("error trace warn info debug", words)
+        print "ring " size "\nmode block\nreader live\nstamp 0 1\nprofile " profile
+        for (i = 0; i < 64; i++) print "d", 3 * i, words[i % 5 + 1]
+        print "s hi defmt_info {=u8} {=u16}\ns oh defmt_error {=u8} {=u16}"
+        for (i = 0; i < 400; i++) { place = int(i / 8); print "w", i % 8, place % 2 ? "oh" : "hi", i % 8, place }
+    }'
+}
+roomy() { steered 1024 2; }
+unaided() { steered; }
 skipping() {
     printf 'ring 16\nmode skip\nreader live\ns hi defmt_info hello\n'
     for ((place = 0; place < 200; place++)); do echo 'w 0 hi'; done
 }
 
-# ---- two ways to run one
+# ---- four ways to run one
 
 by_run() { timeout 300 "$program" run < "$work/script"; }
+by_term() { timeout 300 "$program" term < "$work/script"; }
+by_steer() { timeout 300 "$program" steer < "$work/script"; }
 apart() { timeout 300 "$program" record < "$work/script" > "$work/frames" && timeout 300 "$program" decode --table "$work/table.elf" < "$work/frames"; }
 
-# ---- two checks. Each run ends in the line '== STATUS'; these count the runs that are as they should be.
+# ---- four checks, one of them in two forms. Each run ends in the line '== STATUS'; these count the runs that are as they should be.
 
 # The lines that `print` gives come first. Those of a run are the same, but for the turns of the writers: the stamps in their places, the
 # texts of each writer in order.
@@ -110,6 +142,51 @@ all_told='
     { read_line(); lines++; told[writer]++; if (stamp != stamps[lines] || text != due[writer, told[writer]]) fine = 0 }
     BEGIN { fine = 1; lines = 0 }
     END { print good + 0, bad + 0 }'
+# A statement tells its writer and place, and so does a text: those of an odd writer stand under terminal 3, the others under the writer's own number.
+all_said='
+    NR == FNR { all++; next }
+    /^== terminal / { at = $3; heads = heads at; next }
+    /^== / {
+        if ($2 == 0 && fine && lines == all && texts == all && heads == "02346") good++
+        else if (bad++ < 5) print "run " good + bad ": status " $2 ", lines " lines ", texts " texts ", terminals " heads
+        fine = 1; lines = texts = 0; heads = at = ""; split("", told); split("", said); next
+    }
+    at == "" { lines++; if ($1 != "INFO" || $3 != told[$2]++) fine = 0; next }
+    { texts++; if (at != ($1 % 2 ? 3 : $1) || $2 != said[$1]++) fine = 0 }
+    BEGIN { fine = 1; lines = texts = 0; heads = at = "" }
+    END { print good + 0, bad + 0 }'
+# The stamp of a line is its turn. Behind the lines, each order tells the turn that heard it first. So the floor of each turn is known: an error is always told, another
+# statement just where the floor doesn't mute it.
+all_steered='
+    NR == FNR { all++; errors += $2 == "ERROR"; next }
+    /^-- gap [0-9]+$/ && orders == 0 && gap == 0 { gap = $3; next }
+    /^-- level / {
+        from[orders] = $0 == "-- level " words[orders % 5 + 1] " unheard" ? all : $6
+        if (from[orders] < all && $0 != "-- level " words[orders % 5 + 1] " from turn " $6) fine = 0
+        if (from[orders] > all || orders > 0 && from[orders] < from[orders - 1]) fine = 0
+        orders++; next
+    }
+    /^== / {
+        heard = 0; mutes = 0
+        for (turn = 0; turn < all; turn++) {
+            for (; heard < orders && from[heard] <= turn; heard++) mutes = words[heard % 5 + 1] ~ /warn|error/
+            if (turn in told ? mutes && told[turn] != "ERROR" : ! mutes) fine = 0
+        }
+        if ($2 == 0 && fine && orders == 64 && from[0] == 0 && sent == errors) good++
+        else if (bad++ < 5) print "run " good + bad ": status " $2 ", lines " lines ", errors " sent ", orders " orders ", of which turns heard " heard
+        start(); next
+    }
+    orders == 0 && ($2 == "INFO" || $2 == "ERROR") {
+        turn = int($1 * 1000000 + 0.5); lines++; sent += $2 == "ERROR"; told[turn] = $2
+        if (turn <= last || turn >= all || gap != (gaps && last >= 0 ? turn - last - 1 : 0)) fine = 0
+        if ($3 in places && $4 <= places[$3] || ($4 % 2 ? "ERROR" : "INFO") != $2) fine = 0
+        last = turn; gap = 0; places[$3] = $4; next
+    }
+    { fine = 0 }
+    function start() { fine = 1; lines = sent = orders = gap = 0; last = -1; split("", told); split("", from); split("", places) }
+    BEGIN { split("error trace warn info debug", words); start() }
+    END { print good + 0, bad + 0 }'
+all_gapped='BEGIN { gaps = 1 }'$all_steered
 told_or_reported='
     NR == FNR { next }
     /^== / { if ($2 == 0 && fine && lines + reports == 200) good++; else if (bad++ < 5) print "run " good + bad ": status " $2 ", lines " lines ", reports " reports
@@ -144,6 +221,12 @@ run_all pieces "$times" by_run "$all_told"
 run_all alone $(((times + 9) / 10)) by_run "$all_told" '-s 1000000' '-v 500000'
 run_all large $(((times + 99) / 100)) by_run "$all_told"
 run_all many $(((times + 99) / 100)) by_run "$all_told"
+run_all talking "$times" by_term "$all_said"
+run_all wide "$times" by_term "$all_said"
+run_all single $(((times + 9) / 10)) by_term "$all_said" '-s 1000000' '-v 500000'
+run_all steered "$times" by_steer "$all_steered"
+run_all roomy "$times" by_steer "$all_gapped"
+run_all unaided $(((times + 9) / 10)) by_steer "$all_steered" '-s 1000000' '-v 500000'
 run_all skipping "$times" by_run "$told_or_reported"
 echo "$passed passed, $failed failed"
 [ "$failed" -eq 0 ] && [ "$passed" -gt 0 ]

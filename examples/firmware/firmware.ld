@@ -1,0 +1,25 @@
+/* The memories of a TI LM3S6965: put those of your device here. */
+MEMORY
+{
+    flash (rx) : ORIGIN = 0x00000000, LENGTH = 256K
+    ram (rwx) : ORIGIN = 0x20000000, LENGTH = 64K
+}
+
+ENTRY(vectors)
+stack_end = ORIGIN(ram) + LENGTH(ram);
+
+SECTIONS
+{
+    .text : { KEEP(*(.vectors)) *(.text .text.*) *(.rodata .rodata.*) } > flash
+    .data : { . = ALIGN(4); data_start = .; *(.data .data.*) . = ALIGN(4); data_end = .; } > ram AT > flash
+    data_from = LOADADDR(.data);
+    .bss (NOLOAD) : { . = ALIGN(4); bss_start = .; *(.bss .bss.* COMMON) . = ALIGN(4); bss_end = .; } > ram
+
+    /* The format strings: a byte each from address 1 on, so that a string's address is its index. The section is in the
+       ELF file alone and takes no memory of the device. */
+    .defmt 0 (INFO) : { . = 1; KEEP(*(.defmt .defmt.*)) }
+
+    /* What a host asks for before it reads a table. In profile 2 the third is defined too. */
+    "_defmt_version_ = 4" = 1;
+    "_defmt_encoding_ = rzcobs" = 1;
+}

@@ -1,0 +1,74 @@
+#!/bin/bash
+# Builds examples/firmware, runs it on an emulated Cortex-M, takes the memory, and compares what `dump` prints of it, and
+# `decode` of the bytes in the ring, with the lines that the sources name beside each message.
+#
+#   tests/firmware.sh PROGRAM
+#
+# It needs arm-none-eabi-gcc with newlib and qemu-system-arm (Debian: gcc-arm-none-eabi, libnewlib-arm-none-eabi,
+# qemu-system-arm), and says 'skipped: ..' where they are missing. The last line is 'N passed, M failed'.
+set -u
+[ $# -eq 1 ] || { echo "usage: tests/firmware.sh PROGRAM"; exit 2; }
+program=$(realpath "$1") && [ -x "$program" ] || { echo "there is no program $1"; exit 2; }
+sources=$(realpath "$(dirname "$0")/../examples/firmware") || exit 2
+passed=0 failed=0
+work=$(mktemp -d) || exit 2
+trap 'rm -rf "$work"' EXIT
+
+finish() { echo "$passed passed, $failed failed"; [ "$failed" -eq 0 ]; exit; }
+pass() { passed=$((passed + 1)); echo "ok: $1"; }
+fail() { failed=$((failed + 1)); echo "FAILED: $1"; }
+
+# compare WHAT DUE GOT
+compare() { if cmp -s "$2" "$3"; then pass "$1"; else fail "$1"; diff "$2" "$3" | head -n 20; fi; }
+
+for tool in make arm-none-eabi-gcc qemu-system-arm od; do
+    command -v "$tool" > /dev/null || { echo "skipped: no $tool on this machine"; finish; }
+done
+
+# number PLACE: the four bytes at a place of the image as a number
+number() { od -An -tu4 -j "$1" -N 4 "$work/ram.bin" | tr -d ' '; }
+
+# take_image: runs the firmware for a moment, and saves the memory as ram.bin; the emulator is told to stop
+take_image() {
+    {
+        sleep "$1"
+        echo "pmemsave 0x20000000 0x10000 \"$work/ram.bin\""
+        echo quit
+    } | timeout 60 qemu-system-arm -M lm3s6965evb -display none -serial none -monitor stdio -kernel "$work/firmware.elf" > "$work/said" 2>&1
+}
+
+# has_all: whether the image has the last message, which is sent before the firmware waits
+has_all() { "$program" dump --table "$work/firmware.elf" --old < "$work/ram.bin" 2> /dev/null | grep -qxF "$(tail -n 1 "$work/due")"; }
+
+cp "$sources"/* "$work" && cd "$work" || exit 2
+sed -n 's/.*\/\/= //p' main.c > due
+
+for profile in 1 2; do
+    make -s clean
+    if ! make -s PROFILE=$profile > said 2>&1; then
+        fail "profile $profile: the firmware is built"
+        tail -n 5 said
+        continue
+    fi
+    for wait in 1 3 9; do
+        rm -f ram.bin
+        take_image $wait
+        [ -s ram.bin ] && has_all && break
+    done
+    [ -s ram.bin ] || { fail "profile $profile: the emulator saves the memory"; tail -n 5 said; continue; }
+
+    "$program" dump --table firmware.elf < ram.bin > got 2>&1
+    compare "profile $profile: dump of the memory" due got
+
+    # the control block by its ID, then the up-buffer's place and its two offsets
+    block=$(grep -obUaP 'SEGGER RTT\0\0\0\0\0\0' ram.bin | head -n 1 | cut -d : -f 1)
+    start=$(($(number $((block + 28))) - 0x20000000)) write=$(number $((block + 36))) read=$(number $((block + 40)))
+    tail -c +$((start + read + 1)) ram.bin | head -c $((write - read)) > recording.bin
+    "$program" decode --table firmware.elf < recording.bin > got 2>&1
+    compare "profile $profile: decode of the bytes in the ring" due got
+
+    # nothing of the strings is in the device's memories
+    arm-none-eabi-objcopy -O binary firmware.elf flash.bin
+    if grep -qaF 'retries' flash.bin ram.bin; then fail "profile $profile: no format string is on the device"; else pass "profile $profile: no format string is on the device"; fi
+done
+finish
