@@ -21,7 +21,8 @@ in_parts() { parallel --will-cite --pipepart -a "$1" -k --recend '\0' --recstart
 
 "$program" table < "$examples/device.defmtl" > table.elf && "$program" record < "$examples/device.defmtl" > once.bin || exit 2
 # a chunk of about a mebibyte, of whole frames, and what one call prints of it
-for ((size = 0; size < 1048576; size += $(stat -c %s once.bin))); do cat once.bin; done > chunk.bin
+cp once.bin chunk.bin
+while [ "$(stat -c %s chunk.bin)" -lt 1048576 ]; do cat chunk.bin chunk.bin > twice.bin && mv twice.bin chunk.bin; done
 "$program" decode --table table.elf < chunk.bin > chunk.lines || exit 2
 for ((count = 0; count < mebibytes; count++)); do cat chunk.bin; done > big.bin
 due=$(for ((count = 0; count < mebibytes; count++)); do cat chunk.lines; done | sha256sum)
