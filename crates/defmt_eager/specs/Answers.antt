@@ -18,7 +18,8 @@ GivesText (Err Memory) t index vs = Unit {0}
 
 -- the line of a statement, of which both texts are within the limit; that one isn't; or want of memory
 abbrev pub GivesLine : Result Text EagerFault → Map → Vals → ℕ → Vals → Type 0
-GivesLine (Ok out) t stamp index vs = (out ≡ eager_line t stamp index vs) × (IsWide t stamp index vs → ⊥)
+GivesLine (Ok out) t stamp index vs =
+    (out ≡ eager_line t stamp index vs) × (IsWide t stamp index vs → ⊥)
 GivesLine (Err Wide) t stamp index vs = IsWide t stamp index vs
 GivesLine (Err Memory) t stamp index vs = Unit {0}
 
@@ -36,7 +37,8 @@ Shows limit old new (Err Memory) text = Unit {0}
 
 -- what stands in front of a statement's text, where the stamp's text is within the limit
 abbrev pub GivesFront : Result Text EagerFault → Map → Option ℕ → Vals → Option (List ℕ) → Type 0
-GivesFront (Ok out) t at stamp level = (out ≡ front_text t at stamp level) × (length (stamp_text t at stamp) ≤ text_limit) × (length out ≤ text_limit + 7)
+GivesFront (Ok out) t at stamp level = (out ≡ front_text t at stamp level)
+    × (length (stamp_text t at stamp) ≤ text_limit) × (length out ≤ text_limit + 7)
 GivesFront (Err Wide) t at stamp level = IsLong (stamp_text t at stamp)
 GivesFront (Err Memory) t at stamp level = Unit {0}
 

@@ -39,11 +39,13 @@ stamp_space (Some index) = codes " "
 -- what stands in front of a statement's text: the stamp, the level and a space, or nothing where there is no level
 abbrev pub front_text : Map → Option ℕ → Vals → Option (List ℕ) → List ℕ
 front_text t at stamp None = []
-front_text t at stamp (Some level) = (stamp_text t at stamp ++ stamp_space at) ++ (level ++ codes " ")
+front_text t at stamp (Some level) =
+    (stamp_text t at stamp ++ stamp_space at) ++ (level ++ codes " ")
 
 -- the line of a statement, without a newline at its end
 abbrev pub eager_line : Map → Vals → ℕ → Vals → List ℕ
-eager_line t stamp index vs = front_text t (stamp_of t) stamp (level_at t index) ++ eager_text t index vs
+eager_line t stamp index vs =
+    front_text t (stamp_of t) stamp (level_at t index) ++ eager_text t index vs
 
 -- the text has too many bytes
 abbrev pub IsLong : List ℕ → Type 0

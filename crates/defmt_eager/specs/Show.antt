@@ -62,7 +62,8 @@ pieces_text outer (p ∷ ps) all = piece_text outer p all ++ pieces_text outer p
 
 -- A signed number prints in the size of its kind. Where a statement fits, it lies in that size.
 abbrev pub int_text : Kind → ℤ → Hint → List ℕ
-int_text (kinds.Int size) n hint = if is_signed (size_bits size) n then printed_int n size hint else []
+int_text (kinds.Int size) n hint =
+    if is_signed (size_bits size) n then printed_int n size hint else []
 int_text kind n hint = []
 
 -- of a number of bit fields the field that the kind names is printed
@@ -83,7 +84,8 @@ unfoldable mutual
   show_val t (istr index) = λ kind hint. printed_str (interned_text (look t index)) hint
   show_val t (bytes s) = λ kind hint. printed_bytes s hint
   show_val t (bits n) = λ kind hint. bits_text kind n hint
-  show_val t (format index variant vs) = λ kind hint. pieces_text hint (node_pieces t index variant) (shows t vs)
+  show_val t (format index variant vs) =
+      λ kind hint. pieces_text hint (node_pieces t index variant) (shows t vs)
   show_val t (seq index es) = λ kind hint. list_text (show_elems t (index_or index) hint es)
 
   -- the texts of arguments
@@ -94,7 +96,8 @@ unfoldable mutual
   -- the texts of the elements of a list, whose entry has this index
   pub show_elems : Map → ℕ → Hint → Elems → List (List ℕ)
   show_elems t index hint no_elems = []
-  show_elems t index hint (elem variant vs es) = pieces_text hint (node_pieces t index variant) (shows t vs) ∷ show_elems t index hint es
+  show_elems t index hint (elem variant vs es) =
+      pieces_text hint (node_pieces t index variant) (shows t vs) ∷ show_elems t index hint es
 
 -- the text of a statement, without stamp and level
 abbrev pub eager_text : Map → ℕ → Vals → List ℕ

@@ -14,7 +14,8 @@ use defmt_values::{is_signed, size_bits};
 
 // The answer for what was shown: it is too long where the text passes the limit with it.
 fn within(shown: Result<(), Memory>, out: &Text, limit: usize) -> Result<(), EagerFault>
-    ensures { (old text : List ℕ) → Appends shown old out.now text → Shows limit old out.now result text }
+    ensures { (old text : List ℕ) → Appends shown old out.now text
+        → Shows limit old out.now result text }
 {
     match shown {
         Err(_) => Err(EagerFault::Memory),
@@ -53,7 +54,8 @@ fn push_sized(
     hint: &Hint,
 ) -> Result<(), EagerFault>
     requires { length out.old ≤ limit }
-    ensures { Shows limit out.old out.new result (if is_signed (size_bits size) n then printed_int n size hint.now else []) }
+    ensures { Shows limit out.old out.new result
+        (if is_signed (size_bits size) n then printed_int n size hint.now else []) }
 {
     if !is_signed(n, size_bits(size)) {
         return Ok(());

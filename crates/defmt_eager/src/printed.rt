@@ -7,7 +7,7 @@ ghost use Rattle.defmt_eager.specs.Show.{own_pieces};
 ghost use Rattle.defmt_intern.specs.Stamp.{stamp_of};
 ghost use Rattle.defmt_values.specs.Fits.{Fits, FitsStamp, IsLogged};
 
-use crate::eager::{EagerFault, LIMIT};
+use crate::eager::{EagerFault, TEXT_LIMIT};
 use crate::values::{pieces_of, push_pieces, push_statement};
 use defmt_grammar::{Hint, Memory, Piece, Text};
 use defmt_intern::{Table, Tag};
@@ -53,7 +53,7 @@ fn push_stamp(
 {
     match at {
         None => Ok(()),
-        Some(index) => push_statement(table, out, LIMIT, index, stamp),
+        Some(index) => push_statement(table, out, TEXT_LIMIT, index, stamp),
     }
 }
 
@@ -83,7 +83,8 @@ fn front_of(
     level: Option<&str>,
 ) -> Result<Text, EagerFault>
     requires { ForSome level (λ l. length l.now ≡ 5) }
-    ensures { GivesFront result table.now.entries at stamp.now (option_map (λ l. l.now) level.entry) }
+    ensures { GivesFront result table.now.entries at stamp.now
+        (option_map (λ l. l.now) level.entry) }
 {
     let mut out = roomy(alloc)?;
     push_stamp(table, &mut out, at, stamp)?;
@@ -114,7 +115,7 @@ pub fn line(alloc: Global, table: &Table, stamp: &Args, stm: &Statement) -> Resu
 {
     let (level, pieces) = parts_at(table, stm.index);
     let mut out = front_of(alloc, table, table.stamp(), stamp, level)?;
-    let limit = out.len() + LIMIT;
+    let limit = out.len() + TEXT_LIMIT;
     push_pieces(table, &mut out, limit, Hint::Plain, pieces, &stm.args)?;
     Ok(out)
 }

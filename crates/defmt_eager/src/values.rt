@@ -15,7 +15,7 @@ use defmt_grammar::{Hint, Kind, Param, Piece, Text};
 use defmt_intern::{Parsed, Table};
 use defmt_values::{Args, Item, Items, Value, cut, form_of, look_up, pick};
 
-/// The text of an interned string.
+// The text of an interned string.
 fn interned_text(table: &Table, index: u16) -> &str
     ensures { result.now ≡ interned_text (look table.now.entries index) }
 {
@@ -25,7 +25,7 @@ fn interned_text(table: &Table, index: u16) -> &str
     }
 }
 
-/// The pieces of the text of a Format value.
+// The pieces of the text of a Format value.
 fn node_pieces(table: &Table, index: u16, variant: Option<u8>) -> &[Piece]
     ensures { result.now ≡ node_pieces table.now.entries index variant }
 {
@@ -58,7 +58,7 @@ pub fn own_pieces(table: &Table, index: u16) -> &[Piece]
     }
 }
 
-/// The hint that acts on a parameter, from the one that acts round it and its own.
+// The hint that acts on a parameter, from the one that acts round it and its own.
 fn acting(outer: Hint, own: Hint) -> Hint
     ensures { result ≡ acting outer own }
 {
@@ -86,7 +86,8 @@ fn push_value(
     value: &Value,
 ) -> Result<(), EagerFault>
     requires { length out.old ≤ limit }
-    ensures { Shows limit out.old out.new result (show_val table.now.entries (plain value.now) kind hint) }
+    ensures { Shows limit out.old out.new result
+        (show_val table.now.entries (plain value.now) kind hint) }
 {
     match value {
         Value::Uint(n) => push_uint(out, limit, *n, &hint),
@@ -138,7 +139,8 @@ fn push_piece(
     args: &Args,
 ) -> Result<(), EagerFault>
     requires { length out.old ≤ limit }
-    ensures { Shows limit out.old out.new result (piece_text outer piece.now (shows table.now.entries args.now)) }
+    ensures { Shows limit out.old out.new result
+        (piece_text outer piece.now (shows table.now.entries args.now)) }
 {
     match piece {
         Piece::Literal(text) => push(out, limit, text.as_str()),
@@ -157,7 +159,8 @@ pub fn push_pieces(
     args: &Args,
 ) -> Result<(), EagerFault>
     requires { length out.old ≤ limit }
-    ensures { Shows limit out.old out.new result (pieces_text outer pieces.now (shows table.now.entries args.now)) }
+    ensures { Shows limit out.old out.new result
+        (pieces_text outer pieces.now (shows table.now.entries args.now)) }
 {
     let mut rest = pieces;
     'each: while let Some((piece, more)) = cut(rest) {
@@ -180,7 +183,9 @@ fn push_item(
 ) -> Result<(), EagerFault>
     requires { length out.old ≤ limit }
     ensures { Shows limit out.old out.new result
-        (comma first ++ pieces_text hint (node_pieces table.now.entries index item.now.variant) (shows table.now.entries item.now.args)) }
+        (comma first
+        ++ pieces_text hint (node_pieces table.now.entries index item.now.variant)
+        (shows table.now.entries item.now.args)) }
 {
     push(out, limit, comma(first))?;
     let pieces = node_pieces(table, index, item.variant);
@@ -198,7 +203,8 @@ fn push_items(
     items: &Items,
 ) -> Result<(), EagerFault>
     requires { length out.old ≤ limit }
-    ensures { Shows limit out.old out.new result (parted (show_elems table.now.entries index hint items.now)) }
+    ensures { Shows limit out.old out.new result
+        (parted (show_elems table.now.entries index hint items.now)) }
 {
     let mut rest = items.as_slice();
     let mut first = true;
@@ -221,7 +227,8 @@ fn push_list(
     items: &Items,
 ) -> Result<(), EagerFault>
     requires { length out.old ≤ limit }
-    ensures { Shows limit out.old out.new result (list_text (show_elems table.now.entries index hint items.now)) }
+    ensures { Shows limit out.old out.new result
+        (list_text (show_elems table.now.entries index hint items.now)) }
 {
     push(out, limit, "[")?;
     push_items(table, out, limit, hint, index, items)?;

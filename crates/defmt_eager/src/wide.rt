@@ -10,7 +10,7 @@ ghost use Rattle.defmt_intern.specs.Table.{Map};
 ghost use Rattle.defmt_values.specs.Fits.{Fits};
 ghost use Rattle.defmt_values.specs.View.{plain};
 
-use crate::eager::{EagerFault, LIMIT, text_of};
+use crate::eager::{EagerFault, TEXT_LIMIT, text_of};
 use crate::values::own_pieces;
 use defmt_grammar::{Hint, Memory, Piece};
 use defmt_intern::Table;
@@ -44,7 +44,8 @@ fn bytes_bound(bytes: &[u8], hint: Hint) -> Option<usize>
 // No fewer bytes than the text of a value has, which isn't printed. `None` for a value with an entry of its own.
 #[tactic(auto, unfolding(crate::specs::Show::show_val), using(crate::proofs::Bounds::leaves))]
 fn value_bound(value: &Value, hint: Hint) -> Option<usize>
-    ensures { (t : Map) (kind : AnyKind) → IfSome result (λ most. length (show_val t (plain value.now) kind hint) ≤ most) }
+    ensures { (t : Map) (kind : AnyKind)
+        → IfSome result (λ most. length (show_val t (plain value.now) kind hint) ≤ most) }
 {
     match value {
         Value::Uint(n) | Value::Bits(n) => {
@@ -60,7 +61,9 @@ fn value_bound(value: &Value, hint: Hint) -> Option<usize>
 
 // No fewer bytes than the text of a piece has.
 fn piece_bound(piece: &Piece, args: &Args) -> Option<usize>
-    ensures { (t : Map) → IfSome result (λ most. length (piece_text Hint.Plain piece.now (shows t args.now)) ≤ most) }
+    ensures { (t : Map)
+        → IfSome result
+        (λ most. length (piece_text Hint.Plain piece.now (shows t args.now)) ≤ most) }
 {
     match piece {
         Piece::Literal(text) => Some(text.len()),
@@ -73,10 +76,12 @@ fn piece_bound(piece: &Piece, args: &Args) -> Option<usize>
 
 // Whether the bounds of the pieces lie within the limit together.
 fn is_short(pieces: &[Piece], args: &Args) -> bool
-    ensures { (t : Map) → OnTrue result (length (pieces_text Hint.Plain pieces.now (shows t args.now)) ≤ text_limit) }
+    ensures { (t : Map)
+        → OnTrue result
+        (length (pieces_text Hint.Plain pieces.now (shows t args.now)) ≤ text_limit) }
 {
     let mut rest = pieces;
-    let mut left = LIMIT;
+    let mut left = TEXT_LIMIT;
     'each: while let Some((piece, more)) = cut(rest) {
         let Some(most) = piece_bound(piece, args) else {
             return false;
@@ -97,7 +102,10 @@ fn is_short(pieces: &[Piece], args: &Args) -> bool
 /// `Memory` where memory runs out.
 pub fn is_wide(alloc: Global, table: &Table, stm: &Statement) -> Result<bool, Memory>
     requires { Fits table.now.entries stm.now.index stm.now.args }
-    ensures { IfOk result (λ wide. wide ≡ nat_lt text_limit (length (eager_text table.now.entries stm.now.index stm.now.args))) }
+    ensures { IfOk result
+        (λ wide. wide
+        ≡ nat_lt text_limit
+        (length (eager_text table.now.entries stm.now.index stm.now.args))) }
 {
     if is_short(own_pieces(table, stm.index), &stm.args) {
         return Ok(false);

@@ -89,8 +89,10 @@ unfoldable mutual
   bytes_val t slot (istr index) = little_bytes 2 index
   bytes_val t slot (bytes s) = length_bytes slot (length s) ++ s
   bytes_val t slot (bits n) = little_bytes (window_width slot) (n / 256 ^ window_first slot)
-  bytes_val t slot (format index variant vs) = (little_bytes 2 index ++ variant_byte variant) ++ bytes_vals t (node_slots t index variant) vs
-  bytes_val t slot (seq index es) = (count_bytes slot (elems_len es) ++ index_bytes index) ++ bytes_elems t (index_or index) es
+  bytes_val t slot (format index variant vs) =
+      (little_bytes 2 index ++ variant_byte variant) ++ bytes_vals t (node_slots t index variant) vs
+  bytes_val t slot (seq index es) =
+      (count_bytes slot (elems_len es) ++ index_bytes index) ++ bytes_elems t (index_or index) es
 
   -- the values of slots, one after another
   pub bytes_vals : Map → List Slot → Vals → List ℕ
@@ -101,7 +103,9 @@ unfoldable mutual
   -- the elements of a list, each with its variant where the list's entry has some
   pub bytes_elems : Map → ℕ → Elems → List ℕ
   bytes_elems t index no_elems = []
-  bytes_elems t index (elem variant vs es) = (variant_byte variant ++ bytes_vals t (node_slots t index variant) vs) ++ bytes_elems t index es
+  bytes_elems t index (elem variant vs es) =
+      (variant_byte variant ++ bytes_vals t (node_slots t index variant) vs)
+      ++ bytes_elems t index es
 
 -- the slots of places
 abbrev pub slots_at : List Place → List Slot
@@ -119,7 +123,9 @@ message_head index place stamp = little_bytes 2 index ++ (place_bytes place ++ s
 
 -- the message of a statement
 abbrev pub message_of : Map → Option ℕ → Vals → ℕ → Vals → List ℕ
-message_of t place stamp index vs = message_head index place (bytes_vals t (stamp_slots t (stamp_of t)) stamp) ++ bytes_vals t (own_slots t index) vs
+message_of t place stamp index vs =
+    message_head index place (bytes_vals t (stamp_slots t (stamp_of t)) stamp)
+    ++ bytes_vals t (own_slots t index) vs
 
 -- the arguments of a stamp that is one number
 abbrev pub stamp_args : Option ℕ → Vals

@@ -34,7 +34,8 @@ pub record Sums (s n r : ℕ) : Type 0 where
   pub kept : s ≤ 8192 → r ≤ 8192
 
 -- a fitting value
-pub record FoundVal (t : Map) (left : ℕ) (slot : Slot) (w s r : ℕ) (v : Val) (bytes rest : List ℕ) : Type 0 where
+pub record FoundVal (t : Map) (left : ℕ) (slot : Slot) (w s r : ℕ) (v : Val)
+    (bytes rest : List ℕ) : Type 0 where
   pub fits : FitsVal t left slot v
   pub sound : IsSound v
   pub lengths : LengthFits t slot v
@@ -42,7 +43,8 @@ pub record FoundVal (t : Map) (left : ℕ) (slot : Slot) (w s r : ℕ) (v : Val)
   pub carries : bytes ≡ bytes_val t slot v ++ rest
 
 -- fitting values, one for each place
-pub record FoundVals (t : Map) (left : ℕ) (places : List Place) (w s r : ℕ) (vs : Vals) (bytes rest : List ℕ) : Type 0 where
+pub record FoundVals (t : Map) (left : ℕ) (places : List Place) (w s r : ℕ) (vs : Vals)
+    (bytes rest : List ℕ) : Type 0 where
   pub fits : FitsVals t left places vs
   pub sound : AreSound vs
   pub lengths : LengthsFit t (slots_at places) vs
@@ -50,7 +52,8 @@ pub record FoundVals (t : Map) (left : ℕ) (places : List Place) (w s r : ℕ) 
   pub carries : bytes ≡ bytes_vals t (slots_at places) vs ++ rest
 
 -- fitting elements of an entry's list
-pub record FoundElems (t : Map) (left index : ℕ) (form : Parsed) (w s r : ℕ) (es : Elems) (bytes rest : List ℕ) : Type 0 where
+pub record FoundElems (t : Map) (left index : ℕ) (form : Parsed) (w s r : ℕ) (es : Elems)
+    (bytes rest : List ℕ) : Type 0 where
   pub fits : FitsElems t left form es
   pub sound : ElemsSound es
   pub lengths : ElemsLengthsFit t index es

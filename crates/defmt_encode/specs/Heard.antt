@@ -13,7 +13,8 @@ use Rattle.defmt_intern.specs.Stamp.{stamp_of}
 -- There is a place exactly in the second profile, the stamp and the statement fit, the statement is logged, the lengths of
 -- texts and bytes fit in the four bytes that tell them, and the bytes are their message and at most six zeros, those that a
 -- code's last block may add.
-pub record IsHeard (t : Catalog) (bytes : List ℕ) (place : Option ℕ) (stamp : Vals) (index : ℕ) (vs : Vals) : Type 0 where
+pub record IsHeard (t : Catalog) (bytes : List ℕ) (place : Option ℕ) (stamp : Vals) (index : ℕ)
+    (vs : Vals) : Type 0 where
   pub placed : HasPlace t.profile place
   pub stamp_fits : FitsStamp t.entries (stamp_of t.entries) stamp
   pub fits : Fits t.entries index vs
@@ -27,7 +28,8 @@ pub record IsHeard (t : Catalog) (bytes : List ℕ) (place : Option ℕ) (stamp 
   pub message : bytes ≡ message_of t.entries place stamp index vs ++ padding
 
 -- the same place, the same stamp and the same statement
-pub record SameStatement (place there : Option ℕ) (stamp other : Vals) (i j : ℕ) (vs ws : Vals) : Type 0 where
+pub record SameStatement (place there : Option ℕ) (stamp other : Vals) (i j : ℕ)
+    (vs ws : Vals) : Type 0 where
   pub same_place : place ≡ there
   pub same_stamp : stamp ≡ other
   pub same_index : i ≡ j

@@ -38,8 +38,10 @@ abbrev mutual
   -- of the elements of a list
   pub ElemsLengthsFit : Map → ℕ → Elems → Type 0
   ElemsLengthsFit t index no_elems = Unit {0}
-  ElemsLengthsFit t index (elem variant vs es) = LengthsFit t (node_slots t index variant) vs × ElemsLengthsFit t index es
+  ElemsLengthsFit t index (elem variant vs es) =
+      LengthsFit t (node_slots t index variant) vs × ElemsLengthsFit t index es
 
 -- of the stamp and the arguments of a statement
 abbrev pub MessageLengthsFit : Map → Vals → ℕ → Vals → Type 0
-MessageLengthsFit t stamp index vs = LengthsFit t (stamp_slots t (stamp_of t)) stamp × LengthsFit t (own_slots t index) vs
+MessageLengthsFit t stamp index vs =
+    LengthsFit t (stamp_slots t (stamp_of t)) stamp × LengthsFit t (own_slots t index) vs

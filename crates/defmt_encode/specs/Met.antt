@@ -39,7 +39,8 @@ MetBool bytes c = IsCut 1 bytes c
 
 abbrev pub MetChar : List ℕ → Cause → Type 0
 MetChar bytes c = IsCut 4 bytes c
-    ⊎ ((n : ℕ) × (rest : List ℕ) × IsNumber 4 n bytes rest × (scalar n ≡ false) × (c ≡ causes.BadChar))
+    ⊎ ((n : ℕ) × (rest : List ℕ) × IsNumber 4 n bytes rest × (scalar n ≡ false)
+    × (c ≡ causes.BadChar))
 
 -- bytes behind their number
 abbrev pub MetBytes : List ℕ → Cause → Type 0
@@ -48,7 +49,8 @@ MetBytes bytes c = IsCut 4 bytes c
 
 abbrev pub MetStr : List ℕ → Cause → Type 0
 MetStr bytes c = MetBytes bytes c
-    ⊎ ((n : ℕ) × (rest : List ℕ) × (text : List ℕ) × (after : List ℕ) × IsNumber 4 n bytes rest × IsChunk n text rest after × (is_utf8 text ≡ false) × (c ≡ causes.BadText))
+    ⊎ ((n : ℕ) × (rest : List ℕ) × (text : List ℕ) × (after : List ℕ) × IsNumber 4 n bytes rest
+    × IsChunk n text rest after × (is_utf8 text ≡ false) × (c ≡ causes.BadText))
 
 -- no entry has the index, or one whose tag doesn't suit
 abbrev pub IsUnsuited : Map → (Tag → Bool) → ℕ → Cause → Type 0
@@ -81,17 +83,20 @@ IsNotOne body = Unit {0}
 -- the entry of a Format value is refused
 abbrev pub MetForm : Map → ℕ → Cause → Type 0
 MetForm t index c = IsUnsuited t is_format index c
-    ⊎ ((e : Entry) × (look t index ≡ Some e) × (is_format e.tag ≡ true) × HasNoForm (body_of e) × (c ≡ causes.Unsupported))
+    ⊎ ((e : Entry) × (look t index ≡ Some e) × (is_format e.tag ≡ true) × HasNoForm (body_of e)
+    × (c ≡ causes.Unsupported))
 
 -- the entry of a frame is refused
 abbrev pub MetOwn : Map → ℕ → Cause → Type 0
 MetOwn t index c = IsUnsuited t is_logged index c
-    ⊎ ((e : Entry) × (look t index ≡ Some e) × (is_logged e.tag ≡ true) × IsNotOne (body_of e) × (c ≡ causes.Unsupported))
+    ⊎ ((e : Entry) × (look t index ≡ Some e) × (is_logged e.tag ≡ true) × IsNotOne (body_of e)
+    × (c ≡ causes.Unsupported))
 
 -- a variant's number is cut off, or no variant has it
 abbrev pub MetVariant : Parsed → List ℕ → Cause → Type 0
 MetVariant (Variants forms) bytes c = IsCut 1 bytes c
-    ⊎ ((v : ℕ) × (rest : List ℕ) × IsNumber 1 v bytes rest × (variant_at forms v ≡ None) × (c ≡ causes.BadVariant))
+    ⊎ ((v : ℕ) × (rest : List ℕ) × IsNumber 1 v bytes rest × (variant_at forms v ≡ None)
+    × (c ≡ causes.BadVariant))
 MetVariant form bytes c = ⊥
 
 -- ---- values
@@ -106,7 +111,8 @@ pub data Level : Type 1 where
   level : OneMet → Level
 
 -- fitting values stand in front, and the value of the next place is refused
-pub record MetEach (t : Map) (left : ℕ) (one : OneMet) (places : List Place) (w s : ℕ) (bytes : List ℕ) (c : Cause) : Type 0 where
+pub record MetEach (t : Map) (left : ℕ) (one : OneMet) (places : List Place) (w s : ℕ)
+    (bytes : List ℕ) (c : Cause) : Type 0 where
   pub front : List Place
   pub place : Place
   pub others : List Place
@@ -122,10 +128,13 @@ pub record MetEach (t : Map) (left : ℕ) (one : OneMet) (places : List Place) (
 abbrev pub MetElem : Map → ℕ → OneMet → Parsed → ℕ → ℕ → List ℕ → Cause → Type 0
 MetElem t left one form w s bytes c = ((8192 < s + w) × (c ≡ causes.Many))
     ⊎ ((s + w ≤ 8192) × MetVariant form bytes c)
-    ⊎ ((variant : Option ℕ) × (ps : List Piece) × (rest : List ℕ) × (s + w ≤ 8192) × HasPieces form variant ps × (bytes ≡ variant_byte variant ++ rest) × MetEach t left one (places_of ps) w (s + w) rest c)
+    ⊎ ((variant : Option ℕ) × (ps : List Piece) × (rest : List ℕ) × (s + w ≤ 8192)
+    × HasPieces form variant ps × (bytes ≡ variant_byte variant ++ rest)
+    × MetEach t left one (places_of ps) w (s + w) rest c)
 
 -- fitting elements stand in front, and the next one is refused
-pub record MetElems (t : Map) (left : ℕ) (one : OneMet) (index : ℕ) (form : Parsed) (count w s : ℕ) (bytes : List ℕ) (c : Cause) : Type 0 where
+pub record MetElems (t : Map) (left : ℕ) (one : OneMet) (index : ℕ) (form : Parsed) (count w s : ℕ)
+    (bytes : List ℕ) (c : Cause) : Type 0 where
   pub elems : Elems
   pub few : elems_len elems < count
   pub sum : ℕ
@@ -136,12 +145,14 @@ pub record MetElems (t : Map) (left : ℕ) (one : OneMet) (index : ℕ) (form : 
 abbrev pub MetNode : Map → ℕ → OneMet → ℕ → ℕ → List ℕ → Cause → Type 0
 MetNode t left one w s bytes c = IsCut 2 bytes c
     ⊎ ((i : ℕ) × (rest : List ℕ) × IsNumber 2 i bytes rest × MetForm t i c)
-    ⊎ ((i : ℕ) × (rest : List ℕ) × (form : Parsed) × IsNumber 2 i bytes rest × IsForm t i form × HasForm form × MetElem t left one form w s rest c)
+    ⊎ ((i : ℕ) × (rest : List ℕ) × (form : Parsed) × IsNumber 2 i bytes rest × IsForm t i form
+    × HasForm form × MetElem t left one form w s rest c)
 
 abbrev pub MetList : Map → ℕ → OneMet → ℕ → ℕ → ℕ → List ℕ → Cause → Type 0
 MetList t left one count w s bytes c = IsCut 2 bytes c
     ⊎ ((i : ℕ) × (rest : List ℕ) × IsNumber 2 i bytes rest × MetForm t i c)
-    ⊎ ((i : ℕ) × (rest : List ℕ) × (form : Parsed) × IsNumber 2 i bytes rest × IsForm t i form × HasForm form × MetElems t left one i form count w s rest c)
+    ⊎ ((i : ℕ) × (rest : List ℕ) × (form : Parsed) × IsNumber 2 i bytes rest × IsForm t i form
+    × HasForm form × MetElems t left one i form count w s rest c)
 
 -- a list of so many elements; where no level may be opened it has to be empty
 abbrev pub MetSome : Map → ℕ → Level → ℕ → ℕ → ℕ → List ℕ → Cause → Type 0
@@ -180,13 +191,17 @@ abbrev pub MetStamp : Map → Option ℕ → List ℕ → Cause → Type 0
 MetStamp t None bytes c = ⊥
 MetStamp t (Some index) bytes c =
     ((e : Entry) × (look t index ≡ Some e) × IsNotOne (body_of e) × (c ≡ causes.Unsupported))
-    ⊎ ((e : Entry) × (ps : List Piece) × (look t index ≡ Some e) × (body_of e ≡ One ps) × MetEach t 16 (met_at t 16) (places_of ps) 1 0 bytes c)
+    ⊎ ((e : Entry) × (ps : List Piece) × (look t index ≡ Some e) × (body_of e ≡ One ps)
+    × MetEach t 16 (met_at t 16) (places_of ps) 1 0 bytes c)
 
 -- behind a frame's place: the stamp, an argument, or what follows the last one
 abbrev pub MetBehind : Map → List Piece → List ℕ → Cause → Type 0
 MetBehind t ps bytes c = MetStamp t (stamp_of t) bytes c
-    ⊎ ((stamp : Vals) × (rest : List ℕ) × FoundStamp t stamp bytes rest × MetEach t 16 (met_at t 16) (places_of ps) 1 0 rest c)
-    ⊎ ((stamp : Vals) × (mid : List ℕ) × (vs : Vals) × (sum : ℕ) × (rest : List ℕ) × FoundStamp t stamp bytes mid × FoundVals t 16 (places_of ps) 1 0 sum vs mid rest × (is_padding rest ≡ false) × (c ≡ causes.Trailing))
+    ⊎ ((stamp : Vals) × (rest : List ℕ) × FoundStamp t stamp bytes rest
+    × MetEach t 16 (met_at t 16) (places_of ps) 1 0 rest c)
+    ⊎ ((stamp : Vals) × (mid : List ℕ) × (vs : Vals) × (sum : ℕ) × (rest : List ℕ)
+    × FoundStamp t stamp bytes mid × FoundVals t 16 (places_of ps) 1 0 sum vs mid rest
+    × (is_padding rest ≡ false) × (c ≡ causes.Trailing))
 
 -- the place is cut off, where there is one
 abbrev pub MetPlace : Profile → List ℕ → Cause → Type 0
@@ -196,13 +211,15 @@ MetPlace profiles.Two bytes c = IsCut 2 bytes c
 -- behind a frame's index and its entry: the place, or what stands behind it
 abbrev pub MetPlaced : Catalog → List Piece → List ℕ → Cause → Type 0
 MetPlaced t ps bytes c = MetPlace t.profile bytes c
-    ⊎ ((place : Option ℕ) × (rest : List ℕ) × FoundPlace t.profile place bytes rest × MetBehind t.entries ps rest c)
+    ⊎ ((place : Option ℕ) × (rest : List ℕ) × FoundPlace t.profile place bytes rest
+    × MetBehind t.entries ps rest c)
 
 -- a message is refused with this cause
 abbrev pub Meets : Catalog → List ℕ → Cause → Type 0
 Meets t bytes c = IsCut 2 bytes c
     ⊎ ((i : ℕ) × (rest : List ℕ) × IsNumber 2 i bytes rest × MetOwn t.entries i c)
-    ⊎ ((i : ℕ) × (rest : List ℕ) × (ps : List Piece) × IsNumber 2 i bytes rest × IsOwn t.entries i ps × MetPlaced t ps rest c)
+    ⊎ ((i : ℕ) × (rest : List ℕ) × (ps : List Piece) × IsNumber 2 i bytes rest
+    × IsOwn t.entries i ps × MetPlaced t ps rest c)
 
 -- the same, by the event's number
 abbrev pub IsMet : Catalog → List ℕ → ℕ → Type 0

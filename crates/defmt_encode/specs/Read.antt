@@ -38,7 +38,9 @@ abbrev pub ◌⇒◌ : {A B : Type 0} → Read A → (A → Read B) → Read B
 
 -- a number of so many bytes, and what follows
 abbrev pub number_at : ℕ → List ℕ → Read (ℕ × List ℕ)
-number_at width bytes = if nat_le width (length bytes) then Ok (little_number width bytes, drop width bytes) else Err causes.Short
+number_at width bytes =
+    if nat_le width (length bytes) then Ok (little_number width bytes, drop width bytes)
+    else Err causes.Short
 
 -- the same in two's complement
 abbrev pub signed_at : ℕ → List ℕ → Read (ℤ × List ℕ)
@@ -46,7 +48,8 @@ signed_at width bytes = number_at width bytes ⇒ λ r. Ok (twos_complement widt
 
 -- so many bytes, and what follows
 abbrev pub chunk_at : ℕ → List ℕ → Read (List ℕ × List ℕ)
-chunk_at n bytes = if nat_le n (length bytes) then Ok (take n bytes, drop n bytes) else Err causes.Short
+chunk_at n bytes =
+    if nat_le n (length bytes) then Ok (take n bytes, drop n bytes) else Err causes.Short
 
 abbrev pub flag_of : ℕ → Read Bool
 flag_of zero = Ok false
@@ -98,7 +101,8 @@ there (Some ps) = Ok ps
 -- the variant, where the form has some, its pieces, and what follows
 abbrev pub variant_of : Parsed → List ℕ → Read (Option ℕ × List Piece × List ℕ)
 variant_of (One ps) bytes = Ok (None, ps, bytes)
-variant_of (Variants forms) bytes = number_at 1 bytes ⇒ λ v. there (variant_at forms v.0) ⇒ λ ps. Ok (Some v.0, ps, v.1)
+variant_of (Variants forms) bytes =
+    number_at 1 bytes ⇒ λ v. there (variant_at forms v.0) ⇒ λ ps. Ok (Some v.0, ps, v.1)
 variant_of form bytes = Err causes.BadVariant
 
 -- the sum with one more weight
@@ -127,7 +131,8 @@ abbrev pub str_at : ℕ → List ℕ → ReadVal
 str_at sum bytes = text_at bytes ⇒ λ s. Ok (str s.0, sum, s.1)
 
 abbrev pub istr_at : Map → ℕ → List ℕ → ReadVal
-istr_at t sum bytes = number_at 2 bytes ⇒ λ i. interned_of (look t i.0) ⇒ λ _. Ok (istr i.0, sum, i.1)
+istr_at t sum bytes =
+    number_at 2 bytes ⇒ λ i. interned_of (look t i.0) ⇒ λ _. Ok (istr i.0, sum, i.1)
 
 abbrev pub slice_at : ℕ → List ℕ → ReadVal
 slice_at sum b = bytes_at b ⇒ λ s. Ok (byte_list s.0, sum, s.1)
@@ -136,7 +141,8 @@ abbrev pub array_at : ℕ → ℕ → List ℕ → ReadVal
 array_at count sum b = chunk_at count b ⇒ λ s. Ok (byte_list s.0, sum, s.1)
 
 abbrev pub window_at : ℕ → ℕ → ℕ → List ℕ → ReadVal
-window_at first width sum bytes = number_at width bytes ⇒ λ r. Ok (bits (r.0 * 256 ^ first), sum, r.1)
+window_at first width sum bytes =
+    number_at width bytes ⇒ λ r. Ok (bits (r.0 * 256 ^ first), sum, r.1)
 
 -- ---- values
 
@@ -200,8 +206,10 @@ slot_at t below (slots.One kinds.Bytes) weight sum bytes = slice_at sum bytes
 slot_at t below (slots.One (kinds.ByteArray count)) weight sum bytes = array_at count sum bytes
 slot_at t None (slots.One kinds.Format) weight sum bytes = Err causes.Deep
 slot_at t (Some one) (slots.One kinds.Format) weight sum bytes = node_at t one weight sum bytes
-slot_at t below (slots.One kinds.FormatSlice) weight sum bytes = number_at 4 bytes ⇒ λ c. some_at t below c.0 weight sum c.1
-slot_at t below (slots.One (kinds.FormatArray count)) weight sum bytes = some_at t below count weight sum bytes
+slot_at t below (slots.One kinds.FormatSlice) weight sum bytes =
+    number_at 4 bytes ⇒ λ c. some_at t below c.0 weight sum c.1
+slot_at t below (slots.One (kinds.FormatArray count)) weight sum bytes =
+    some_at t below count weight sum bytes
 slot_at t below (slots.One (kinds.Bits lo hi)) weight sum bytes = Err causes.Short
 slot_at t below (slots.Bits first width) weight sum bytes = window_at first width sum bytes
 
@@ -236,7 +244,10 @@ stamp_form (Some e) = one_in (body_of e)
 -- the stamp's arguments, which have a sum of weights of their own
 abbrev pub stamp_at : Map → Option ℕ → List ℕ → Read (Vals × List ℕ)
 stamp_at t None bytes = Ok (no_vals, bytes)
-stamp_at t (Some index) bytes = stamp_form (look t index) ⇒ λ ps. each_at (value_at t 16) (places_of ps) 1 0 bytes ⇒ λ r. Ok (r.0, r.2)
+stamp_at t (Some index) bytes =
+    stamp_form (look t index) ⇒ λ ps.
+    each_at (value_at t 16) (places_of ps) 1 0 bytes ⇒ λ r.
+    Ok (r.0, r.2)
 
 abbrev pub all_zero : List ℕ → Bool
 all_zero [] = true

@@ -36,7 +36,8 @@ abbrev pub chunks_now : Result (Bor (List ℕ) × Bor (List ℕ)) Cause → Read
 chunks_now (Ok r) = Ok (r.0.now, r.1.now)
 chunks_now (Err e) = Err e
 
-abbrev pub variant_now : Result (Option ℕ × Bor (List Piece) × Bor (List ℕ)) Cause → Read (Option ℕ × List Piece × List ℕ)
+abbrev pub variant_now : Result (Option ℕ × Bor (List Piece) × Bor (List ℕ)) Cause
+    → Read (Option ℕ × List Piece × List ℕ)
 variant_now (Ok r) = Ok (r.0, r.1.now, r.2.now)
 variant_now (Err e) = Err e
 
@@ -62,7 +63,8 @@ ReadsVals (Ok r) expected = Ok (r.0, r.1, r.2.now) ≡ expected
 ReadsVals (Err (Bad c)) expected = Err c ≡ expected
 ReadsVals (Err Memory) expected = Unit {0}
 
-abbrev pub ReadsElem : Result (Item × ℕ × Bor (List ℕ)) Fault → Read ((Option ℕ × Vals) × ℕ × List ℕ) → Type 0
+abbrev pub ReadsElem : Result (Item × ℕ × Bor (List ℕ)) Fault
+    → Read ((Option ℕ × Vals) × ℕ × List ℕ) → Type 0
 ReadsElem (Ok r) expected = Ok ((r.0.variant, r.0.args), r.1, r.2.now) ≡ expected
 ReadsElem (Err (Bad c)) expected = Err c ≡ expected
 ReadsElem (Err Memory) expected = Unit {0}
@@ -78,12 +80,14 @@ ReadsStamp (Err (Bad c)) expected = Err c ≡ expected
 ReadsStamp (Err Memory) expected = Unit {0}
 
 abbrev pub ReadsMessage : Result Heard Fault → Read (Option ℕ × Vals × ℕ × Vals) → Type 0
-ReadsMessage (Ok heard) expected = Ok (heard.place, heard.stamp, heard.stm.index, heard.stm.args) ≡ expected
+ReadsMessage (Ok heard) expected =
+    Ok (heard.place, heard.stamp, heard.stm.index, heard.stm.args) ≡ expected
 ReadsMessage (Err (Bad c)) expected = Err c ≡ expected
 ReadsMessage (Err Memory) expected = Unit {0}
 
 -- the values that stand in a list afterwards, with what else was answered
-abbrev pub with_vals : Vals → Result (ℕ × Bor (List ℕ)) Fault → Result (Vals × ℕ × Bor (List ℕ)) Fault
+abbrev pub with_vals : Vals → Result (ℕ × Bor (List ℕ)) Fault
+    → Result (Vals × ℕ × Bor (List ℕ)) Fault
 with_vals vs (Ok r) = Ok (vs, r.0, r.1)
 with_vals vs (Err e) = Err e
 
@@ -123,7 +127,8 @@ Answers t bytes (Err answers.Memory) = Unit {0}
 
 -- this place, stamp and statement, unless memory runs out
 abbrev pub GivesOnly : Result Heard ReadCause → Option ℕ → Vals → ℕ → Vals → Type 0
-GivesOnly (Ok heard) place stamp index vs = (heard.place ≡ place) × (heard.stamp ≡ stamp) × (heard.stm.index ≡ index) × (heard.stm.args ≡ vs)
+GivesOnly (Ok heard) place stamp index vs = (heard.place ≡ place) × (heard.stamp ≡ stamp)
+    × (heard.stm.index ≡ index) × (heard.stm.args ≡ vs)
 GivesOnly (Err (answers.Bad cause)) place stamp index vs = ⊥
 GivesOnly (Err answers.Memory) place stamp index vs = Unit {0}
 

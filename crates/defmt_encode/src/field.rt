@@ -11,7 +11,7 @@ use dl_io::{Bytes, Memory};
 use std::alloc::Global;
 use std::str;
 
-// The first bytes, and those behind them.
+/// The first bytes, and those behind them.
 pub fn chunk(bytes: &[u8], count: usize) -> Result<(&[u8], &[u8]), Cause>
     ensures { chunks_now result ≡ chunk_at count bytes.now }
 {
@@ -37,7 +37,7 @@ fn low_first(bytes: &[u8], width: usize) -> u128
     }
 }
 
-// A number of so many bytes, and those behind it.
+/// A number of so many bytes, and those behind it.
 #[inline(always)]
 pub fn number(bytes: &[u8], width: u8) -> Result<(u128, &[u8]), Cause>
     requires { width ≤ 16 }
@@ -55,7 +55,7 @@ pub fn number(bytes: &[u8], width: u8) -> Result<(u128, &[u8]), Cause>
     Ok((low_first(bytes, width), rest))
 }
 
-// A signed number of so many bytes, in two's complement.
+/// A signed number of so many bytes, in two's complement.
 pub fn signed(bytes: &[u8], width: u8) -> Result<(i128, &[u8]), Cause>
     requires { (0 < width) × (width ≤ 16) }
     ensures { pair_now result ≡ signed_at width bytes.now }

@@ -9,9 +9,10 @@ ghost use Rattle.defmt_encode.specs.Reads.{now_of, pair_now, ReadsStamp, ReadsMe
 ghost use Rattle.defmt_encode.specs.declared.heard.Heard.{Heard as AnyHeard};
 ghost use Rattle.defmt_intern.specs.Stamp.{stamp_of};
 
+use crate::arguments::read_own;
 use crate::cause::{Cause, Fault};
 use crate::field::index;
-use crate::read::{read_own, suited};
+use crate::forms::suited;
 use defmt_grammar::Pieces;
 use defmt_intern::{Parsed, Profile, Table};
 use defmt_values::{Args, Statement, cut, is_logged, look_up};

@@ -3,17 +3,20 @@ ghost use Rattle.std.specs.Prelude.{◌≡◌, ◌≤◌, ◌∷◌, [], length,
 ghost use Rattle.byteorder.specs.Endian.{little_bytes};
 ghost use Rattle.defmt_encode.specs.Out.{Puts};
 
+/// The most bytes of a message.
+pub const MESSAGE_LIMIT: usize = 2000;
+
 /// A message has more than 2,000 bytes.
 #[derive(Clone, Copy, Debug, PartialEq, Eq)]
 pub struct Long;
 
-// Puts one byte behind the first `at`.
+/// Puts one byte behind the first `at`.
 #[tactic(auto, using(crate::proofs::Chain::one_byte, crate::proofs::Chain::refused_whole))]
 pub fn put(out: &mut [u8], at: usize, byte: u8) -> Result<usize, Long>
     requires { (2000 ≤ length out.old) × (at ≤ 2000) }
     ensures { Puts out.old out.new at result (byte ∷ []) }
 {
-    if at == 2000 {
+    if at == MESSAGE_LIMIT {
         return Err(Long);
     }
     out[at] = byte;
@@ -29,7 +32,7 @@ pub fn put_bytes(out: &mut [u8], at: usize, bytes: &[u8]) -> Result<usize, Long>
     ensures puts { Puts out.old out.new at result bytes.now }
     ensures kept { OnErr result (out.new ≡ out.old) }
 {
-    if bytes.len() > 2000 - at {
+    if bytes.len() > MESSAGE_LIMIT - at {
         return Err(Long);
     }
     let end = at + bytes.len();
@@ -58,7 +61,7 @@ pub fn put_number(out: &mut [u8], at: usize, n: u128, width: u8) -> Result<usize
     ensures kept { OnErr result (out.new ≡ out.old) }
 {
     let width = usize::from(width);
-    if width > 2000 - at {
+    if width > MESSAGE_LIMIT - at {
         return Err(Long);
     }
     let end = at + width;

@@ -39,9 +39,12 @@ stamp_number s t = first_stamp s.settings.stamp + stamp_step s.settings.stamp * 
 
 abbrev pub frame_with : Map → Option ℕ → Option ℕ → Option Statement → List ℕ
 frame_with table place stamp None = []
-frame_with table place stamp (Some stm) = frame_of (message_of table place (stamp_args stamp) stm.index stm.args)
+frame_with table place stamp (Some stm) =
+    frame_of (message_of table place (stamp_args stamp) stm.index stm.args)
 
 -- the frame of the message of a writer's statement, for the mark with this number, with this stamp; in profile Two the message
 -- carries the number modulo 65,536
 unfoldable pub frame_at : Script → ℕ → ℕ → ℕ → ℕ → List ℕ
-frame_at s number writer place stamp = frame_with s.table (place_in s.settings.profile number) (stamp_in s.settings.stamp stamp) (slice_get (statements_of s writer) place)
+frame_at s number writer place stamp =
+    frame_with s.table (place_in s.settings.profile number) (stamp_in s.settings.stamp stamp)
+    (slice_get (statements_of s writer) place)

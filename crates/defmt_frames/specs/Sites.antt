@@ -38,7 +38,8 @@ IsSiteOf table index site = (site.index ≡ index) × IsSite table index site.ta
 
 -- each of the sites is
 abbrev pub AreSitesOf : Map → Sites → Type 0
-AreSitesOf table sites = (index : ℕ) (site : Site) → site_at sites index ≡ Some site → IsSiteOf table index site
+AreSitesOf table sites =
+    (index : ℕ) (site : Site) → site_at sites index ≡ Some site → IsSiteOf table index site
 
 -- none of the sites was taken away
 abbrev pub Keeps : Sites → Sites → Type 0
@@ -46,7 +47,8 @@ Keeps old new = (index : ℕ) → IsSome (site_at old index) → IsSome (site_at
 
 -- each of these statements has a site
 abbrev pub HaveSites : Sites → List Statement → Type 0
-HaveSites sites list = (place : ℕ) (stm : Statement) → slice_get list place ≡ Some stm → IsSome (site_at sites stm.index)
+HaveSites sites list = (place : ℕ) (stm : Statement) → slice_get list place ≡ Some stm
+    → IsSome (site_at sites stm.index)
 
 -- there is a site for each statement of the script, and each is of the entry at its index
 pub record HasSites (s : Script) (sites : Sites) : Type 0 where

@@ -13,6 +13,15 @@ use defmt_macros::{Site, log};
 use defmt_script::Script;
 use defmt_values::Args;
 
+/// How many bytes a message has at most.
+pub const MESSAGE_SIZE: usize = 2000;
+
+/// How many bytes the frame of a message has at most.
+pub const FRAME_SIZE: usize = 2288;
+
+// Marks carry their numbers modulo this one.
+const PLACES: u32 = 65_536;
+
 // Logs values by the macro of their site's tag, writes the frame of the message to the front of a buffer, and answers how
 // many bytes it has. The other buffer is for the message.
 fn write_values(
@@ -42,7 +51,7 @@ fn carried_place(script: &Script, number: u32) -> Option<u16>
 {
     match script.profile() {
         Profile::One => None,
-        Profile::Two => Some((number % 65_536) as u16),
+        Profile::Two => Some((number % PLACES) as u16),
     }
 }
 

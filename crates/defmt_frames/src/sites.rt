@@ -87,7 +87,7 @@ impl Sites {
         Ok(())
     }
 
-    /// The site of the string at an index, where there is one. Takes no memory.
+    // The site of the string at an index, where there is one. Takes no memory.
     pub(crate) fn get(&self, index: u16) -> Option<&Site>
         ensures { option_copied result ≡ site_at self.now index }
     {

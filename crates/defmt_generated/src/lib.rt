@@ -1,4 +1,5 @@
-//! Laws of generated scripts.
+//! Laws of generated scripts (docs/FORMATS.md, "The generated script"): each text reads as a script. The command `gen 10`
+//! of program_tests runs one.
 #![tactic(auto)]
 
 ghost use Rattle.std.specs.Prelude.{◌≡◌, ◌≤◌, ◌++◌, ℕ, Ok};
@@ -16,5 +17,6 @@ pub fn generated_lines()
 /// A generated text reads as a script, which has so many statements.
 pub fn generated_reads()
     ensures { (count : ℕ) → count ≤ 4096
-        → (script : Script) × Reads (generated count) (Ok script) × (count_all script.writers ≡ count) }
+        → (script : Script) × Reads (generated count) (Ok script)
+        × (count_all script.writers ≡ count) }
 {}

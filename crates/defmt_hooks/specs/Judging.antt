@@ -6,6 +6,8 @@ use Rattle.defmt_hooks.specs.Kept.{keeps}
 
 -- A judge may be asked about each level and package, and answers whether the rules keep such a message. `ready` says about
 -- what it may be asked, and `gives` what it may answer.
-pub record JudgesBy (rules : Rules) (ready : Level → List ℕ → Type 0) (gives : Level → List ℕ → Bool → Type 0) : Type 0 where
+pub record JudgesBy (rules : Rules) (ready : Level → List ℕ → Type 0)
+    (gives : Level → List ℕ → Bool → Type 0) : Type 0 where
   pub may : (level : Level) (name : List ℕ) → ready level name
-  pub answers : (level : Level) (name : List ℕ) (answer : Bool) → gives level name answer → answer ≡ keeps rules level name
+  pub answers : (level : Level) (name : List ℕ) (answer : Bool) → gives level name answer
+      → answer ≡ keeps rules level name

@@ -32,7 +32,9 @@ pair_in part = pair_by (cut 61 part)
 
 -- one more pair behind others, where there is room for it and none of them has its package
 abbrev pub behind : List (List ℕ × Floor) → List ℕ × Floor → Option (List (List ℕ × Floor))
-behind pairs pair = if nat_lt (length pairs) 32 && not (list_any (λ p. bytes_eq p.0 pair.0) pairs) then Some (pairs ++ pair ∷ []) else None
+behind pairs pair =
+    if nat_lt (length pairs) 32 && not (list_any (λ p. bytes_eq p.0 pair.0) pairs)
+    then Some (pairs ++ pair ∷ []) else None
 
 unfoldable pub added : List (List ℕ × Floor) → List ℕ → Option (List (List ℕ × Floor))
 added pairs part = option_and_then (behind pairs) (pair_in part)
@@ -46,7 +48,8 @@ abbrev pub parts : List ℕ → List (List ℕ)
 parts text = slice_split (λ c. c == 44) text
 
 abbrev pub rules_by : Option Floor → Option (List (List ℕ × Floor)) → Option Rules
-rules_by rest pairs = option_and_then (λ f. option_map (λ ps. record { rest = f; packages = ps }) pairs) rest
+rules_by rest pairs =
+    option_and_then (λ f. option_map (λ ps. record { rest = f; packages = ps }) pairs) rest
 
 abbrev pub rules_of : List (List ℕ) → Option Rules
 rules_of [] = None

@@ -1,4 +1,4 @@
-// What is asked of a clock that is kept.
+//! What is asked of a clock that is kept.
 ghost use Rattle.std.specs.Prelude.{ℕ};
 
 /// A clock that tells the stamp of a message by its number (defmt book, "Timestamps").

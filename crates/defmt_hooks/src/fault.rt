@@ -1,3 +1,5 @@
+//! Why rules are not read.
+
 use dl_io::Memory;
 
 /// Why rules weren't read.

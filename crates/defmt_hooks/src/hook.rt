@@ -1,4 +1,4 @@
-// Closures by the name of what they are kept for.
+//! Closures by the name of what they are kept for.
 ghost use Rattle.std.specs.Prelude.{◌≡◌};
 
 use crate::clock::Clock;
@@ -41,7 +41,8 @@ impl<F: Fn(Level, &str) -> bool> Judge for Hook<F> {
 
     ghost ready = { λ h level name. (text : _) → text.now ≡ name → F.pre h.call level text };
 
-    ghost gives = { λ h level name answer. (text : _) × (text.now ≡ name) × F.post h.call level text answer };
+    ghost gives = { λ h level name answer. (text : _) × (text.now ≡ name)
+        × F.post h.call level text answer };
 
     fn judge(&self, level: Level, name: &str) -> bool {
         let call = &self.call;

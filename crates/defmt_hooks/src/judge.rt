@@ -1,4 +1,4 @@
-// What is asked of a judge that is kept.
+//! What is asked of a judge that is kept.
 
 use crate::level::Level;
 

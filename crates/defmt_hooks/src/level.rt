@@ -1,4 +1,4 @@
-// Levels, and the floors that are set for them.
+//! Levels, and the floors that are set for them.
 ghost use Rattle.std.specs.Prelude.{◌≡◌};
 ghost use Rattle.defmt_hooks.specs.Kept.{rank, passes};
 

@@ -5,6 +5,9 @@
 //! judges by, which [`read_rules`] reads from a text. A closure becomes a clock or a judge by [`Hook`]. What is known of a
 //! clock or a judge is asked where it is handed in, and kept with it: whoever holds a `Stamp` or a `Watch` needs to know
 //! nothing of the clock or the judge in it. Reading rules and a longer list of packages take memory, and nothing else does.
+//!
+//! After the defmt book, "Timestamps" and "Logging levels". `off,script=info` keeps of the package `script` what is of
+//! the level info or above, and of others nothing (device_tests, `hooks`).
 #![tactic(auto)]
 
 mod clock;

@@ -1,4 +1,4 @@
-// The reading of rules.
+//! The reading of rules.
 ghost use Rattle.std.specs.Prelude.{◌≡◌, ◌<◌, ℕ, List, [], option_map, IfOk, IfSome, IsErrOf, Some};
 ghost use Rattle.std.specs.Str.{IsUtf8};
 ghost use Rattle.defmt_grammar.specs.Cut.{cut, parts_of};
@@ -116,7 +116,8 @@ fn rules_of(alloc: Global, text: &str) -> Result<Rules, RuleFault>
 pub fn read_rules(alloc: Global, text: &str) -> Result<Rules, RuleFault>
     // Rules are answered only where the text spells them, and it is refused only where it spells none.
     ensures spelled { IfOk result (λ rules. Spells text.now rules) }
-    ensures refused { IsErrOf result RuleFault.Spelling → (rules : AnyRules) → ¬ Spells text.now rules }
+    ensures refused { IsErrOf result RuleFault.Spelling → (rules : AnyRules)
+        → ¬ Spells text.now rules }
     // Unless memory runs out, what the text spells is answered.
     ensures answered { (rules : AnyRules) → Spells text.now rules → GivesOnly result rules }
     // The same by the function `rules_in`, which definitions that cite rules are stated with.
@@ -127,8 +128,10 @@ pub fn read_rules(alloc: Global, text: &str) -> Result<Rules, RuleFault>
 
 /// The function `rules_in` gives rules exactly where the text spells them.
 pub fn rules_are_spelled()
-    ensures found { (text : List ℕ) (rules : AnyRules) → rules_in text ≡ Some rules → Spells text rules }
-    ensures again { (text : List ℕ) (rules : AnyRules) → Spells text rules → rules_in text ≡ Some rules }
+    ensures found { (text : List ℕ) (rules : AnyRules) → rules_in text ≡ Some rules
+        → Spells text rules }
+    ensures again { (text : List ℕ) (rules : AnyRules) → Spells text rules
+        → rules_in text ≡ Some rules }
 {}
 
 /// A text spells at most one set of rules.

@@ -1,4 +1,4 @@
-// Which messages are kept.
+//! Which messages are kept.
 ghost use Rattle.std.specs.Prelude.{◌≡◌};
 ghost use Rattle.defmt_hooks.specs.Kept.{keeps};
 

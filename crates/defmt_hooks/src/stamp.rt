@@ -1,4 +1,4 @@
-// A clock that is kept with the numbers by which it counts.
+//! A clock that is kept with the numbers by which it counts.
 ghost use Rattle.std.specs.Prelude.{◌≡◌, ◌≤◌, ◌+◌, ◌*◌};
 ghost use Rattle.defmt_hooks.specs.Even.{RunsEvenly};
 
@@ -22,7 +22,8 @@ impl<C: Clock> Model for Stamp<C> {
 
     ghost view = { λ s. record { base = s.base; step = s.step } };
 
-    ghost invariant = { λ s. KeepsPace (record { base = s.base; step = s.step }) (C.ready s.clock) (C.gives s.clock) };
+    ghost invariant = { λ s. KeepsPace (record { base = s.base; step = s.step })
+        (C.ready s.clock) (C.gives s.clock) };
 }
 
 impl<C: Clock> Stamp<C> {

@@ -1,4 +1,4 @@
-// A judge that is kept with the rules that it judges by.
+//! A judge that is kept with the rules that it judges by.
 ghost use Rattle.std.specs.Prelude.{◌≡◌};
 ghost use Rattle.defmt_hooks.specs.Kept.{keeps};
 ghost use Rattle.defmt_hooks.specs.Judging.{JudgesBy};

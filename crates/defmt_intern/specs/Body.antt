@@ -24,7 +24,8 @@ variants (c ∷ cs) = if c == 124 then [] ∷ variants cs else with_char c (vari
 -- the pieces of each variant, None where one is refused
 abbrev pub forms_of : List (List ℕ) → Option (List (List Piece))
 forms_of [] = Some []
-forms_of (v ∷ vs) = option_and_then (λ ps. option_map (λ more. ps ∷ more) (forms_of vs)) (pieces_of Lenient v)
+forms_of (v ∷ vs) =
+    option_and_then (λ ps. option_map (λ more. ps ∷ more) (forms_of vs)) (pieces_of Lenient v)
 
 abbrev pub one_body : Option (List Piece) → Parsed
 one_body None = bodies.Unsupported
@@ -38,7 +39,9 @@ forms_body (Some forms) = bodies.Variants forms
 unfoldable pub cut_body : List (List ℕ) → Parsed
 cut_body [] = bodies.Unsupported
 cut_body (v ∷ []) = one_body (pieces_of Lenient v)
-cut_body (v ∷ w ∷ vs) = if nat_le (length (v ∷ w ∷ vs)) 255 then forms_body (forms_of (v ∷ w ∷ vs)) else bodies.Unsupported
+cut_body (v ∷ w ∷ vs) =
+    if nat_le (length (v ∷ w ∷ vs)) 255 then forms_body (forms_of (v ∷ w ∷ vs))
+    else bodies.Unsupported
 
 -- texts of primitives, derived types and `write!` are cut; interned strings aren't parsed
 abbrev pub body_in : Tag → List ℕ → Parsed

@@ -32,7 +32,9 @@ tag_name (tags.Other name) = name
 
 -- the eleven tags that have a name of their own
 abbrev pub known : List Tag
-known = tags.Trace ∷ tags.Debug ∷ tags.Info ∷ tags.Warn ∷ tags.Error ∷ tags.Println ∷ tags.Prim ∷ tags.Derived ∷ tags.Write ∷ tags.Interned ∷ tags.Timestamp ∷ []
+known =
+    tags.Trace ∷ tags.Debug ∷ tags.Info ∷ tags.Warn ∷ tags.Error ∷ tags.Println ∷ tags.Prim
+    ∷ tags.Derived ∷ tags.Write ∷ tags.Interned ∷ tags.Timestamp ∷ []
 
 -- the first of these tags that has the name, or else Other
 abbrev pub tag_among : List ℕ → List Tag → Tag
@@ -75,9 +77,13 @@ HasText key members = (text : List ℕ) × (text_at key members ≡ Some text)
 -- the first of the four keys that is missing or isn't a string
 abbrev pub LacksFirst : Members → NameKey → Type 0
 LacksFirst members keys.Package = text_at (codes "package") members ≡ None
-LacksFirst members keys.Tag = HasText (codes "package") members × (text_at (codes "tag") members ≡ None)
-LacksFirst members keys.Data = HasText (codes "package") members × HasText (codes "tag") members × (text_at (codes "data") members ≡ None)
-LacksFirst members keys.Disambiguator = HasText (codes "package") members × HasText (codes "tag") members × HasText (codes "data") members × (text_at (codes "disambiguator") members ≡ None)
+LacksFirst members keys.Tag =
+    HasText (codes "package") members × (text_at (codes "tag") members ≡ None)
+LacksFirst members keys.Data = HasText (codes "package") members × HasText (codes "tag") members
+    × (text_at (codes "data") members ≡ None)
+LacksFirst members keys.Disambiguator = HasText (codes "package") members
+    × HasText (codes "tag") members × HasText (codes "data") members
+    × (text_at (codes "disambiguator") members ≡ None)
 
 abbrev pub LacksKey : List ℕ → NameKey → Type 0
 LacksKey bytes key = (members : Members) × IsObject bytes members × LacksFirst members key

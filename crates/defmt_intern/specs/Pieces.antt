@@ -25,8 +25,10 @@ next_behind next (run cs) = next
 next_behind next (hole_step param after) = after
 
 -- the tokens of a step, and those of what follows it
-abbrev pub with_more : ℕ → ℕ → (ℕ → List ℕ → Option (List Token)) → Result (Read × List ℕ) Fault → Option (List Token)
-with_more at next more (Ok p) = option_map (λ ts. step_tokens at p.0 ++ ts) (more (next_behind next p.0) p.1)
+abbrev pub with_more : ℕ → ℕ → (ℕ → List ℕ → Option (List Token)) → Result (Read × List ℕ) Fault
+    → Option (List Token)
+with_more at next more (Ok p) =
+    option_map (λ ts. step_tokens at p.0 ++ ts) (more (next_behind next p.0) p.1)
 with_more at next more (Err fault) = None
 
 -- the tokens of all that is left of a text of this size, by at most so many steps; none where a step has a fault
@@ -34,7 +36,8 @@ unfoldable pub tokens_by : ℕ → Mode → ℕ → ℕ → List ℕ → Option 
 tokens_by most mode size next [] = Some []
 tokens_by zero mode size next (c ∷ cs) = None
 tokens_by (suc most) mode size next (c ∷ cs) =
-    with_more (size - length (c ∷ cs)) next (λ n rest. tokens_by most mode size n rest) (step_of mode next (c ∷ cs))
+    with_more (size - length (c ∷ cs)) next (λ n rest. tokens_by most mode size n rest)
+    (step_of mode next (c ∷ cs))
 
 -- ---- positions
 
@@ -72,7 +75,8 @@ abbrev pub go_together : Kind → Kind → Bool
 go_together k l = is_kind k l || (is_bits k && is_bits l)
 
 abbrev pub agree : Use → Use → Bool
-agree u v = if u.param.position == v.param.position then go_together u.param.kind v.param.kind else true
+agree u v =
+    if u.param.position == v.param.position then go_together u.param.kind v.param.kind else true
 
 -- each two uses of one position agree
 abbrev pub all_agree : List Use → Bool
@@ -97,4 +101,5 @@ pieces_by ts = if all_agree (uses_of ts) && is_gapless (uses_of ts) then Some (j
 
 -- the pieces that a text spells, None where it spells none
 unfoldable pub pieces_of : Mode → List ℕ → Option (List Piece)
-pieces_of mode text = option_and_then (λ ts. pieces_by ts) (tokens_by (length text) mode (length text) 0 text)
+pieces_of mode text =
+    option_and_then (λ ts. pieces_by ts) (tokens_by (length text) mode (length text) 0 text)

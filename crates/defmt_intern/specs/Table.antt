@@ -38,7 +38,8 @@ pub record IsStamp (table : Map) (index : ℕ) : Type 0 where
 -- what holds of every table
 pub record IsLawful (table : Map) : Type 0 where
   pub small : (index : ℕ) (entry : Entry) → map.get table index ≡ Some entry → index < 2 ^ 16
-  pub short : (index : ℕ) (entry : Entry) → map.get table index ≡ Some entry → length entry.text ≤ 4096
+  pub short : (index : ℕ) (entry : Entry) → map.get table index ≡ Some entry
+      → length entry.text ≤ 4096
   pub one_stamp : (i j : ℕ) → IsStamp table i → IsStamp table j → i ≡ j
 
 -- the index of the timestamp's entry, where there is one
@@ -66,24 +67,31 @@ IsSecond table entry = (entry.tag ≡ Timestamp) × ((i : ℕ) × IsStamp table 
 
 -- why an entry is refused, whatever its index
 abbrev pub EntryRefused : Map → Entry → ℕ → Type 0
-EntryRefused table entry cause = ((cause ≡ 4) × IsLong entry) ⊎ ((cause ≡ 5) × (IsLong entry → ⊥) × IsSecond table entry)
+EntryRefused table entry cause =
+    ((cause ≡ 4) × IsLong entry) ⊎ ((cause ≡ 5) × (IsLong entry → ⊥) × IsSecond table entry)
 
 abbrev pub InsertRefused : Map → ℕ → Entry → ℕ → Type 0
-InsertRefused table index entry cause = ((cause ≡ 2) × IsSome (map.get table index)) ⊎ ((IsSome (map.get table index) → ⊥) × EntryRefused table entry cause)
+InsertRefused table index entry cause =
+    ((cause ≡ 2) × IsSome (map.get table index))
+    ⊎ ((IsSome (map.get table index) → ⊥) × EntryRefused table entry cause)
 
 abbrev pub AddRefused : Map → Entry → ℕ → Type 0
-AddRefused table entry cause = ((cause ≡ 1) × IsGreatest table 65535) ⊎ ((IsGreatest table 65535 → ⊥) × EntryRefused table entry cause)
+AddRefused table entry cause =
+    ((cause ≡ 1) × IsGreatest table 65535)
+    ⊎ ((IsGreatest table 65535 → ⊥) × EntryRefused table entry cause)
 
 -- ---- answers
 
 -- the entry was put there, or why not; on a fault the table is as before
 abbrev pub Puts : Map → ℕ → Entry → (ℕ → Type 0) → Result ⊤ TableFault → Map → Type 0
-Puts old index entry IsRefused (Ok done) new = (new ≡ map.insert old index entry) × ((cause : ℕ) → IsRefused cause → ⊥)
+Puts old index entry IsRefused (Ok done) new =
+    (new ≡ map.insert old index entry) × ((cause : ℕ) → IsRefused cause → ⊥)
 Puts old index entry IsRefused (Err (faults.Refused cause)) new = (new ≡ old) × IsRefused cause
 Puts old index entry IsRefused (Err faults.Memory) new = new ≡ old
 
 abbrev pub Adds : Map → Entry → Result ℕ TableFault → Map → Type 0
-Adds old entry (Ok index) new = IsNext old index × (new ≡ map.insert old index entry) × ((cause : ℕ) → AddRefused old entry cause → ⊥)
+Adds old entry (Ok index) new = IsNext old index × (new ≡ map.insert old index entry)
+    × ((cause : ℕ) → AddRefused old entry cause → ⊥)
 Adds old entry (Err (faults.Refused cause)) new = (new ≡ old) × AddRefused old entry cause
 Adds old entry (Err faults.Memory) new = new ≡ old
 

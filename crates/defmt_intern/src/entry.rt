@@ -117,7 +117,8 @@ pub struct Entry {
 impl Entry {
     /// Whether the entry is a timestamp's.
     pub fn is_stamp(&self) -> bool
-        ensures { MatchBool result (self.now.tag ≡ Tag.Timestamp) (self.now.tag ≡ Tag.Timestamp → ⊥) }
+        ensures { MatchBool result (self.now.tag ≡ Tag.Timestamp)
+            (self.now.tag ≡ Tag.Timestamp → ⊥) }
     {
         matches!(self.tag, Tag::Timestamp)
     }

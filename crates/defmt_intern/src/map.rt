@@ -1,21 +1,25 @@
 //! The entries of a table by their indexes.
 
-ghost use Rattle.std.specs.Prelude.{◌≡◌, ◌≤◌, ℕ, length, OnOk, OnErr, IfOk, IsSome, MatchOption, None, Some, option_map};
+ghost use Rattle.std.specs.Prelude.{◌≡◌, ◌≤◌, ℕ, IfOk, IsSome, MatchOption, None, Some, option_map};
 ghost use Rattle.std.specs.Option.{option_copied};
 ghost use Rattle.std.specs.FinMap as map;
 ghost use Rattle.defmt_intern.specs.Body.{body_of};
 ghost use Rattle.defmt_intern.specs.Stamp.{stamp_of};
-ghost use Rattle.defmt_intern.specs.Table.{IsLawful, IsGreatest, IsNext, InsertRefused, AddRefused, EntryRefused, Puts, PutsUnlessMemory, Adds, RefusesOnly, cause_number, map_of};
+ghost use Rattle.defmt_intern.specs.Table.{IsLawful, IsGreatest, IsNext, InsertRefused, AddRefused, EntryRefused, Puts, PutsUnlessMemory, Adds, RefusesOnly, cause_number};
 
 use crate::entry::Entry;
+use crate::keeping::{keep, keep_copy, kept_of};
 use crate::kept::Kept;
-use crate::parsed::{Parsed, body_of};
+use crate::parsed::Parsed;
 use crate::table::TableFault;
 use dl_io::Memory;
 use std::alloc::Global;
 use std::collections::BTreeMap;
 use std::collections::btree_map::Iter;
 use std::marker::Model;
+
+// The most bytes of a text.
+const TEXT_LIMIT: usize = 4096;
 
 enum Cause {
     Full,
@@ -37,43 +41,9 @@ impl Cause {
     }
 }
 
-/// The entry, and what its text stands for.
-fn kept_of(alloc: Global, entry: Entry) -> Result<Kept, Memory>
-    requires { length entry.text ≤ 4096 }
-    ensures { IfOk result (λ kept. kept.entry ≡ entry) }
-{
-    let parsed = body_of(alloc, &entry)?;
-    Ok(Kept { entry, parsed })
-}
-
-/// Keeps an entry at an index.
-fn keep(entries: &mut BTreeMap<u16, Kept>, index: u16, kept: Kept) -> Result<(), Memory>
-    ensures ok { OnOk result
-        (map_of entries.new.entries ≡ map.insert (map_of entries.old.entries) index kept.entry) }
-    ensures err { OnErr result (map_of entries.new.entries ≡ map_of entries.old.entries) }
-{
-    entries.insert(index, kept)?;
-    Ok(())
-}
-
-/// Keeps a copy of an entry at an index.
-fn keep_copy(
-    alloc: Global,
-    entries: &mut BTreeMap<u16, Kept>,
-    index: u16,
-    entry: &Entry,
-) -> Result<(), Memory>
-    requires { length entry.now.text ≤ 4096 }
-    ensures { OnOk result
-        (map_of entries.new.entries ≡ map.insert (map_of entries.old.entries) index entry.now) }
-{
-    let copy = kept_of(alloc, entry.copy(alloc)?)?;
-    keep(entries, index, copy)
-}
-
-/// A finite map from indexes to entries.
-///
-/// No text in it has more than 4,096 bytes, and at most one entry is a timestamp's.
+// A finite map from indexes to entries.
+//
+// No text in it has more than 4,096 bytes, and at most one entry is a timestamp's.
 #[derive(Drop)]
 pub(crate) struct EntryMap {
     alloc: Global,
@@ -177,11 +147,12 @@ impl EntryMap {
         }
     }
 
-    /// Why an entry is refused, whatever its index.
+    // Why an entry is refused, whatever its index.
     fn refusal(&self, entry: &Entry) -> Option<Cause>
-        ensures { MatchOption result ((cause : ℕ) → EntryRefused self.now entry.now cause → ⊥) (λ cause. EntryRefused self.now entry.now (cause_number cause)) }
+        ensures { MatchOption result ((cause : ℕ) → EntryRefused self.now entry.now cause → ⊥)
+            (λ cause. EntryRefused self.now entry.now (cause_number cause)) }
     {
-        if entry.text.as_str().len() > 4096 {
+        if entry.text.as_str().len() > TEXT_LIMIT {
             return Some(Cause::Long);
         }
         if entry.is_stamp() && self.stamp.is_some() {
@@ -207,9 +178,11 @@ impl EntryMap {
     /// Puts the entry at the index. On a fault the map is unchanged.
     pub fn insert(&mut self, index: u16, entry: Entry) -> Result<(), TableFault>
         // The map afterwards, and a cause only where it is the first that stands.
-        ensures answer { Puts self.old index entry (InsertRefused self.old index entry) result self.new }
+        ensures answer { Puts self.old index entry
+            (InsertRefused self.old index entry) result self.new }
         // Unless memory runs out, the first cause that stands is answered.
-        ensures refused { (cause : ℕ) → InsertRefused self.old index entry cause → RefusesOnly result cause }
+        ensures refused { (cause : ℕ) → InsertRefused self.old index entry cause
+            → RefusesOnly result cause }
     {
         if self.get(index).is_some() {
             return Err(TableFault::Refused {
@@ -224,9 +197,11 @@ impl EntryMap {
         self.put(index, entry)
     }
 
-    /// The greatest index plus 1, or 1 in an empty map; `None` where the greatest index is 65,535.
+    // The greatest index plus 1, or 1 in an empty map; `None` where the greatest index is 65,535.
     fn next_index(&self) -> Option<u16>
-        ensures { MatchOption result (IsGreatest self.now 65535) (λ n. IsNext self.now n × (IsSome (map.get self.now n) → ⊥) × (IsGreatest self.now 65535 → ⊥)) }
+        ensures { MatchOption result (IsGreatest self.now 65535)
+            (λ n. IsNext self.now n × (IsSome (map.get self.now n) → ⊥)
+            × (IsGreatest self.now 65535 → ⊥)) }
     {
         match self.entries.last_key_value() {
             None => Some(1),

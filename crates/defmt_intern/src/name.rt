@@ -49,7 +49,7 @@ impl From<Memory> for NameFault {
     }
 }
 
-/// The object of these four strings.
+// The object of these four strings.
 fn object_with(
     alloc: Global,
     owner: &str,
@@ -79,14 +79,15 @@ pub fn symbol_name(alloc: Global, entry: &Entry) -> Result<Text, Memory>
     Ok(Text::from_string(text))
 }
 
-/// The string at a key.
+// The string at a key.
 fn text_at<'a>(value: &'a Value, key: &str) -> Option<&'a str>
-    ensures { option_map (λ s. s.now) result ≡ option_and_then as_str (get key.now (view value.now)) }
+    ensures { option_map (λ s. s.now) result
+        ≡ option_and_then as_str (get key.now (view value.now)) }
 {
     value.get(key).and_then(Value::as_str)
 }
 
-/// The value that the bytes are as JSON, where it is an object.
+// The value that the bytes are as JSON, where it is an object.
 fn object_of(alloc: Global, name: &[u8]) -> Result<Value, NameFault>
     ensures { ReadsObject name.now result }
 {

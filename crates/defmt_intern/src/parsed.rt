@@ -77,7 +77,7 @@ pub fn pieces_are_spelled()
         → Spells text mode ps → pieces_of mode text ≡ Some ps }
 {}
 
-/// The pieces of a text, `None` where it is refused.
+// The pieces of a text, `None` where it is refused.
 fn pieces_of(alloc: Global, text: &str) -> Result<Option<Pieces>, Memory>
     requires { length text.now < 2 ^ 32 }
     ensures { IfOk result (λ pieces. pieces ≡ pieces_of Mode.Lenient text.now) }
@@ -97,7 +97,7 @@ pub fn cut_variant(text: &str) -> Option<(&str, &str)>
     text.split_once('|')
 }
 
-/// The pieces of each variant, `None` where one is refused.
+// The pieces of each variant, `None` where one is refused.
 fn forms_of(alloc: Global, text: &str) -> Result<Option<Forms>, Memory>
     requires { length text.now < 2 ^ 32 }
     ensures { IfOk result (λ forms. forms ≡ forms_of (variants text.now)) }
@@ -125,7 +125,7 @@ pub fn count_bars(text: &str) -> usize
     text.as_bytes().iter().filter(|c| **c == b'|').count()
 }
 
-/// What an uncut text stands for.
+// What an uncut text stands for.
 fn one_body(alloc: Global, text: &str) -> Result<Parsed, Memory>
     requires { length text.now < 2 ^ 32 }
     ensures { IfOk result (λ body. body ≡ one_body (pieces_of Mode.Lenient text.now)) }
@@ -136,7 +136,7 @@ fn one_body(alloc: Global, text: &str) -> Result<Parsed, Memory>
     })
 }
 
-/// What a text stands for that `|` cuts.
+// What a text stands for that `|` cuts.
 fn cut_body(alloc: Global, text: &str) -> Result<Parsed, Memory>
     requires { length text.now < 2 ^ 32 }
     ensures { IfOk result (λ body. body ≡ cut_body (variants text.now)) }

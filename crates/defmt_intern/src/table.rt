@@ -156,9 +156,11 @@ impl Table {
     /// Puts the entry at the index. On a fault the table is unchanged.
     pub fn insert(&mut self, index: u16, entry: Entry) -> Result<(), TableFault>
         // The map afterwards, and a cause only where it is the first that stands.
-        ensures answer { Puts self.old.entries index entry (InsertRefused self.old.entries index entry) result self.new.entries }
+        ensures answer { Puts self.old.entries index entry
+            (InsertRefused self.old.entries index entry) result self.new.entries }
         // Unless memory runs out, the first cause that stands is answered.
-        ensures refused { (cause : ℕ) → InsertRefused self.old.entries index entry cause → RefusesOnly result cause }
+        ensures refused { (cause : ℕ) → InsertRefused self.old.entries index entry cause
+            → RefusesOnly result cause }
         ensures profile { self.new.profile ≡ self.old.profile }
     {
         self.entries.insert(index, entry)
@@ -170,7 +172,8 @@ impl Table {
         // The map afterwards, and a cause only where it is the first that stands.
         ensures answer { Adds self.old.entries entry result self.new.entries }
         // Unless memory runs out, the first cause that stands is answered.
-        ensures refused { (cause : ℕ) → AddRefused self.old.entries entry cause → RefusesOnly result cause }
+        ensures refused { (cause : ℕ) → AddRefused self.old.entries entry cause
+            → RefusesOnly result cause }
         ensures profile { self.new.profile ≡ self.old.profile }
     {
         self.entries.add(entry)
@@ -191,5 +194,6 @@ impl Table {
 /// other answer meets this.
 pub fn stamp_is_one()
     ensures there { (table : Map) → IsLawful table → StampIs table (stamp_of table) }
-    ensures one { (table : Map) (at : Option ℕ) → IsLawful table → StampIs table at → stamp_of table ≡ at }
+    ensures one { (table : Map) (at : Option ℕ) → IsLawful table → StampIs table at
+        → stamp_of table ≡ at }
 {}

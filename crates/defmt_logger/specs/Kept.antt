@@ -78,11 +78,17 @@ Counts xs tape = (length xs ≡ 8) × ((w : ℕ) → w < 8 → slice_index_or xs
 
 -- the next mark of a writer
 abbrev pub next_mark : Script → List Mark → ℕ → Fate → Mark
-next_mark s tape w fate = record { writer = w; place = marks_of w tape; stamp = stamp_number s (length tape); fate = fate }
+next_mark s tape w fate = record {
+  writer = w;
+  place = marks_of w tape;
+  stamp = stamp_number s (length tape);
+  fate = fate;
+}
 
 -- what a desk keeps of its parts: the sheet, the sites of the script, the writers' next places, the numbers of its stamps,
 -- and the buffers for a message and a frame
-pub record IsWorking (d : Sheet) (sites : Sites) (places : List ℕ) (pace : Pace) (message frame : List ℕ) : Type 0 where
+pub record IsWorking (d : Sheet) (sites : Sites) (places : List ℕ) (pace : Pace)
+    (message frame : List ℕ) : Type 0 where
   pub kept : IsKept d
   pub sites_are : HasSites d.script sites
   pub counts : Counts places d.tape.marks

@@ -41,18 +41,9 @@ line_with table stamp (Some stm) = eager_line table (stamp_args stamp) stm.index
 
 -- the printed line of a mark's statement
 unfoldable pub mark_line : Script → Mark → List ℕ
-mark_line s m = line_with s.table (stamp_in s.settings.stamp m.stamp) (slice_get (statements_of s m.writer) m.place)
-
--- a line is printed where the frame was sent whole
-abbrev pub line_by : Fate → List ℕ → List (List ℕ)
-line_by Whole line = line ∷ []
-line_by (Dropped need room) line = []
-line_by (Cut need room) line = []
-
--- the lines of the marks whose frames were sent whole, in order
-abbrev pub lines_of : Script → List Mark → List (List ℕ)
-lines_of s [] = []
-lines_of s (m ∷ ms) = line_by m.fate (mark_line s m) ++ lines_of s ms
+mark_line s m =
+    line_with s.table (stamp_in s.settings.stamp m.stamp)
+    (slice_get (statements_of s m.writer) m.place)
 
 -- ---- which tapes are lawful
 
@@ -76,12 +67,15 @@ Runs from (k ∷ ks) = (k ≡ from) × Runs (from + 1) ks
 -- (SEGGER RTT, the offsets of an up-buffer).
 abbrev pub Leaves : Script → List Mark → List ℕ → Fate → ℕ → Type 0
 Leaves s before frame Whole f = length (stream_of s before) + length frame + 1 ≤ s.settings.ring + f
-Leaves s before frame (Dropped need room) f = room + length (stream_of s before) + 1 ≤ s.settings.ring + f
-Leaves s before frame (Cut need room) f = room + length (stream_of s before) + 1 ≤ s.settings.ring + f
+Leaves s before frame (Dropped need room) f =
+    room + length (stream_of s before) + 1 ≤ s.settings.ring + f
+Leaves s before frame (Cut need room) f =
+    room + length (stream_of s before) + 1 ≤ s.settings.ring + f
 
 -- the same of each mark of a tape
 abbrev pub Released : Script → List Mark → ℕ → Type 0
-Released s tape f = (before after : List Mark) (m : Mark) → tape ≡ before ++ m ∷ after → Leaves s before (mark_frame s (length before) m) m.fate f
+Released s tape f = (before after : List Mark) (m : Mark) → tape ≡ before ++ m ∷ after
+    → Leaves s before (mark_frame s (length before) m) m.fate f
 
 -- A frame that didn't fit behind these marks: its need is its length, the room was less, and the look that told the
 -- room found so many bytes released: none that wasn't sent, and no fewer than the marks before need.
@@ -104,5 +98,7 @@ FateLaw mode s before frame (Cut need room) = (mode ≡ Trim) × Lost s before f
 pub record IsLawful (s : Script) (tape : List Mark) : Type 0 where
   pub order : (w : ℕ) → Runs 0 (places w tape)
   pub within : (w : ℕ) → marks_of w tape ≤ count s w
-  pub stamps : (before after : List Mark) (m : Mark) → tape ≡ before ++ m ∷ after → m.stamp ≡ stamp_number s (length before)
-  pub fates : (before after : List Mark) (m : Mark) → tape ≡ before ++ m ∷ after → FateLaw s.settings.mode s before (mark_frame s (length before) m) m.fate
+  pub stamps : (before after : List Mark) (m : Mark) → tape ≡ before ++ m ∷ after
+      → m.stamp ≡ stamp_number s (length before)
+  pub fates : (before after : List Mark) (m : Mark) → tape ≡ before ++ m ∷ after
+      → FateLaw s.settings.mode s before (mark_frame s (length before) m) m.fate

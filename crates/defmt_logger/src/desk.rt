@@ -1,4 +1,4 @@
-// The desk.
+//! The desk.
 ghost use Rattle.std.specs.Prelude.{◌≡◌, ◌^◌, ◌<◌, [], ◌∷◌, ◌++◌, IfOk, length};
 ghost use Rattle.defmt_frames.specs.Frames.{count, frame_at, pace_of, stamp_number};
 ghost use Rattle.defmt_frames.specs.Sites.{HasSites};
@@ -8,7 +8,7 @@ ghost use Rattle.rtt_ring.specs.Views.{new_up};
 
 use crate::mark::Mark;
 use crate::tape::Tape;
-use defmt_frames::{Sites, write_frame};
+use defmt_frames::{FRAME_SIZE, MESSAGE_SIZE, Sites, write_frame};
 use defmt_hooks::{Clock, Stamp};
 use defmt_script::{RingMode, Script};
 use dl_io::Memory;
@@ -18,14 +18,8 @@ use std::alloc::Global;
 use std::marker::Model;
 use std::sync::Wait;
 
-// How many bytes a message has at most.
-const MESSAGE_SIZE: usize = 2000;
-
 // How many statements a script has at most.
 const STATEMENTS: usize = 4096;
-
-/// How many bytes the frame of a message has at most.
-pub const FRAME_SIZE: usize = 2288;
 
 /// A script, the sites of its strings, the tape of those of its statements that were logged, and the end of a ring that
 /// their frames go to.
@@ -53,7 +47,9 @@ impl<U: UpEnd, C: Clock> Model for Desk<U, C> {
 
     ghost view = { λ d. record { script = d.script; tape = d.tape; up = U.view d.up } };
 
-    ghost invariant = { λ d. IsWorking (record { script = d.script; tape = d.tape; up = U.view d.up }) d.sites d.places d.stamp d.message.items d.frame.items };
+    ghost invariant = { λ d. IsWorking
+        (record { script = d.script; tape = d.tape; up = U.view d.up })
+        d.sites d.places d.stamp d.message.items d.frame.items };
 }
 
 // Sends a frame in a mode. It waits in blocking mode alone.
@@ -100,7 +96,8 @@ fn send_statement<U: UpEnd, R: Relief, W: Wait>(
     requires place { place < count script.now writer }
     requires buffers { (length message.old ≡ 2000) × (length frame.old ≡ 2288) }
     requires relief { R.kept relief.old }
-    ensures sent { SendsIn script.now.settings.mode (U.view up.old) (U.view up.new) (frame_at script.now number writer place stamp) result }
+    ensures sent { SendsIn script.now.settings.mode (U.view up.old) (U.view up.new)
+        (frame_at script.now number writer place stamp) result }
     ensures relief { R.kept relief.new }
 {
     let size = write_frame(script, sites, number, writer, place, stamp, message, frame);
@@ -161,8 +158,12 @@ impl<U: UpEnd, C: Clock> Desk<U, C> {
     pub fn append<R: Relief, W: Wait>(&mut self, rt: &W, writer: u8, relief: &mut R) -> Fate
         requires place { marks_of writer self.old.tape.marks < count self.old.script writer }
         requires relief { R.kept relief.old }
-        ensures mark { self.new.tape.marks ≡ self.old.tape.marks ++ next_mark self.old.script self.old.tape.marks writer result ∷ [] }
-        ensures sent { SendsIn self.old.script.settings.mode self.old.up self.new.up (frame_at self.old.script (length self.old.tape.marks) writer (marks_of writer self.old.tape.marks) (stamp_number self.old.script (length self.old.tape.marks))) result }
+        ensures mark { self.new.tape.marks ≡ self.old.tape.marks
+            ++ next_mark self.old.script self.old.tape.marks writer result ∷ [] }
+        ensures sent { SendsIn self.old.script.settings.mode self.old.up self.new.up
+            (frame_at self.old.script (length self.old.tape.marks) writer
+            (marks_of writer self.old.tape.marks)
+            (stamp_number self.old.script (length self.old.tape.marks))) result }
         ensures script { self.new.script ≡ self.old.script }
         ensures split { self.new.up.split ≡ self.old.up.split }
         ensures kept { IsKept self.new }
@@ -207,7 +208,8 @@ impl<U: UpEnd + Drop, C: Clock + Drop> Desk<U, C> {
         up: U,
     ) -> Result<Desk<U, C>, Memory>
         requires pace { stamp ≡ pace_of script.settings.stamp }
-        requires fresh { U.view up ≡ new_up (U.view up).split script.settings.ring (U.view up).tells }
+        requires fresh { U.view up
+            ≡ new_up (U.view up).split script.settings.ring (U.view up).tells }
         requires told { TellsIn script.settings.mode (U.view up) }
         ensures script { IfOk result (λ desk. desk.script ≡ script) }
         ensures tape { IfOk result (λ desk. desk.tape.marks ≡ []) }
@@ -232,7 +234,8 @@ impl<U: UpEnd + Drop, C: Clock + Drop> Desk<U, C> {
         ensures tape { result.0 ≡ self.tape }
         ensures up { U.view result.1 ≡ self.up }
         ensures script { result.2 ≡ self.script }
-        ensures kept { IsKept (record { script = result.2; tape = result.0; up = U.view result.1 }) }
+        ensures kept { IsKept
+            (record { script = result.2; tape = result.0; up = U.view result.1 }) }
     {
         let Desk {
             script,

@@ -14,7 +14,7 @@ mod logging;
 mod mark;
 mod tape;
 
-pub use desk::{Desk, FRAME_SIZE};
+pub use desk::Desk;
 pub use logger::Logger;
 pub use logging::{EachStatement, Logging, Naming};
 pub use mark::Mark;

@@ -1,4 +1,4 @@
-// The logger.
+//! The logger.
 ghost use Rattle.std.specs.Prelude.{◌≡◌, ◌+◌, ◌<◌, [], ◌∷◌, IfOk};
 ghost use Rattle.defmt_frames.specs.Frames.{count, pace_of};
 ghost use Rattle.defmt_logger.specs.Kept.{IsKept, TellsIn};
@@ -54,7 +54,9 @@ impl<B: Books, Q: Quota, T: Work<Q>> Logger<B, Q, T> {
 
 // How many statements the writers 0 to 7 have.
 fn totals_of(script: &Script) -> [u32; 8]
-    ensures { result ≡ count script.now 0 ∷ count script.now 1 ∷ count script.now 2 ∷ count script.now 3 ∷ count script.now 4 ∷ count script.now 5 ∷ count script.now 6 ∷ count script.now 7 ∷ [] }
+    ensures { result ≡ count script.now 0 ∷ count script.now 1 ∷ count script.now 2
+        ∷ count script.now 3 ∷ count script.now 4 ∷ count script.now 5
+        ∷ count script.now 6 ∷ count script.now 7 ∷ [] }
 {
     [
         script.count(0),
@@ -88,7 +90,8 @@ impl<E: Names, K: Naming, U: UpEnd + Drop, C: Clock + Drop> Logger<
         up: U,
     ) -> Result<(Self, Pens<Named<E>, EachStatement<K>>), Memory>
         requires pace { stamp ≡ pace_of script.settings.stamp }
-        requires fresh { U.view up ≡ new_up (U.view up).split script.settings.ring (U.view up).tells }
+        requires fresh { U.view up
+            ≡ new_up (U.view up).split script.settings.ring (U.view up).tells }
         requires told { TellsIn script.settings.mode (U.view up) }
         requires names { (K.script ≡ script) × (K.split ≡ (U.view up).split) }
         requires ledgers { AreNamed blanks E.names }
@@ -118,7 +121,8 @@ impl<E: Names, K: Naming, U: UpEnd + Drop, C: Clock + Drop> Logger<
     pub fn close(self, pens: Pens<Named<E>, EachStatement<K>>) -> (Tape, U, Script)
         ensures script { result.2 ≡ K.script }
         ensures split { (U.view result.1).split ≡ K.split }
-        ensures kept { IsKept (record { script = result.2; tape = result.0; up = U.view result.1 }) }
+        ensures kept { IsKept
+            (record { script = result.2; tape = result.0; up = U.view result.1 }) }
         ensures p0 { marks_of 0 result.0.marks ≡ pens.p0.place }
         ensures p1 { marks_of 1 result.0.marks ≡ pens.p1.place }
         ensures p2 { marks_of 2 result.0.marks ≡ pens.p2.place }

@@ -1,4 +1,4 @@
-// What a logger's writers share.
+//! What a logger's writers share.
 ghost use Rattle.std.specs.Prelude.{◌≡◌};
 ghost use Rattle.std.specs.Coded.{Coded-set};
 ghost use Rattle.defmt_script.specs.Codes.{coded_script};

@@ -1,4 +1,4 @@
-// A mark of a tape.
+//! A mark of a tape.
 use rtt_modes::Fate;
 
 /// A statement that was logged, and what became of its frame.

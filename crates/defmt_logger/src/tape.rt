@@ -1,4 +1,4 @@
-// A list of marks with a reserved room.
+//! A list of marks with a reserved room.
 ghost use Rattle.std.specs.Prelude.{◌≡◌, ◌+◌, ◌<◌, [], ◌∷◌, ◌++◌, length, max, OnOk, OnErr};
 
 use crate::mark::Mark;

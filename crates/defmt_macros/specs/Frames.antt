@@ -74,7 +74,8 @@ FitSlots t (s ∷ ss) (val v vs) = FitsVal t 16 s v × FitSlots t ss vs
 
 -- The frame has the head, the bytes of these values for the slots in front, and the other slots to
 -- come.
-pub record Holds (t : Map) (index : ℕ) (slots : List Slot) (place stamp : Option ℕ) (vs : Vals) (frame : Frame) : Type 0 where
+pub record Holds (t : Map) (index : ℕ) (slots : List Slot) (place stamp : Option ℕ) (vs : Vals)
+    (frame : Frame) : Type 0 where
   pub front : List Slot
   pub slots_are : slots ≡ front ++ slots_left frame
   pub size : vals_len vs ≡ length front

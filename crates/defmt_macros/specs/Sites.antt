@@ -44,20 +44,23 @@ DifferAt [] [] position = ⊥
 DifferAt [] (y ∷ ys) position = position ≡ 0
 DifferAt (x ∷ xs) [] position = position ≡ 0
 DifferAt (x ∷ xs) (y ∷ ys) position =
-    ((position ≡ 0) × (x ≡ y → ⊥)) ⊎ ((before : ℕ) × (position ≡ before + 1) × (x ≡ y) × DifferAt xs ys before)
+    ((position ≡ 0) × (x ≡ y → ⊥))
+    ⊎ ((before : ℕ) × (position ≡ before + 1) × (x ≡ y) × DifferAt xs ys before)
 
 -- why there is no site with these slots
 abbrev pub Refuses : Map → ℕ → List Slot → SiteFault → Type 0
 Refuses t index slots faults.NoEntry = found t index ≡ no_entry
 Refuses t index slots faults.NotLog = found t index ≡ no_message
 Refuses t index slots faults.Unsupported = found t index ≡ no_text
-Refuses t index slots (faults.Slots position) = (tag : Tag) × (own : List Slot) × IsSite t index tag own × DifferAt own slots position
+Refuses t index slots (faults.Slots position) =
+    (tag : Tag) × (own : List Slot) × IsSite t index tag own × DifferAt own slots position
 Refuses t index slots faults.Memory = ⊥
 
 -- ---- the answers of `Site::new`
 
 abbrev pub Answers : Map → ℕ → List Slot → Result Site SiteFault → Type 0
-Answers t index slots (Ok site) = (site.index ≡ index) × (site.slots ≡ slots) × IsSite t index site.tag slots
+Answers t index slots (Ok site) =
+    (site.index ≡ index) × (site.slots ≡ slots) × IsSite t index site.tag slots
 Answers t index slots (Err faults.Memory) = Unit {0}
 Answers t index slots (Err fault) = Refuses t index slots fault
 

@@ -1,4 +1,4 @@
-// Messages that are put into a buffer, argument by argument.
+//! Messages that are put into a buffer, argument by argument.
 ghost use Rattle.std.specs.Prelude.{◌≡◌, ◌≤◌, ◌<◌, ◌+◌, ◌^◌, ◌++◌, ◌∷◌, [], length, drop};
 
 use crate::putting::{behind, put_fitting, put_head};
@@ -48,7 +48,8 @@ impl<'b, 's> Frame<'b, 's> {
         requires { 2000 ≤ length buf.old }
         ensures same_buffer { PutsInto result buf.entry }
         ensures bytes { bytes_put result ≡ head_of site.now.index place stamp }
-        ensures behind { drop (count_put result) (buffer_of result) ≡ drop (count_put result) buf.old }
+        ensures behind { drop (count_put result) (buffer_of result)
+            ≡ drop (count_put result) buf.old }
         ensures count { count_put result ≡ length (head_of site.now.index place stamp) }
         ensures few { count_put result ≤ 12 }
         ensures slots { slots_left result ≡ site.now.slots }
@@ -68,7 +69,8 @@ impl<'b, 's> Frame<'b, 's> {
         requires range { n < 2 ^ size_bits size }
         requires room { HasRoom self.old (size_bytes size) }
         ensures same_buffer { SameBuffer self.old self.new }
-        ensures grows { Grows self.old self.new (slots.One (kinds.Uint size)) (little_bytes (size_bytes size) n) }
+        ensures grows { Grows self.old self.new (slots.One (kinds.Uint size))
+            (little_bytes (size_bytes size) n) }
     {
         self.at = put_fitting(self.buf, self.at, n, size_bytes(size));
         self.left = behind(self.left);
@@ -81,7 +83,8 @@ impl<'b, 's> Frame<'b, 's> {
         requires range { IsSigned (size_bits size) n }
         requires room { HasRoom self.old (size_bytes size) }
         ensures same_buffer { SameBuffer self.old self.new }
-        ensures grows { Grows self.old self.new (slots.One (kinds.Int size)) (little_bytes (size_bytes size) (cast_unsigned w128 n)) }
+        ensures grows { Grows self.old self.new (slots.One (kinds.Int size))
+            (little_bytes (size_bytes size) (cast_unsigned w128 n)) }
     {
         self.at = put_fitting(self.buf, self.at, n.cast_unsigned(), size_bytes(size));
         self.left = behind(self.left);
@@ -120,7 +123,8 @@ impl<'b, 's> Frame<'b, 's> {
         requires next { IsNext self.old (slots.One kinds.Str) }
         requires room { HasRoom self.old (4 + length text.now) }
         ensures same_buffer { SameBuffer self.old self.new }
-        ensures grows { Grows self.old self.new (slots.One kinds.Str) (little_bytes 4 (length text.now) ++ text.now) }
+        ensures grows { Grows self.old self.new (slots.One kinds.Str)
+            (little_bytes 4 (length text.now) ++ text.now) }
     {
         let Ok(at) = put_text(self.buf, self.at, text.as_bytes()) else {
             unreachable!()
@@ -132,9 +136,11 @@ impl<'b, 's> Frame<'b, 's> {
     /// Puts bytes, behind their number in four bytes unless they are a byte array's, which has as many.
     #[inline]
     pub fn put_bytes(&mut self, bytes: &[u8])
-        requires { (slot : AnySlot) × IsNext self.old slot × IsBytes slot (length bytes.now) × HasRoom self.old (length (length_bytes slot (length bytes.now)) + length bytes.now) }
+        requires { (slot : AnySlot) × IsNext self.old slot × IsBytes slot (length bytes.now)
+            × HasRoom self.old (length (length_bytes slot (length bytes.now)) + length bytes.now) }
         ensures same_buffer { SameBuffer self.old self.new }
-        ensures grows { (slot : AnySlot) → IsNext self.old slot → Grows self.old self.new slot (length_bytes slot (length bytes.now) ++ bytes.now) }
+        ensures grows { (slot : AnySlot) → IsNext self.old slot
+            → Grows self.old self.new slot (length_bytes slot (length bytes.now) ++ bytes.now) }
     {
         let Some((slot, left)) = cut(self.left) else {
             unreachable!()
@@ -149,9 +155,12 @@ impl<'b, 's> Frame<'b, 's> {
     /// Puts a value of any kind. It fits the next slot.
     #[inline]
     pub fn put_value(&mut self, table: &Table, value: &Value)
-        requires { (slot : AnySlot) × IsNext self.old slot × FitsVal table.now.entries 16 slot (plain value.now) × HasRoom self.old (length (bytes_val table.now.entries slot (plain value.now))) }
+        requires { (slot : AnySlot) × IsNext self.old slot
+            × FitsVal table.now.entries 16 slot (plain value.now)
+            × HasRoom self.old (length (bytes_val table.now.entries slot (plain value.now))) }
         ensures same_buffer { SameBuffer self.old self.new }
-        ensures grows { (slot : AnySlot) → IsNext self.old slot → Grows self.old self.new slot (bytes_val table.now.entries slot (plain value.now)) }
+        ensures grows { (slot : AnySlot) → IsNext self.old slot
+            → Grows self.old self.new slot (bytes_val table.now.entries slot (plain value.now)) }
     {
         let Some((slot, left)) = cut(self.left) else {
             unreachable!()
@@ -167,9 +176,11 @@ impl<'b, 's> Frame<'b, 's> {
     #[inline]
     pub fn put_all(&mut self, table: &Table, args: &Args)
         requires fits { FitSlots table.now.entries (slots_left self.old) args.now }
-        requires room { HasRoom self.old (length (bytes_vals table.now.entries (slots_left self.old) args.now)) }
+        requires room { HasRoom self.old
+            (length (bytes_vals table.now.entries (slots_left self.old) args.now)) }
         ensures same_buffer { SameBuffer self.old self.new }
-        ensures grows { GrowsByAll self.old self.new (bytes_vals table.now.entries (slots_left self.old) args.now) }
+        ensures grows { GrowsByAll self.old self.new
+            (bytes_vals table.now.entries (slots_left self.old) args.now) }
     {
         let Ok(at) = put_args(table, self.left, args, self.buf, self.at) else {
             unreachable!()

@@ -1,4 +1,4 @@
-// A statement that is logged by the macro of its tag.
+//! A statement that is logged by the macro of its tag.
 ghost use Rattle.std.specs.Prelude.{◌≡◌, ◌≤◌, length, take, drop};
 ghost use Rattle.defmt_encode.specs.Carry.{message_of, stamp_args};
 ghost use Rattle.defmt_encode.specs.Placed.{HasPlace};

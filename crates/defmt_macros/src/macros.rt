@@ -1,4 +1,4 @@
-// The macros.
+//! The macros.
 
 /// Puts one argument to a frame: `put!(frame, table, KIND expr)`.
 ///

@@ -1,4 +1,4 @@
-// Steps of putting a message.
+//! Steps of putting a message.
 ghost use Rattle.std.specs.Prelude.{◌≡◌, ◌≤◌, ◌<◌, ◌+◌, ◌∷◌, length};
 ghost use Rattle.byteorder.specs.Endian.{little_bytes};
 ghost use Rattle.defmt_encode.specs.Out.{Wrote};
@@ -9,7 +9,7 @@ ghost use Rattle.defmt_macros.specs.Frames.{head_of};
 use defmt_encode::put_number;
 use defmt_grammar::Slot;
 
-// Puts a number for which there is room.
+/// Puts a number for which there is room.
 #[tactic(auto, using(defmt_encode::proofs::Numbers::length_little))]
 pub fn put_fitting(buf: &mut [u8], at: usize, n: u128, width: u8) -> usize
     requires { (2000 ≤ length buf.old) × (at + width ≤ 2000) }
@@ -32,7 +32,7 @@ fn put_place(buf: &mut [u8], at: usize, place: Option<u16>) -> usize
     }
 }
 
-// Puts a message's head to the front of a buffer.
+/// Puts a message's head to the front of a buffer.
 #[tactic(auto, using(defmt_encode::proofs::Placing::place_few, defmt_encode::proofs::Numbers::length_little))]
 pub fn put_head(buf: &mut [u8], index: u16, place: Option<u16>, stamp: Option<u64>) -> usize
     requires { 2000 ≤ length buf.old }
@@ -46,7 +46,7 @@ pub fn put_head(buf: &mut [u8], index: u16, place: Option<u16>, stamp: Option<u6
     }
 }
 
-// The slots behind the first.
+/// The slots behind the first.
 pub fn behind(slots: &[Slot]) -> &[Slot]
     requires { 0 < length slots.now }
     ensures { (first : AnySlot) × (slots.now ≡ first ∷ result.now) }

@@ -1,4 +1,4 @@
-// Sites.
+//! Sites.
 ghost use Rattle.std.specs.Prelude.{◌≡◌, ◌≤◌, length, MatchOption, IfOk, IsTrue, ◌↔◌};
 ghost use Rattle.defmt_intern.specs.declared.entry.Tag.{Tag as AnyTag};
 ghost use Rattle.defmt_macros.specs.Sites.{found, DifferAt, Finds, Answers, GivesOnly, RefusesOnly, Refuses, IsSite};
@@ -78,7 +78,8 @@ fn message_at(table: &Table, index: u16) -> Result<(&Tag, &[Slot]), SiteFault>
 // Where two lists of slots differ first.
 fn difference(own: &[Slot], given: &[Slot]) -> Option<u8>
     requires { length own.now ≤ 16 }
-    ensures { MatchOption result (own.now ≡ given.now) (λ position. DifferAt own.now given.now position × (position ≤ length own.now)) }
+    ensures { MatchOption result (own.now ≡ given.now)
+        (λ position. DifferAt own.now given.now position × (position ≤ length own.now)) }
 {
     match (cut(own), cut(given)) {
         (None, None) => None,
@@ -97,8 +98,10 @@ impl Site {
         // A site is answered only where the entry is a message's and has these slots, and a fault only where it stands.
         ensures answer { Answers table.now.entries index slots.now result }
         // Unless memory runs out, the site is answered where there is one, and the fault that stands.
-        ensures made { (tag : AnyTag) → IsSite table.now.entries index tag slots.now → GivesOnly result tag }
-        ensures refused { (fault : AnyFault) → Refuses table.now.entries index slots.now fault → RefusesOnly result fault }
+        ensures made { (tag : AnyTag) → IsSite table.now.entries index tag slots.now
+            → GivesOnly result tag }
+        ensures refused { (fault : AnyFault) → Refuses table.now.entries index slots.now fault
+            → RefusesOnly result fault }
     {
         let (tag, own) = message_at(table, index)?;
         if let Some(position) = difference(own, slots) {

@@ -1,4 +1,4 @@
-// Lists of slots.
+//! Lists of slots.
 ghost use Rattle.std.specs.Prelude.{◌≡◌, ◌++◌, ◌∷◌, [], OnOk, OnErr, IfOk};
 
 use defmt_grammar::Slot;

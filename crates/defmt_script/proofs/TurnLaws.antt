@@ -6,7 +6,7 @@ use Rattle.std.proofs.lemmas.List.{get_or-set_other, get_or-set_same}
 use Rattle.defmt_script.specs.Reads.{with_statement, with_text}
 use Rattle.defmt_script.specs.Script.{Script, add_statement, statements_by}
 use Rattle.defmt_script.specs.State.{State}
-use Rattle.defmt_script.specs.Turns.{AreInTurn, HasTurns, IsTold}
+use Rattle.defmt_script.specs.Turns.{AreInTurn, IsTold}
 use Rattle.defmt_values.specs.declared.value.Statement.{Statement}
 use Rattle.rtt_terminal.proofs.SpeechLaws.{is_silence, more_said, none_by}
 use Rattle.rtt_terminal.specs.Speech.{CanBeSaid, IsSpeech, Saying, Speech, count_texts, said_by, saying, silence, with_saying}

@@ -13,13 +13,15 @@ use Rattle.defmt_script.specs.declared.fault.ScriptFault.TheVariants as faults
 -- a script that the text reads as, its first refused line, or want of memory
 abbrev pub Answers : List ℕ → Result Script ScriptFault → Type 0
 Answers text (Ok script) = Reads text (Ok script)
-Answers text (Err (faults.Refused line cause inner)) = Reads text (Err (record { line = line; cause = cause; inner = inner }))
+Answers text (Err (faults.Refused line cause inner)) =
+    Reads text (Err (record { line = line; cause = cause; inner = inner }))
 Answers text (Err faults.Memory) = Unit {0}
 
 -- this reading, unless memory runs out
 abbrev pub GivesOnly : Result Script ScriptFault → Result Script Refusal → Type 0
 GivesOnly (Ok script) read = read ≡ Ok script
-GivesOnly (Err (faults.Refused line cause inner)) read = read ≡ Err (record { line = line; cause = cause; inner = inner })
+GivesOnly (Err (faults.Refused line cause inner)) read =
+    read ≡ Err (record { line = line; cause = cause; inner = inner })
 GivesOnly (Err faults.Memory) read = Unit {0}
 
 -- ---- one line

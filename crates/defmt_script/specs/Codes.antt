@@ -27,9 +27,16 @@ coded_statements = coded_list statement_row.coded
 
 abbrev pub coded_script : Coded Script
 coded_script = code_by (Settings × (Map × (NameMap × (List (List Statement) × Speech))))
-    (coded× settings_row.coded (coded× coded_table (coded× coded_names (coded× (coded_list coded_statements) coded_speech))))
+    (coded× settings_row.coded (coded× coded_table (coded× coded_names
+    (coded× (coded_list coded_statements) coded_speech))))
     (λ s. (s.settings, (s.table, (s.names, (s.writers, s.said)))))
-    (λ p. record { settings = p.0; table = p.1.0; names = p.1.1.0; writers = p.1.1.1.0; said = p.1.1.1.1 })
+    (λ p. record {
+      settings = p.0;
+      table = p.1.0;
+      names = p.1.1.0;
+      writers = p.1.1.1.0;
+      said = p.1.1.1.1;
+    })
     (λ _. refl)
 
 abbrev pub coded_state : Coded State

@@ -30,11 +30,14 @@ stamp_in stamp n = option_map (λ p. n) stamp
 
 -- the message of a statement as the mark with this number, with this stamp where there are stamps
 abbrev pub message_with : Map → Settings → ℕ → ℕ → Statement → List ℕ
-message_with table s number n stm = message_of table (place_in s.profile number) (stamp_args (stamp_in s.stamp n)) stm.index stm.args
+message_with table s number n stm =
+    message_of table (place_in s.profile number)
+    (stamp_args (stamp_in s.stamp n)) stm.index stm.args
 
 -- the message of a statement as the first mark, with the first stamp where there are stamps
 abbrev pub first_message : Map → Settings → Statement → List ℕ
-first_message table s stm = message_of table (place_in s.profile 0) (stamp_args (base_of s.stamp)) stm.index stm.args
+first_message table s stm =
+    message_of table (place_in s.profile 0) (stamp_args (base_of s.stamp)) stm.index stm.args
 
 -- The statement fits the table, is a message's, and neither its message, whatever its mark and its stamp, nor its text is too long.
 pub record IsSound (table : Map) (s : Settings) (stm : Statement) : Type 0 where
@@ -46,7 +49,8 @@ pub record IsSound (table : Map) (s : Settings) (stm : Statement) : Type 0 where
 -- The table has a timestamp's entry exactly where there are stamps, and its text is `{=u64:us}`.
 abbrev pub HasStamp : Option (ℕ × ℕ) → Map → Type 0
 HasStamp None table = (index : ℕ) → IsStamp table index → ⊥
-HasStamp (Some p) table = (index : ℕ) × (entry : Entry) × (map.get table index ≡ Some entry) × (entry.tag ≡ Timestamp) × (entry.text ≡ codes "{=u64:us}")
+HasStamp (Some p) table = (index : ℕ) × (entry : Entry) × (map.get table index ≡ Some entry)
+    × (entry.tag ≡ Timestamp) × (entry.text ≡ codes "{=u64:us}")
 
 pub record IsLawful (s : Script) : Type 0 where
   pub settings : AreLawful s.settings

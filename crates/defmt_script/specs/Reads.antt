@@ -34,14 +34,17 @@ use Rattle.rtt_terminal.specs.Speech.{count_texts, saying, texts_limit, with_say
 -- ---- settings, each form at most once, in their order, in front of the strings
 
 abbrev pub with_settings : State → Form → Result Settings Cause → Result State Cause
-with_settings before form (Ok s) = Ok (record before { first = next form; script = record before.script { settings = s } })
+with_settings before form (Ok s) =
+    Ok (record before { first = next form; script = record before.script { settings = s } })
 with_settings before form (Err cause) = Err cause
 
 abbrev pub sets : State → Form → Result Settings Cause → Result State Cause
-sets before form settings = if in_order before.first form then with_settings before form settings else Err causes.Line
+sets before form settings =
+    if in_order before.first form then with_settings before form settings else Err causes.Line
 
 abbrev pub TakesSetting : State → Form → List (List ℕ) → Result State Cause → Type 0
-TakesSetting before form words taken = (set : Result Settings Cause) × Sets form words before.script.settings set × (taken ≡ sets before form set)
+TakesSetting before form words taken = (set : Result Settings Cause)
+    × Sets form words before.script.settings set × (taken ≡ sets before form set)
 
 -- ---- strings: `s NAME TAG TEXT`
 
@@ -68,12 +71,16 @@ with_string before name tag text = string_at (next_index before.script) before n
 
 abbrev pub takes_string : State → List ℕ → Tag → List ℕ → Option ℕ → Result State Cause
 takes_string before name tag text (Some inner) = Err (causes.Text inner)
-takes_string before name tag text None = if nat_lt (count_strings before.script) strings_limit then Ok (with_string before name tag text) else Err causes.Many
+takes_string before name tag text None =
+    if nat_lt (count_strings before.script) strings_limit then Ok (with_string before name tag text)
+    else Err causes.Many
 
 -- the text is looked at where its name is admitted
-abbrev pub TakesString : State → List ℕ → Tag → List ℕ → Result (Unit {0}) Cause → Result State Cause → Type 0
+abbrev pub TakesString : State → List ℕ → Tag → List ℕ → Result (Unit {0}) Cause
+    → Result State Cause → Type 0
 TakesString before name tag text (Err cause) taken = taken ≡ Err cause
-TakesString before name tag text (Ok admitted) taken = (verdict : Option ℕ) × Judges tag text verdict × (taken ≡ takes_string before name tag text verdict)
+TakesString before name tag text (Ok admitted) taken = (verdict : Option ℕ)
+    × Judges tag text verdict × (taken ≡ takes_string before name tag text verdict)
 
 -- ---- statements: `w WRITER NAME ARGS`
 
@@ -95,27 +102,34 @@ admits_index before writer (Some index) =
 -- the writer and the index of the name
 abbrev pub admits_statement : State → Option ℕ → List ℕ → Result (ℕ × ℕ) Cause
 admits_statement before None name = Err causes.Writer
-admits_statement before (Some writer) name = admits_index before writer (map.get before.script.names name)
+admits_statement before (Some writer) name =
+    admits_index before writer (map.get before.script.names name)
 
 abbrev pub with_statement : State → ℕ → Statement → State
-with_statement before writer stm = record before { script = record before.script { writers = add_statement writer stm before.script.writers } }
+with_statement before writer stm = record before {
+  script = record before.script { writers = add_statement writer stm before.script.writers };
+}
 
 -- the message, and then the text, may be too long
 abbrev pub takes_statement : State → ℕ → Statement → Result State Cause
 takes_statement before writer stm =
-    if nat_lt message_limit (length (first_message before.script.table before.script.settings stm)) then Err causes.Long
-    else if nat_lt text_limit (length (eager_text before.script.table stm.index stm.args)) then Err causes.Wide
+    if nat_lt message_limit (length (first_message before.script.table before.script.settings stm))
+    then Err causes.Long
+    else if nat_lt text_limit (length (eager_text before.script.table stm.index stm.args))
+    then Err causes.Wide
     else Ok (with_statement before writer stm)
 
 abbrev pub takes_arguments : State → ℕ × ℕ → Result Vals ℕ → Result State Cause
 takes_arguments before p (Err inner) = Err (causes.Args inner)
-takes_arguments before p (Ok args) = takes_statement before p.0 (record { index = p.1; args = args })
+takes_arguments before p (Ok args) =
+    takes_statement before p.0 (record { index = p.1; args = args })
 
 -- the arguments are looked at where writer and name are admitted
 abbrev pub TakesStatement : State → List ℕ → Result (ℕ × ℕ) Cause → Result State Cause → Type 0
 TakesStatement before text (Err cause) taken = taken ≡ Err cause
 TakesStatement before text (Ok p) taken =
-    (args : Result Vals ℕ) × ReadsArguments before.script.names before.script.table p.1 text args × (taken ≡ takes_arguments before p args)
+    (args : Result Vals ℕ) × ReadsArguments before.script.names before.script.table p.1 text args
+    × (taken ≡ takes_arguments before p args)
 
 -- ---- texts for terminals: `t WRITER TERM TEXT`
 
@@ -130,12 +144,16 @@ admits_terminal before writer text (Some terminal) =
 -- the writer and the terminal
 abbrev pub admits_text : State → Option ℕ → List ℕ → List ℕ → Result (ℕ × ℕ) Cause
 admits_text before None term text = Err causes.Writer
-admits_text before (Some writer) term text = admits_terminal before writer text (terminal_named term)
+admits_text before (Some writer) term text =
+    admits_terminal before writer text (terminal_named term)
 
 -- behind the statements and the texts that the writer has by now
 abbrev pub with_text : State → ℕ → ℕ → List ℕ → State
 with_text before writer terminal text = record before {
-  script = record before.script { said = with_saying before.script.said writer (saying (length (statements_by before.script writer)) terminal text) };
+  script = record before.script {
+    said = with_saying before.script.said writer
+        (saying (length (statements_by before.script writer)) terminal text);
+  };
 }
 
 abbrev pub takes_text : State → List ℕ → Result (ℕ × ℕ) Cause → Result State Cause
@@ -146,26 +164,32 @@ takes_text before text (Ok p) = Ok (with_text before p.0 p.1 text)
 
 -- what a writer does, by the form of its line
 abbrev pub TakesAction : State → Form → Option ℕ → List ℕ → List ℕ → Result State Cause → Type 0
-TakesAction before forms.Statement writer name args taken = TakesStatement (closed before) args (admits_statement (closed before) writer name) taken
-TakesAction before forms.Say writer term text taken = taken ≡ takes_text (closed before) text (admits_text (closed before) writer term text)
+TakesAction before forms.Statement writer name args taken =
+    TakesStatement (closed before) args (admits_statement (closed before) writer name) taken
+TakesAction before forms.Say writer term text taken =
+    taken ≡ takes_text (closed before) text (admits_text (closed before) writer term text)
 TakesAction before form writer field more taken = taken ≡ Err causes.Line
 
 abbrev pub Takes : State → Line → Result State Cause → Type 0
 Takes before blank taken = taken ≡ Ok before
 Takes before (head form words) taken = TakesSetting before form words taken
-Takes before (entry name tag text) taken = TakesString before name tag text (admits_string before name) taken
+Takes before (entry name tag text) taken =
+    TakesString before name tag text (admits_string before name) taken
 Takes before (act form writer field more) taken = TakesAction before form writer field more taken
 Takes before other taken = taken ≡ Err causes.Line
 
 abbrev pub refusal_at : ℕ → Cause → Refusal
-refusal_at number cause = record { line = number; cause = cause_number cause; inner = inner_number cause }
+refusal_at number cause =
+    record { line = number; cause = cause_number cause; inner = inner_number cause }
 
 -- The script that some lines make of what stood before them, or the first that is refused. The first of these lines has this number.
 abbrev pub ReadsLines : State → ℕ → List (List ℕ) → Result Script Refusal → Type 0
 ReadsLines before number [] read = read ≡ Ok (closed before).script
 ReadsLines before number (bytes ∷ more) read =
-    ((line : Line) × (after : State) × Says bytes line × Takes before line (Ok after) × ReadsLines after (number + 1) more read)
-    ⊎ ((line : Line) × (cause : Cause) × Says bytes line × Takes before line (Err cause) × (read ≡ Err (refusal_at number cause)))
+    ((line : Line) × (after : State) × Says bytes line × Takes before line (Ok after)
+    × ReadsLines after (number + 1) more read)
+    ⊎ ((line : Line) × (cause : Cause) × Says bytes line × Takes before line (Err cause)
+    × (read ≡ Err (refusal_at number cause)))
 
 -- What a text is read as. Its lines end with a newline; one carriage return before it is passed over, and the last line may lack its
 -- newline. The first line has the number 1.

@@ -27,14 +27,25 @@ abbrev pub no_statements : List (List Statement)
 no_statements = [] ∷ [] ∷ [] ∷ [] ∷ [] ∷ [] ∷ [] ∷ [] ∷ []
 
 abbrev pub empty_script : Script
-empty_script = record { settings = no_settings; table = map.empty; names = map.empty; writers = no_statements; said = silence 8 }
+empty_script = record {
+  settings = no_settings;
+  table = map.empty;
+  names = map.empty;
+  writers = no_statements;
+  said = silence 8;
+}
 
 abbrev pub no_lines : State
 no_lines = record { first = forms.Ring; script = empty_script }
 
 -- an entry of a script, which has its index for its disambiguator
 abbrev pub entry_at : ℕ → Tag → List ℕ → Entry
-entry_at index tag text = record { tag = tag; «package» = codes "script"; text = text; disambiguator = decimal index }
+entry_at index tag text = record {
+  tag = tag;
+  «package» = codes "script";
+  text = text;
+  disambiguator = decimal index;
+}
 
 abbrev pub stamp_entry : ℕ → Entry
 stamp_entry index = entry_at index tags.Timestamp (codes "{=u64:us}")
@@ -48,5 +59,7 @@ with_stamp_entry (Some p) index table = map.insert table index (stamp_entry inde
 abbrev pub closed : State → State
 closed s = if in_order s.first forms.Entry then record s {
   first = forms.Statement;
-  script = record s.script { table = with_stamp_entry s.script.settings.stamp (next_index s.script) s.script.table };
+  script = record s.script {
+    table = with_stamp_entry s.script.settings.stamp (next_index s.script) s.script.table;
+  };
 } else s

@@ -26,7 +26,8 @@ pub record IsSteady (s : State) : Type 0 where
   pub whole : StringsAreOver s.first → HasStamp s.script.settings.stamp s.script.table
   pub eight : length s.script.writers ≡ 8
   pub few : count_statements s.script ≤ statements_limit
-  pub sound : AllByRecursion (λ list. AllByRecursion (IsSound s.script.table s.script.settings) list) s.script.writers
+  pub sound : AllByRecursion
+      (λ list. AllByRecursion (IsSound s.script.table s.script.settings) list) s.script.writers
 
 -- settings behind a line of this form: a reader may be late only behind its own line
 pub record StaysLawful (form : Form) (s : Settings) : Type 0 where

@@ -14,5 +14,7 @@ IsKnown tag = (name : List ℕ) → tag ≡ Other name → ⊥
 -- its text and its disambiguator.
 pub record CountsTexts (count : Map → ℕ) : Type 0 where
   pub empty : count map.empty ≡ 0
-  pub more : (table : Map) (index : ℕ) (entry : Entry) → map.get table index ≡ None → IsKnown entry.tag
-      → count (map.insert table index entry) ≡ count table + (length entry.«package» + length entry.text + length entry.disambiguator)
+  pub more : (table : Map) (index : ℕ) (entry : Entry) → map.get table index ≡ None
+      → IsKnown entry.tag
+      → count (map.insert table index entry)
+      ≡ count table + (length entry.«package» + length entry.text + length entry.disambiguator)

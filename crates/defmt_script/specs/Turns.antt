@@ -24,7 +24,8 @@ IsTold s = IsSpeech s.said × HasTurns s
 -- The steps of a writer that has logged so many statements of its count: it says each text once it has logged those that stand in front.
 abbrev pub steps_from : ℕ → ℕ → List Saying → List Step
 steps_from from count [] = replicate (count - from) Log
-steps_from from count (s ∷ more) = replicate (s.behind - from) Log ++ Say ∷ steps_from s.behind count more
+steps_from from count (s ∷ more) =
+    replicate (s.behind - from) Log ++ Say ∷ steps_from s.behind count more
 
 -- what a writer does, in order
 abbrev pub steps_of : Script → ℕ → List Step

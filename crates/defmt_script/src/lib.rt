@@ -1,13 +1,17 @@
 //! Scripts: a ring, a table of strings, and the statements of eight writers with what they say on terminals, read from a text
-//! line by line.
+//! line by line (docs/SCRIPT.md).
+//!
+//! What a script of each form of line reads as, or where it is refused, stands in script_tests, `scripts`.
 #![tactic(auto)]
 
+mod actions;
 mod fault;
 mod laws;
 mod parts;
 mod reading;
 mod script;
 mod step;
+mod strings;
 mod top;
 
 pub use defmt_lines::RingMode;

@@ -106,7 +106,7 @@ impl Model for Script {
 }
 
 impl Script {
-    /// A script of these parts. Its table gets the profile of the settings, whatever it had.
+    // A script of these parts. Its table gets the profile of the settings, whatever it had.
     pub(crate) fn new(
         settings: Settings,
         mut table: Table,

@@ -22,11 +22,14 @@ closed_number digits (Some rest) = option_map (λ c. (c, rest)) (scalar_of (digi
 
 -- behind `\u{`
 abbrev pub braced : List ℕ × List ℕ → Option (ℕ × List ℕ)
-braced d = if nat_lt 0 (length d.0) && nat_le (length d.0) 6 then closed_number d.0 (behind 125 d.1) else None
+braced d =
+    if nat_lt 0 (length d.0) && nat_le (length d.0) 6 then closed_number d.0 (behind 125 d.1)
+    else None
 
 -- behind `\u`
 unfoldable pub number_escape : List ℕ → Option (ℕ × List ℕ)
-number_escape text = either (behind 123 text) (λ more. braced (run (in_class Hexadecimal) more)) None
+number_escape text =
+    either (behind 123 text) (λ more. braced (run (in_class Hexadecimal) more)) None
 
 abbrev pub letter_escape : Option (ℕ × List ℕ) → Option (ℕ × List ℕ)
 letter_escape None = None
@@ -66,5 +69,7 @@ IsQuotedEnd text (Some p) = ClosesQuote text p.0 p.1
 
 -- how far a reader of a text in quotes has come: what closes the rest closes the text, and back
 pub record InQuotes (text rest : List ℕ) : Type 0 where
-  pub sound : (inside after : List ℕ) → ClosesQuote rest inside after → (front : List ℕ) × ClosesQuote text front after
-  pub complete : (inside after : List ℕ) → ClosesQuote text inside after → (more : List ℕ) × ClosesQuote rest more after
+  pub sound : (inside after : List ℕ) → ClosesQuote rest inside after
+      → (front : List ℕ) × ClosesQuote text front after
+  pub complete : (inside after : List ℕ) → ClosesQuote text inside after
+      → (more : List ℕ) × ClosesQuote rest more after

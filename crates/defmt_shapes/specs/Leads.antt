@@ -79,14 +79,18 @@ unfoldable pub bytes_lead : List ℕ → Option (Lead × List ℕ)
 bytes_lead text = pairs_in (run (in_class Hexadecimal) text)
 
 abbrev pub variant_in : List ℕ → List ℕ × List ℕ → Option (Lead × List ℕ)
-variant_in name d = if is_variant d.0 then either (behind 40 d.1) (λ inside. Some (call name (Some d.0), inside)) None else None
+variant_in name d =
+    if is_variant d.0
+    then either (behind 40 d.1) (λ inside. Some (call name (Some d.0), inside)) None else None
 
 -- behind a name and `:`
 unfoldable pub variant_lead : List ℕ → List ℕ → Option (Lead × List ℕ)
 variant_lead name text = variant_in name (run (in_class Decimal) text)
 
 unfoldable pub flag_lead : List ℕ → List ℕ → Option (Lead × List ℕ)
-flag_lead name rest = if bytes_eq name (codes "true") then Some (flag true, rest) else (if bytes_eq name (codes "false") then Some (flag false, rest) else None)
+flag_lead name rest =
+    if bytes_eq name (codes "true") then Some (flag true, rest)
+    else (if bytes_eq name (codes "false") then Some (flag false, rest) else None)
 
 -- behind a name
 unfoldable pub named_lead : List ℕ → List ℕ → Option (Lead × List ℕ)
@@ -108,7 +112,8 @@ or_word text None = word_lead text
 or_word text (Some p) = Some p
 
 unfoldable pub plain_lead : List ℕ → Option (Lead × List ℕ)
-plain_lead text = either (strip (codes "0x") text) hexadecimal_lead (or_word text (decimal_lead text))
+plain_lead text =
+    either (strip (codes "0x") text) hexadecimal_lead (or_word text (decimal_lead text))
 
 -- all but what begins with a quote
 unfoldable pub marked_lead : List ℕ → Option (Lead × List ℕ)
@@ -128,11 +133,13 @@ character_lead (Some p) = either (behind 39 p.1) (λ rest. Some (character p.0, 
 
 abbrev pub IsCharacterLead : List ℕ → Option (List ℕ) → Option (Lead × List ℕ) → Type 0
 IsCharacterLead text None o = o ≡ marked_lead text
-IsCharacterLead text (Some inside) o = (p : Option (ℕ × List ℕ)) × IsCharacter 39 inside p × (o ≡ character_lead p)
+IsCharacterLead text (Some inside) o =
+    (p : Option (ℕ × List ℕ)) × IsCharacter 39 inside p × (o ≡ character_lead p)
 
 abbrev pub IsQuotedLead : List ℕ → Option (List ℕ) → Option (Lead × List ℕ) → Type 0
 IsQuotedLead text None o = IsCharacterLead text (behind 39 text) o
-IsQuotedLead text (Some inside) o = (q : Option (List ℕ × List ℕ)) × IsQuotedEnd inside q × (o ≡ quoted_lead q)
+IsQuotedLead text (Some inside) o =
+    (q : Option (List ℕ × List ℕ)) × IsQuotedEnd inside q × (o ≡ quoted_lead q)
 
 -- what the text begins with, and what follows it
 abbrev pub IsLead : List ℕ → Option (Lead × List ℕ) → Type 0
@@ -145,13 +152,16 @@ mark_of [] = None
 mark_of (d ∷ ds) = Some (d ∷ ds)
 
 abbrev pub item_in : List ℕ × List ℕ → Option (Option (List ℕ) × List ℕ)
-item_in d = if has_leading_zero d.0 then None else option_map (λ inside. (mark_of d.0, inside)) (behind 40 d.1)
+item_in d =
+    if has_leading_zero d.0 then None
+    else option_map (λ inside. (mark_of d.0, inside)) (behind 40 d.1)
 
 -- the variant in front of an element's `(`, and what follows that
 unfoldable pub item_of : List ℕ → Option (Option (List ℕ) × List ℕ)
 item_of text = item_in (run (in_class Decimal) text)
 
-abbrev pub view_item : Option (Option (Bor (List ℕ)) × Bor (List ℕ)) → Option (Option (List ℕ) × List ℕ)
+abbrev pub view_item : Option (Option (Bor (List ℕ)) × Bor (List ℕ))
+    → Option (Option (List ℕ) × List ℕ)
 view_item o = option_map (λ p. (option_copied p.0, p.1.now)) o
 
 -- ---- what a lead says of the shape
@@ -165,17 +175,26 @@ IsMark (Some digits) (Some v) = IsVariant digits v
 
 -- what the lead and what stands behind it, up to the rest, say of the shape
 abbrev pub Leads : Lead → List ℕ → List ℕ → Shape → Type 0
-Leads (decimal digits) after rest s = (n : ℕ) × (s ≡ shapes.decimal n) × IsNumber 10 digits n × (after ≡ rest)
-Leads (hexadecimal digits) after rest s = (n : ℕ) × (s ≡ shapes.hexadecimal n) × IsNumber 16 digits n × (after ≡ rest)
-Leads (negative digits) after rest s = (n : ℕ) × (s ≡ shapes.negative n) × IsNumber 10 digits n × (after ≡ rest)
+Leads (decimal digits) after rest s =
+    (n : ℕ) × (s ≡ shapes.decimal n) × IsNumber 10 digits n × (after ≡ rest)
+Leads (hexadecimal digits) after rest s =
+    (n : ℕ) × (s ≡ shapes.hexadecimal n) × IsNumber 16 digits n × (after ≡ rest)
+Leads (negative digits) after rest s =
+    (n : ℕ) × (s ≡ shapes.negative n) × IsNumber 10 digits n × (after ≡ rest)
 Leads (flag b) after rest s = (s ≡ shapes.flag b) × (after ≡ rest)
 Leads (character c) after rest s = (s ≡ shapes.character c) × (after ≡ rest)
-Leads (quoted inside) after rest s = (t : List ℕ) × (s ≡ shapes.quoted t) × SpellsQuoted inside t × (after ≡ rest)
+Leads (quoted inside) after rest s =
+    (t : List ℕ) × (s ≡ shapes.quoted t) × SpellsQuoted inside t × (after ≡ rest)
 Leads (interned name) after rest s = (s ≡ shapes.interned name) × (after ≡ rest)
-Leads (bytes digits) after rest s = (bs : List ℕ) × (s ≡ shapes.bytes bs) × SpellsBytes digits bs × (after ≡ rest)
+Leads (bytes digits) after rest s =
+    (bs : List ℕ) × (s ≡ shapes.bytes bs) × SpellsBytes digits bs × (after ≡ rest)
 Leads empty after rest s = (s ≡ shapes.empty) × (after ≡ rest)
-Leads (call name mark) after rest s = (v : Option ℕ) × (ss : Shapes) × (inside : List ℕ) × (s ≡ shapes.call name v ss) × IsMark mark v × SpellsShapes inside ss × (after ≡ inside ++ 41 ∷ rest)
-Leads (sequence name) after rest s = (items : Items) × (inside : List ℕ) × (s ≡ shapes.sequence name items) × StartsThere inside × SpellsItems inside items × (after ≡ inside ++ 93 ∷ rest)
+Leads (call name mark) after rest s = (v : Option ℕ) × (ss : Shapes) × (inside : List ℕ)
+    × (s ≡ shapes.call name v ss) × IsMark mark v × SpellsShapes inside ss
+    × (after ≡ inside ++ 41 ∷ rest)
+Leads (sequence name) after rest s = (items : Items) × (inside : List ℕ)
+    × (s ≡ shapes.sequence name items) × StartsThere inside × SpellsItems inside items
+    × (after ≡ inside ++ 93 ∷ rest)
 
 -- the lead is a whole value
 abbrev pub IsWhole : Lead → Type 0

@@ -5,7 +5,8 @@ use Rattle.defmt_shapes.specs.Shape.{SpellsCharacter, SpellsQuoted, SpellsBytes}
 
 -- no character or escape that may stand between double quotes stands in front
 abbrev pub NoCharacter : List ℕ → Type 0
-NoCharacter text = (c : ℕ) (front rest : List ℕ) → SpellsCharacter 34 front c → text ≡ front ++ rest → ⊥
+NoCharacter text =
+    (c : ℕ) (front rest : List ℕ) → SpellsCharacter 34 front c → text ≡ front ++ rest → ⊥
 
 -- the text of the characters and escapes in front, up to the first place where none stands
 pub record MeansText (inside text : List ℕ) : Type 0 where

@@ -37,7 +37,8 @@ abbrev pub IsEnclosed : Bracket → List ℕ → Option (List ℕ × List ℕ) �
 IsEnclosed bracket text None = (inside rest : List ℕ) → Encloses bracket text inside rest → ⊥
 IsEnclosed bracket text (Some p) = Encloses bracket text p.0 p.1
 
-abbrev pub FindsClosing : Bracket → List ℕ → Result (Option (Bor (List ℕ) × Bor (List ℕ))) Memory → Type 0
+abbrev pub FindsClosing : Bracket → List ℕ → Result (Option (Bor (List ℕ) × Bor (List ℕ))) Memory
+    → Type 0
 FindsClosing bracket text (Ok o) = IsEnclosed bracket text (parts_of o)
 FindsClosing bracket text (Err e) = Unit {0}
 
@@ -64,7 +65,9 @@ lead_step o = option_map (λ p. (step_of_lead p.0, p.1)) o
 
 -- behind a value or an element
 abbrev pub after_step : Bracket → List ℕ → Option (Step × List ℕ)
-after_step bracket text = either (behind (closing bracket) text) (λ rest. Some (Close, rest)) (either (behind 32 text) (λ rest. Some (Begin, skip_spaces rest)) None)
+after_step bracket text =
+    either (behind (closing bracket) text) (λ rest. Some (Close, rest))
+    (either (behind 32 text) (λ rest. Some (Begin, skip_spaces rest)) None)
 
 abbrev pub item_step : Option (Option (List ℕ) × List ℕ) → Option (Step × List ℕ)
 item_step o = option_map (λ p. (Open Round, p.1)) o
@@ -85,18 +88,22 @@ IsStep Square After text o = o ≡ after_step Square text
 -- what still has to follow so that the text is enclosed: each open bracket has to be closed
 abbrev pub Ends : Bracket → List ℕ → List Bracket → List ℕ → Type 0
 Ends first text [] rest = (inside : List ℕ) × Encloses first text inside rest
-Ends first text (b ∷ bs) rest = (inside after : List ℕ) → rest ≡ inside ++ closing b ∷ after → MayStand b After inside → Ends first text bs after
+Ends first text (b ∷ bs) rest = (inside after : List ℕ) → rest ≡ inside ++ closing b ∷ after
+    → MayStand b After inside → Ends first text bs after
 
 -- the same where a value may begin
 abbrev pub Awaits : Bracket → List ℕ → Bracket → List Bracket → Place → List ℕ → Type 0
-Awaits first text b bs place rest = (inside after : List ℕ) → rest ≡ inside ++ closing b ∷ after → MayStand b place inside → Ends first text bs after
+Awaits first text b bs place rest = (inside after : List ℕ) → rest ≡ inside ++ closing b ∷ after
+    → MayStand b place inside → Ends first text bs after
 
 -- what does follow where the text is enclosed with this behind it
 abbrev pub Leaves : List Bracket → List ℕ → List ℕ → Type 0
 Leaves [] rest end = rest ≡ end
-Leaves (b ∷ bs) rest end = (inside : List ℕ) × (after : List ℕ) × (rest ≡ inside ++ closing b ∷ after) × MayStand b After inside × Leaves bs after end
+Leaves (b ∷ bs) rest end = (inside : List ℕ) × (after : List ℕ)
+    × (rest ≡ inside ++ closing b ∷ after) × MayStand b After inside × Leaves bs after end
 
-pub record LeavesAt (b : Bracket) (bs : List Bracket) (place : Place) (rest end : List ℕ) : Type 0 where
+pub record LeavesAt (b : Bracket) (bs : List Bracket) (place : Place)
+    (rest end : List ℕ) : Type 0 where
   pub inside : List ℕ
   pub after : List ℕ
   pub rest_is : rest ≡ inside ++ closing b ∷ after
@@ -104,6 +111,8 @@ pub record LeavesAt (b : Bracket) (bs : List Bracket) (place : Place) (rest end 
   pub outer : Leaves bs after end
 
 -- how far a reader has come
-pub record InBrackets (first : Bracket) (text : List ℕ) (b : Bracket) (bs : List Bracket) (place : Place) (rest : List ℕ) : Type 0 where
+pub record InBrackets (first : Bracket) (text : List ℕ) (b : Bracket) (bs : List Bracket)
+    (place : Place) (rest : List ℕ) : Type 0 where
   pub sound : Awaits first text b bs place rest
-  pub complete : (inside end : List ℕ) → Encloses first text inside end → LeavesAt b bs place rest end
+  pub complete : (inside end : List ℕ) → Encloses first text inside end
+      → LeavesAt b bs place rest end

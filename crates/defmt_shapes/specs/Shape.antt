@@ -67,7 +67,9 @@ flag_word false = codes "false"
 abbrev pub SpellsBytes : List ℕ → List ℕ → Type 0
 SpellsBytes text [] = text ≡ []
 SpellsBytes text (b ∷ bs) =
-    (high : ℕ) × (low : ℕ) × (rest : List ℕ) × (digit_value high < 16) × (digit_value low < 16) × (b ≡ 16 * digit_value high + digit_value low) × SpellsBytes rest bs × (text ≡ high ∷ low ∷ rest)
+    (high : ℕ) × (low : ℕ) × (rest : List ℕ) × (digit_value high < 16) × (digit_value low < 16)
+    × (b ≡ 16 * digit_value high + digit_value low) × SpellsBytes rest bs
+    × (text ≡ high ∷ low ∷ rest)
 
 -- ---- characters and texts in quotes
 
@@ -101,12 +103,14 @@ IsEscape text c = IsLetterEscape text c ⊎ IsNumberEscape text c
 
 -- one character other than `\` and the quote round it, or an escape
 abbrev pub SpellsCharacter : ℕ → List ℕ → ℕ → Type 0
-SpellsCharacter quote text c = (IsScalar c × (c ≢ quote) × (c ≢ 92) × (text ≡ encode_utf8 c)) ⊎ IsEscape text c
+SpellsCharacter quote text c =
+    (IsScalar c × (c ≢ quote) × (c ≢ 92) × (text ≡ encode_utf8 c)) ⊎ IsEscape text c
 
 -- characters, one after another
 abbrev pub SpellsCharacters : ℕ → List ℕ → List ℕ → Type 0
 SpellsCharacters quote text [] = text ≡ []
-SpellsCharacters quote text (c ∷ cs) = (front : List ℕ) × (rest : List ℕ) × SpellsCharacter quote front c × SpellsCharacters quote rest cs × (text ≡ front ++ rest)
+SpellsCharacters quote text (c ∷ cs) = (front : List ℕ) × (rest : List ℕ)
+    × SpellsCharacter quote front c × SpellsCharacters quote rest cs × (text ≡ front ++ rest)
 
 -- what stands between double quotes stands for these bytes
 abbrev pub SpellsQuoted : List ℕ → List ℕ → Type 0
@@ -138,31 +142,40 @@ abbrev mutual
   -- the whole text spells the value
   pub SpellsShape : List ℕ → Shape → Type 0
   SpellsShape text (decimal n) = IsNumber 10 text n
-  SpellsShape text (hexadecimal n) = (digits : List ℕ) × IsNumber 16 digits n × (text ≡ 48 ∷ 120 ∷ digits)
+  SpellsShape text (hexadecimal n) =
+      (digits : List ℕ) × IsNumber 16 digits n × (text ≡ 48 ∷ 120 ∷ digits)
   SpellsShape text (negative n) = (digits : List ℕ) × IsNumber 10 digits n × (text ≡ 45 ∷ digits)
   SpellsShape text (flag b) = text ≡ flag_word b
-  SpellsShape text (character c) = (inside : List ℕ) × SpellsCharacter 39 inside c × (text ≡ 39 ∷ (inside ++ 39 ∷ []))
-  SpellsShape text (quoted s) = (inside : List ℕ) × SpellsQuoted inside s × (text ≡ 34 ∷ (inside ++ 34 ∷ []))
+  SpellsShape text (character c) =
+      (inside : List ℕ) × SpellsCharacter 39 inside c × (text ≡ 39 ∷ (inside ++ 39 ∷ []))
+  SpellsShape text (quoted s) =
+      (inside : List ℕ) × SpellsQuoted inside s × (text ≡ 34 ∷ (inside ++ 34 ∷ []))
   SpellsShape text (interned name) = IsName name × (text ≡ 64 ∷ name)
   SpellsShape text (bytes bs) = (digits : List ℕ) × SpellsBytes digits bs × (text ≡ 35 ∷ digits)
   SpellsShape text (call name variant shapes) =
-      (mark : List ℕ) × (inside : List ℕ) × IsName name × IsCallMark mark variant × SpellsShapes inside shapes × (text ≡ name ++ (mark ++ 40 ∷ (inside ++ 41 ∷ [])))
+      (mark : List ℕ) × (inside : List ℕ) × IsName name × IsCallMark mark variant
+      × SpellsShapes inside shapes × (text ≡ name ++ (mark ++ 40 ∷ (inside ++ 41 ∷ [])))
   SpellsShape text empty = text ≡ 91 ∷ 93 ∷ []
   SpellsShape text (sequence name items) =
-      (inside : List ℕ) × IsName name × StartsThere inside × SpellsItems inside items × (text ≡ name ++ 91 ∷ (inside ++ 93 ∷ []))
+      (inside : List ℕ) × IsName name × StartsThere inside × SpellsItems inside items
+      × (text ≡ name ++ 91 ∷ (inside ++ 93 ∷ []))
 
   -- values parted by one or more spaces, with spaces at both ends passed over
   pub SpellsShapes : List ℕ → Shapes → Type 0
   SpellsShapes text no_shapes = AreSpaces text
   SpellsShapes text (shape s ss) =
-      (spaces : List ℕ) × (front : List ℕ) × (rest : List ℕ) × AreSpaces spaces × SpellsShape front s × EndsThere rest × SpellsShapes rest ss × (text ≡ spaces ++ (front ++ rest))
+      (spaces : List ℕ) × (front : List ℕ) × (rest : List ℕ) × AreSpaces spaces
+      × SpellsShape front s × EndsThere rest × SpellsShapes rest ss
+      × (text ≡ spaces ++ (front ++ rest))
 
   -- elements parted by one or more spaces; a list has no space next to its brackets and at least one
   -- element, so its text also starts with one
   pub SpellsItems : List ℕ → Items → Type 0
   SpellsItems text no_items = text ≡ []
   SpellsItems text (item variant ss more) =
-      (spaces : List ℕ) × (mark : List ℕ) × (inside : List ℕ) × (rest : List ℕ) × AreSpaces spaces × IsItemMark mark variant × SpellsShapes inside ss × EndsThere rest × SpellsItems rest more × (text ≡ spaces ++ (mark ++ 40 ∷ (inside ++ 41 ∷ rest)))
+      (spaces : List ℕ) × (mark : List ℕ) × (inside : List ℕ) × (rest : List ℕ) × AreSpaces spaces
+      × IsItemMark mark variant × SpellsShapes inside ss × EndsThere rest × SpellsItems rest more
+      × (text ≡ spaces ++ (mark ++ 40 ∷ (inside ++ 41 ∷ rest)))
 
 -- The text begins with this value, and the rest follows. A value's text runs to the next space outside
 -- all brackets and quotes, or to the end. A spelled text has its brackets and quotes in pairs and no space

@@ -35,9 +35,11 @@ Tells (told.Character c) s = s ≡ character c
 Tells (told.Quoted inside) s = (t : List ℕ) × (s ≡ quoted t) × SpellsQuoted inside.now t
 Tells (told.Interned name) s = s ≡ interned name.now
 Tells (told.Bytes digits) s = (bs : List ℕ) × (s ≡ bytes bs) × SpellsBytes digits.now bs
-Tells (told.Call name variant inside) s = (v : Option ℕ) × (ss : Shapes) × (s ≡ call name.now v ss) × HoldsVariant variant v × SpellsShapes inside.now ss
+Tells (told.Call name variant inside) s = (v : Option ℕ) × (ss : Shapes) × (s ≡ call name.now v ss)
+    × HoldsVariant variant v × SpellsShapes inside.now ss
 Tells told.Empty s = s ≡ empty
-Tells (told.Sequence name inside) s = (items : Items) × (s ≡ sequence name.now items) × StartsThere inside.now × SpellsItems inside.now items
+Tells (told.Sequence name inside) s = (items : Items) × (s ≡ sequence name.now items)
+    × StartsThere inside.now × SpellsItems inside.now items
 
 -- the value in front and what follows it, or that there is none
 abbrev pub IsValue : List ℕ → Option (Spelling × Bor (List ℕ)) → Type 0
@@ -50,7 +52,8 @@ FindsValue text (Err e) = Unit {0}
 
 -- The text begins with this element, and the rest follows: a variant or none, `(`, values and `)`,
 -- and then a space or the end.
-pub record HeadItem (text : List ℕ) (variant : Option ℕ) (ss : Shapes) (rest : List ℕ) : Type 0 where
+pub record HeadItem (text : List ℕ) (variant : Option ℕ) (ss : Shapes)
+    (rest : List ℕ) : Type 0 where
   pub mark : List ℕ
   pub inside : List ℕ
   pub is_mark : IsItemMark mark variant
@@ -61,7 +64,8 @@ pub record HeadItem (text : List ℕ) (variant : Option ℕ) (ss : Shapes) (rest
 -- the element in front and what follows it, or that there is none
 abbrev pub IsItem : List ℕ → Option (Item × Bor (List ℕ)) → Type 0
 IsItem text None = (v : Option ℕ) (ss : Shapes) (rest : List ℕ) → HeadItem text v ss rest → ⊥
-IsItem text (Some p) = (v : Option ℕ) × (ss : Shapes) × HeadItem text v ss p.1.now × HoldsVariant p.0.variant v × SpellsShapes p.0.inside.now ss
+IsItem text (Some p) = (v : Option ℕ) × (ss : Shapes) × HeadItem text v ss p.1.now
+    × HoldsVariant p.0.variant v × SpellsShapes p.0.inside.now ss
 
 abbrev pub FindsItem : List ℕ → Result (Option (Item × Bor (List ℕ))) Memory → Type 0
 FindsItem text (Ok o) = IsItem text o
@@ -79,4 +83,5 @@ FirstShape text s ss = (rest : List ℕ) × HeadShape (skip_spaces text) s rest 
 
 -- and the first element
 abbrev pub FirstItem : List ℕ → Option ℕ → Shapes → Items → Type 0
-FirstItem text v ss items = (rest : List ℕ) × HeadItem (skip_spaces text) v ss rest × SpellsItems rest items
+FirstItem text v ss items =
+    (rest : List ℕ) × HeadItem (skip_spaces text) v ss rest × SpellsItems rest items

@@ -9,7 +9,7 @@ ghost use Rattle.defmt_shapes.specs.Escapes.{with_rest, scalar_of, number_escape
 
 use crate::parts::{Class, behind, first_ascii, split_run};
 
-/// What a letter behind `\` stands for.
+// What a letter behind `\` stands for.
 fn escaped(letter: u8) -> Option<char>
     ensures { result ≡ escaped letter }
 {
@@ -24,7 +24,7 @@ fn escaped(letter: u8) -> Option<char>
     }
 }
 
-/// The character that at most six hexadecimal digits name.
+// The character that at most six hexadecimal digits name.
 fn scalar_of(digits: &str) -> Option<char>
     requires { IsNumeral 16 digits.now }
     ensures { result ≡ scalar_of (digits_value 16 digits.now) }
@@ -35,7 +35,7 @@ fn scalar_of(digits: &str) -> Option<char>
     }
 }
 
-/// The character behind `\u`, and what follows it.
+// The character behind `\u`, and what follows it.
 #[tactic(auto, unfolding(crate::specs::Escapes::number_escape))]
 fn number_escape(text: &str) -> Option<(char, &str)>
     ensures parts { with_rest result ≡ number_escape text.now }
@@ -51,7 +51,7 @@ fn number_escape(text: &str) -> Option<(char, &str)>
     Some((character, rest))
 }
 
-/// The character that stands behind `\`, and what follows it.
+// The character that stands behind `\`, and what follows it.
 #[tactic(auto, unfolding(crate::specs::Escapes::escape_of))]
 fn escape_of(text: &str) -> Option<(char, &str)>
     ensures parts { with_rest result ≡ escape_of text.now }
@@ -65,7 +65,7 @@ fn escape_of(text: &str) -> Option<(char, &str)>
     Some((character, rest))
 }
 
-/// The first character, and what follows it.
+// The first character, and what follows it.
 fn first_char(text: &str) -> Option<(char, &str)>
     ensures parts { IsFirstChar text.now (with_rest result) }
     ensures utf8 { IfSome result (λ p. IsUtf8 p.1.now) }

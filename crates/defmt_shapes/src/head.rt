@@ -42,7 +42,7 @@ fn decimal_head(text: &str) -> Option<(Head<'_>, &str)>
     Some((Head::Whole(Whole::Decimal(digits)), rest))
 }
 
-/// Behind `0x`.
+// Behind `0x`.
 #[tactic(auto, unfolding(crate::specs::Leads::hexadecimal_lead))]
 fn hexadecimal_head(text: &str) -> Option<(Head<'_>, &str)>
     ensures parts { view_heads result ≡ hexadecimal_lead text.now }
@@ -55,7 +55,7 @@ fn hexadecimal_head(text: &str) -> Option<(Head<'_>, &str)>
     Some((Head::Whole(Whole::Hexadecimal(digits)), rest))
 }
 
-/// Behind `-`.
+// Behind `-`.
 #[tactic(auto, unfolding(crate::specs::Leads::negative_lead))]
 fn negative_head(text: &str) -> Option<(Head<'_>, &str)>
     ensures parts { view_heads result ≡ negative_lead text.now }
@@ -68,7 +68,7 @@ fn negative_head(text: &str) -> Option<(Head<'_>, &str)>
     Some((Head::Whole(Whole::Negative(digits)), rest))
 }
 
-/// Behind `@`.
+// Behind `@`.
 #[tactic(auto, unfolding(crate::specs::Leads::interned_lead))]
 fn interned_head(text: &str) -> Option<(Head<'_>, &str)>
     ensures parts { view_heads result ≡ interned_lead text.now }
@@ -81,7 +81,7 @@ fn interned_head(text: &str) -> Option<(Head<'_>, &str)>
     Some((Head::Whole(Whole::Interned(name)), rest))
 }
 
-/// Behind `#`.
+// Behind `#`.
 #[tactic(auto, unfolding(crate::specs::Leads::bytes_lead))]
 fn bytes_head(text: &str) -> Option<(Head<'_>, &str)>
     ensures parts { view_heads result ≡ bytes_lead text.now }
@@ -94,7 +94,7 @@ fn bytes_head(text: &str) -> Option<(Head<'_>, &str)>
     Some((Head::Whole(Whole::Bytes(digits)), rest))
 }
 
-/// Behind a name and `:`.
+// Behind a name and `:`.
 #[tactic(auto, unfolding(crate::specs::Leads::variant_lead))]
 fn variant_head<'a>(name: &'a str, text: &'a str) -> Option<(Head<'a>, &'a str)>
     ensures parts { view_heads result ≡ variant_lead name.now text.now }
@@ -108,7 +108,7 @@ fn variant_head<'a>(name: &'a str, text: &'a str) -> Option<(Head<'a>, &'a str)>
     Some((Head::Call(name, Some(digits)), inside))
 }
 
-/// A name that is `true` or `false`.
+// A name that is `true` or `false`.
 #[tactic(auto, unfolding(crate::specs::Leads::flag_lead))]
 fn flag_head<'a>(name: &str, rest: &'a str) -> Option<(Head<'a>, &'a str)>
     ensures parts { view_heads result ≡ flag_lead name.now rest.now }
@@ -123,7 +123,7 @@ fn flag_head<'a>(name: &str, rest: &'a str) -> Option<(Head<'a>, &'a str)>
     }
 }
 
-/// Behind a name.
+// Behind a name.
 #[tactic(auto, unfolding(crate::specs::Leads::named_lead))]
 fn named_head<'a>(name: &'a str, rest: &'a str) -> Option<(Head<'a>, &'a str)>
     ensures parts { view_heads result ≡ named_lead name.now rest.now }
@@ -153,7 +153,7 @@ fn word_head(text: &str) -> Option<(Head<'_>, &str)>
     named_head(name, rest)
 }
 
-/// A number, or what begins with a name.
+// A number, or what begins with a name.
 #[tactic(auto, unfolding(crate::specs::Leads::plain_lead))]
 fn plain_head(text: &str) -> Option<(Head<'_>, &str)>
     ensures parts { view_heads result ≡ plain_lead text.now }
@@ -168,7 +168,7 @@ fn plain_head(text: &str) -> Option<(Head<'_>, &str)>
     }
 }
 
-/// All but what begins with a quote.
+// All but what begins with a quote.
 #[tactic(auto, unfolding(crate::specs::Leads::marked_lead))]
 fn marked_head(text: &str) -> Option<(Head<'_>, &str)>
     ensures parts { view_heads result ≡ marked_lead text.now }

@@ -1,4 +1,6 @@
-//! What the texts of arguments spell, without any table.
+//! What the texts of arguments spell, without any table: docs/SCRIPT.md, "Arguments".
+//!
+//! So `0x1F` spells the number 31, and `true x` begins with a truth value, behind which two bytes stand (script_tests, `shapes`).
 #![tactic(auto)]
 
 mod escape;

@@ -32,9 +32,10 @@ pub fn unescape(alloc: Global, inside: &str) -> Result<Text, Memory>
     Ok(text)
 }
 
-/// The value of a hexadecimal digit.
+// The value of a hexadecimal digit.
 fn digit_of(digit: u8) -> Option<u8>
-    ensures { MatchOption result (16 ≤ digit_value digit) (λ value. (value ≡ digit_value digit) × (value < 16)) }
+    ensures { MatchOption result (16 ≤ digit_value digit)
+        (λ value. (value ≡ digit_value digit) × (value < 16)) }
 {
     match char::from(digit).to_digit(16) {
         Some(value) => Some(value as u8),
@@ -42,7 +43,7 @@ fn digit_of(digit: u8) -> Option<u8>
     }
 }
 
-/// The first two bytes, and what follows them.
+// The first two bytes, and what follows them.
 fn split_pair(digits: &[u8]) -> Option<(u8, u8, &[u8])>
     ensures { MatchOption result (length digits.now < 2) (λ p. digits.now ≡ p.0 ∷ p.1 ∷ p.2.now) }
 {
@@ -55,7 +56,7 @@ fn split_pair(digits: &[u8]) -> Option<(u8, u8, &[u8])>
     Some((*high, *low, rest))
 }
 
-/// The byte that two hexadecimal digits in front stand for, and what follows them.
+// The byte that two hexadecimal digits in front stand for, and what follows them.
 fn first_byte(digits: &[u8]) -> Option<(u8, &[u8])>
     ensures { MatchOption result (NoByte digits.now) (λ p. FirstByte digits.now p.0 p.1.now) }
 {
@@ -78,7 +79,8 @@ fn first_byte(digits: &[u8]) -> Option<(u8, &[u8])>
 /// `Memory` where memory runs out.
 pub fn bytes_of(alloc: Global, digits: &str) -> Result<Bytes, Memory>
     ensures means { IfOk result (λ bytes. MeansBytes digits.now bytes.items) }
-    ensures spelled { (bs : List ℕ) → SpellsBytes digits.now bs → IfOk result (λ bytes. bytes.items ≡ bs) }
+    ensures spelled { (bs : List ℕ) → SpellsBytes digits.now bs
+        → IfOk result (λ bytes. bytes.items ≡ bs) }
 {
     let mut bytes = Bytes::new(alloc);
     let mut rest = digits.as_bytes();

@@ -30,7 +30,7 @@ fn small_number(digits: &str) -> Option<u64>
     Some(number)
 }
 
-/// The number that digits of this radix stand for.
+// The number that digits of this radix stand for.
 pub(crate) fn number_of(digits: &str, radix: u32) -> Number
     requires low { 2 ≤ radix }
     requires high { radix ≤ 36 }
@@ -48,7 +48,7 @@ pub(crate) fn number_of(digits: &str, radix: u32) -> Number
     }
 }
 
-/// The number of a variant.
+// The number of a variant.
 pub(crate) fn variant_of(digits: Option<&str>) -> Option<Number>
     ensures { (v : Option ℕ) → IsMark (option_copied digits.entry) v → HoldsVariant result v }
 {

@@ -22,7 +22,7 @@ pub enum Class {
 }
 
 impl Class {
-    /// Whether the byte is a character of this class.
+    // Whether the byte is a character of this class.
     fn has(self, byte: u8) -> bool
         ensures { result ≡ in_class self byte }
     {

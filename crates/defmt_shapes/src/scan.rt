@@ -20,7 +20,7 @@ pub enum Bracket {
 }
 
 impl Bracket {
-    /// The character that closes the bracket.
+    // The character that closes the bracket.
     fn closing(self) -> char
         ensures value { result ≡ closing self }
         ensures ascii { result < 128 }
@@ -54,7 +54,7 @@ pub enum Step {
     Close,
 }
 
-/// What follows a value or an element inside this bracket.
+// What follows a value or an element inside this bracket.
 fn after_step(bracket: Bracket, text: &str) -> Option<(Step, &str)>
     ensures parts { step_rest result ≡ after_step bracket text.now }
     ensures utf8 { IfSome result (λ p. IsUtf8 p.1.now) }
@@ -68,7 +68,7 @@ fn after_step(bracket: Bracket, text: &str) -> Option<(Step, &str)>
     None
 }
 
-/// What a value's head makes of the place behind it.
+// What a value's head makes of the place behind it.
 #[tactic(auto, using(crate::proofs::ScanLaws::whole_ends))]
 fn step_of(head: Head<'_>) -> Step
     ensures { result ≡ step_of_lead (view_head head.entry) }
@@ -80,7 +80,7 @@ fn step_of(head: Head<'_>) -> Step
     }
 }
 
-/// What the text goes on with inside this bracket.
+// What the text goes on with inside this bracket.
 fn next_step(bracket: Bracket, place: Place, text: &str) -> Option<(Step, &str)>
     ensures parts { IsStep bracket place text.now (step_rest result) }
     ensures utf8 { IfSome result (λ p. IsUtf8 p.1.now) }

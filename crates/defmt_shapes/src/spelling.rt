@@ -61,16 +61,17 @@ pub struct Item<'a> {
     pub inside: &'a str,
 }
 
-/// Whether a value may end before this rest: it is empty or begins with a space.
+// Whether a value may end before this rest: it is empty or begins with a space.
 fn ends_there(rest: &str) -> bool
     ensures { result ≡ ends_there rest.now }
 {
     rest.is_empty() || behind(rest, ' ').is_some()
 }
 
-/// The spelling of a value without values inside.
+// The spelling of a value without values inside.
 fn spelling_of(whole: Whole<'_>) -> Spelling<'_>
-    ensures { (after : List ℕ) (rest : List ℕ) (s : AnyShape) → Leads (view_whole whole.entry) after rest s → Tells result s }
+    ensures { (after : List ℕ) (rest : List ℕ) (s : AnyShape)
+        → Leads (view_whole whole.entry) after rest s → Tells result s }
 {
     match whole {
         Whole::Decimal(digits) => Spelling::Decimal(number_of(digits, 10)),

@@ -27,7 +27,9 @@ abbrev mutual
   val_code (istr a0) = gcons (gnum 5) (coded_ℕ.code a0)
   val_code (bytes a0) = gcons (gnum 6) ((coded_list coded_ℕ).code a0)
   val_code (bits a0) = gcons (gnum 7) (coded_ℕ.code a0)
-  val_code (format a0 a1 a2) = gcons (gnum 8) (gcons (coded_ℕ.code a0) (gcons ((coded_option coded_ℕ).code a1) (vals_code a2)))
+  val_code (format a0 a1 a2) =
+      gcons (gnum 8)
+      (gcons (coded_ℕ.code a0) (gcons ((coded_option coded_ℕ).code a1) (vals_code a2)))
   val_code (seq a0 a1) = gcons (gnum 9) (gcons ((coded_option coded_ℕ).code a0) (elems_code a1))
 
   pub vals_code : Vals → Gv
@@ -36,7 +38,8 @@ abbrev mutual
 
   pub elems_code : Elems → Gv
   elems_code no_elems = gnil
-  elems_code (elem o vs es) = gcons ((coded_option coded_ℕ).code o) (gcons (vals_code vs) (elems_code es))
+  elems_code (elem o vs es) =
+      gcons ((coded_option coded_ℕ).code o) (gcons (vals_code vs) (elems_code es))
 
 mutual
   pub val_inj : (x y : Val) → val_code x ≡ val_code y → x ≡ y
@@ -106,7 +109,8 @@ mutual
   val_inj (bytes a0) (char b0) p = absurd (apart 6 3 p (omega arith))
   val_inj (bytes a0) (str b0) p = absurd (apart 6 4 p (omega arith))
   val_inj (bytes a0) (istr b0) p = absurd (apart 6 5 p (omega arith))
-  val_inj (bytes a0) (bytes b0) p = λ i. bytes ((coded_list coded_ℕ).inj a0 b0 (ap (λ g. tail g) p) i)
+  val_inj (bytes a0) (bytes b0) p =
+      λ i. bytes ((coded_list coded_ℕ).inj a0 b0 (ap (λ g. tail g) p) i)
   val_inj (bytes a0) (bits b0) p = absurd (apart 6 7 p (omega arith))
   val_inj (bytes a0) (format b0 b1 b2) p = absurd (apart 6 8 p (omega arith))
   val_inj (bytes a0) (seq b0 b1) p = absurd (apart 6 9 p (omega arith))
@@ -128,7 +132,10 @@ mutual
   val_inj (format a0 a1 a2) (istr b0) p = absurd (apart 8 5 p (omega arith))
   val_inj (format a0 a1 a2) (bytes b0) p = absurd (apart 8 6 p (omega arith))
   val_inj (format a0 a1 a2) (bits b0) p = absurd (apart 8 7 p (omega arith))
-  val_inj (format a0 a1 a2) (format b0 b1 b2) p = λ i. format (coded_ℕ.inj a0 b0 (ap (λ g. head (tail g)) p) i) ((coded_option coded_ℕ).inj a1 b1 (ap (λ g. head (tail (tail g))) p) i) (vals_inj a2 b2 (ap (λ g. tail (tail (tail g))) p) i)
+  val_inj (format a0 a1 a2) (format b0 b1 b2) p =
+      λ i. format (coded_ℕ.inj a0 b0 (ap (λ g. head (tail g)) p) i)
+      ((coded_option coded_ℕ).inj a1 b1 (ap (λ g. head (tail (tail g))) p) i)
+      (vals_inj a2 b2 (ap (λ g. tail (tail (tail g))) p) i)
   val_inj (format a0 a1 a2) (seq b0 b1) p = absurd (apart 8 9 p (omega arith))
   val_inj (seq a0 a1) (uint b0) p = absurd (apart 9 0 p (omega arith))
   val_inj (seq a0 a1) (int b0) p = absurd (apart 9 1 p (omega arith))
@@ -139,19 +146,25 @@ mutual
   val_inj (seq a0 a1) (bytes b0) p = absurd (apart 9 6 p (omega arith))
   val_inj (seq a0 a1) (bits b0) p = absurd (apart 9 7 p (omega arith))
   val_inj (seq a0 a1) (format b0 b1 b2) p = absurd (apart 9 8 p (omega arith))
-  val_inj (seq a0 a1) (seq b0 b1) p = λ i. seq ((coded_option coded_ℕ).inj a0 b0 (ap (λ g. head (tail g)) p) i) (elems_inj a1 b1 (ap (λ g. tail (tail g)) p) i)
+  val_inj (seq a0 a1) (seq b0 b1) p =
+      λ i. seq ((coded_option coded_ℕ).inj a0 b0 (ap (λ g. head (tail g)) p) i)
+      (elems_inj a1 b1 (ap (λ g. tail (tail g)) p) i)
 
   pub vals_inj : (x y : Vals) → vals_code x ≡ vals_code y → x ≡ y
   vals_inj no_vals no_vals p = refl
   vals_inj no_vals (val w ws) p = absurd (cc)
   vals_inj (val v vs) no_vals p = absurd (cc)
-  vals_inj (val v vs) (val w ws) p = λ i. val (val_inj v w (ap (λ g. head g) p) i) (vals_inj vs ws (ap (λ g. tail g) p) i)
+  vals_inj (val v vs) (val w ws) p =
+      λ i. val (val_inj v w (ap (λ g. head g) p) i) (vals_inj vs ws (ap (λ g. tail g) p) i)
 
   pub elems_inj : (x y : Elems) → elems_code x ≡ elems_code y → x ≡ y
   elems_inj no_elems no_elems p = refl
   elems_inj no_elems (elem o ws es) p = absurd (cc)
   elems_inj (elem o vs es) no_elems p = absurd (cc)
-  elems_inj (elem o vs es) (elem q ws fs) p = λ i. elem ((coded_option coded_ℕ).inj o q (ap (λ g. head g) p) i) (vals_inj vs ws (ap (λ g. head (tail g)) p) i) (elems_inj es fs (ap (λ g. tail (tail g)) p) i)
+  elems_inj (elem o vs es) (elem q ws fs) p =
+      λ i. elem ((coded_option coded_ℕ).inj o q (ap (λ g. head g) p) i)
+      (vals_inj vs ws (ap (λ g. head (tail g)) p) i)
+      (elems_inj es fs (ap (λ g. tail (tail g)) p) i)
 
 abbrev pub coded_vals : Coded Vals
 coded_vals = record { code = vals_code; inj = vals_inj }

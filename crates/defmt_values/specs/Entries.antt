@@ -47,7 +47,8 @@ pub record Place : Type 0 where
 -- the places of slots, of which the first has this position
 abbrev pub places_from : List Piece → ℕ → List Slot → List Place
 places_from ps position [] = []
-places_from ps position (slot ∷ slots) = record { slot = slot; uses = uses_at position ps } ∷ places_from ps (position + 1) slots
+places_from ps position (slot ∷ slots) =
+    record { slot = slot; uses = uses_at position ps } ∷ places_from ps (position + 1) slots
 
 -- the places of all positions
 abbrev pub places_of : List Piece → List Place

@@ -29,7 +29,8 @@ most_items : (es : List Item) → most (λ e. deep-Item e) es ≤ elems_size (el
 most_items [] = omega arith
 most_items (e ∷ es) = omega (arith, most_items es)
 
-pub values_fall : (vs : List Value) → max (most (λ v. deep-Value v) vs) 0 ≤ vals_size (vals_of (map plain vs))
+pub values_fall : (vs : List Value)
+    → max (most (λ v. deep-Value v) vs) 0 ≤ vals_size (vals_of (map plain vs))
 values_fall vs = omega (arith, most_values vs)
 
 pub items_fall : (es : List Item) → max (most (λ e. deep-Item e) es) 0 ≤ elems_size (elems_of es)

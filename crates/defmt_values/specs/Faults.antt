@@ -32,7 +32,8 @@ NextFault one (p ∷ ps) weight before (val v vs) cause = one p.slot (p.uses * w
 
 -- Fitting values stand in front, and what comes next is refused. The text that the places belong to has a weight, and
 -- `before` is the sum of the weights in front of it all. `one` says what is refused of one value.
-pub record EachFault (t : Map) (left : ℕ) (one : OneFault) (places : List Place) (weight before : ℕ) (vs : Vals) (cause : ℕ) : Type 0 where
+pub record EachFault (t : Map) (left : ℕ) (one : OneFault) (places : List Place) (weight before : ℕ)
+    (vs : Vals) (cause : ℕ) : Type 0 where
   pub front : List Place
   pub others : List Place
   pub places_is : places ≡ front ++ others
@@ -49,16 +50,19 @@ pub record EachFault (t : Map) (left : ℕ) (one : OneFault) (places : List Plac
 abbrev pub FormFault : Map → ℕ → OneFault → Parsed → ℕ → ℕ → Option ℕ → Vals → ℕ → Type 0
 FormFault t left one form weight before variant vs cause = ((8192 < before + weight) × (cause ≡ 7))
     ⊎ ((before + weight ≤ 8192) × (pick form variant ≡ Err cause))
-    ⊎ ((ps : List Piece) × (before + weight ≤ 8192) × (pick form variant ≡ Ok ps) × EachFault t left one (places_of ps) weight (before + weight) vs cause)
+    ⊎ ((ps : List Piece) × (before + weight ≤ 8192) × (pick form variant ≡ Ok ps)
+    × EachFault t left one (places_of ps) weight (before + weight) vs cause)
 
 -- a Format value: no level is left for it, then its entry doesn't suit or was refused, then its form is refused
 abbrev pub NodeFault : Map → ℕ → Level → ℕ → ℕ → ℕ → Option ℕ → Vals → ℕ → Type 0
 NodeFault t left no_level weight before index variant vs cause = cause ≡ 6
 NodeFault t left (level one) weight before index variant vs cause = (form_at t index ≡ Err cause)
-    ⊎ ((form : Parsed) × (form_at t index ≡ Ok form) × FormFault t left one form weight before variant vs cause)
+    ⊎ ((form : Parsed) × (form_at t index ≡ Ok form)
+    × FormFault t left one form weight before variant vs cause)
 
 -- fitting elements stand in front, and the next one is refused
-pub record ElemsFault (t : Map) (left : ℕ) (one : OneFault) (index : ℕ) (form : Parsed) (weight before : ℕ) (es : Elems) (cause : ℕ) : Type 0 where
+pub record ElemsFault (t : Map) (left : ℕ) (one : OneFault) (index : ℕ) (form : Parsed)
+    (weight before : ℕ) (es : Elems) (cause : ℕ) : Type 0 where
   pub front : Elems
   pub variant : Option ℕ
   pub values : Vals
@@ -66,13 +70,17 @@ pub record ElemsFault (t : Map) (left : ℕ) (one : OneFault) (index : ℕ) (for
   pub elems_is : es ≡ join_elems front (elem variant values rest)
   pub fits : FitsElems t left form front
   pub light : before + weigh_elems t index weight front ≤ 8192
-  pub next : FormFault t left one form weight (before + weigh_elems t index weight front) variant values cause
+  pub next : FormFault t left one form weight
+      (before + weigh_elems t index weight front) variant values cause
 
 -- a list of some elements: its entry is looked for once, then come the elements, then an array's number of them
 abbrev pub ListFault : Map → ℕ → OneFault → Slot → ℕ → ℕ → Option ℕ → Elems → ℕ → Type 0
 ListFault t left one slot weight before index es cause = (list_form t index ≡ Err cause)
-    ⊎ ((form : Parsed) × (list_form t index ≡ Ok form) × ElemsFault t left one (index_or index) form weight before es cause)
-    ⊎ ((form : Parsed) × (list_form t index ≡ Ok form) × FitsElems t left form es × (before + weigh_elems t (index_or index) weight es ≤ 8192) × (count_cause slot (elems_len es) ≡ Err cause))
+    ⊎ ((form : Parsed) × (list_form t index ≡ Ok form)
+    × ElemsFault t left one (index_or index) form weight before es cause)
+    ⊎ ((form : Parsed) × (list_form t index ≡ Ok form) × FitsElems t left form es
+    × (before + weigh_elems t (index_or index) weight es ≤ 8192)
+    × (count_cause slot (elems_len es) ≡ Err cause))
 
 -- a list without elements: it has an index, or its array has another number of elements than 0; a list of some elements:
 -- no level is left, or what `ListFault` says
@@ -80,7 +88,8 @@ abbrev pub SeqFault : Map → ℕ → Level → Slot → ℕ → ℕ → Option 
 SeqFault t left l slot weight before index no_elems cause = (no_index index ≡ Err cause)
     ⊎ ((index ≡ None) × (count_cause slot 0 ≡ Err cause))
 SeqFault t left no_level slot weight before index (elem variant vs es) cause = cause ≡ 6
-SeqFault t left (level one) slot weight before index (elem variant vs es) cause = ListFault t left one slot weight before index (elem variant vs es) cause
+SeqFault t left (level one) slot weight before index (elem variant vs es) cause =
+    ListFault t left one slot weight before index (elem variant vs es) cause
 
 -- ---- one value
 
@@ -110,4 +119,5 @@ fault_at t (suc left) = ValFault t left (level (fault_at t left))
 -- weight 1; nothing stands in front of them, and 16 levels may be opened
 abbrev pub StatementFault : Map → ℕ → Vals → ℕ → Type 0
 StatementFault t index vs cause = (own_form (look t index) ≡ Err cause)
-    ⊎ ((ps : List Piece) × (own_form (look t index) ≡ Ok ps) × EachFault t 16 (fault_at t 16) (places_of ps) 1 0 vs cause)
+    ⊎ ((ps : List Piece) × (own_form (look t index) ≡ Ok ps)
+    × EachFault t 16 (fault_at t 16) (places_of ps) 1 0 vs cause)

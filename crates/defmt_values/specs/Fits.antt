@@ -57,11 +57,13 @@ pub record IsForm (t : Map) (index : ℕ) (form : Parsed) : Type 0 where
 -- the pieces are the form's own, or those of this variant
 abbrev pub HasPieces : Parsed → Option ℕ → List Piece → Type 0
 HasPieces form None ps = form ≡ One ps
-HasPieces form (Some v) ps = (forms : List (List Piece)) × (form ≡ Variants forms) × (variant_at forms v ≡ Some ps)
+HasPieces form (Some v) ps =
+    (forms : List (List Piece)) × (form ≡ Variants forms) × (variant_at forms v ≡ Some ps)
 
 -- a list may have this many elements
 abbrev pub IsList : Slot → ℕ → Type 0
-IsList slot count = (slot ≡ slots.One kinds.FormatSlice) ⊎ (slot ≡ slots.One (kinds.FormatArray count))
+IsList slot count =
+    (slot ≡ slots.One kinds.FormatSlice) ⊎ (slot ≡ slots.One (kinds.FormatArray count))
 
 abbrev mutual
   -- left levels of Format values may stand round those inside the value
@@ -75,19 +77,23 @@ abbrev mutual
   FitsVal t left slot (bytes s) = IsBytes slot (length s)
   FitsVal t left slot (bits n) = IsBits slot n
   FitsVal t left slot (format index variant vs) =
-      (form : Parsed) × (ps : List Piece) × (slot ≡ slots.One kinds.Format) × (0 < left) × IsForm t index form × HasPieces form variant ps × FitsVals t (left - 1) (places_of ps) vs
+      (form : Parsed) × (ps : List Piece) × (slot ≡ slots.One kinds.Format) × (0 < left)
+      × IsForm t index form × HasPieces form variant ps × FitsVals t (left - 1) (places_of ps) vs
   FitsVal t left slot (seq index es) = IsList slot (elems_len es) × (
       ((es ≡ no_elems) × (index ≡ None))
-      ⊎ ((i : ℕ) × (form : Parsed) × (index ≡ Some i) × (0 < elems_len es) × (0 < left) × IsForm t i form × FitsElems t (left - 1) form es))
+      ⊎ ((i : ℕ) × (form : Parsed) × (index ≡ Some i) × (0 < elems_len es) × (0 < left)
+      × IsForm t i form × FitsElems t (left - 1) form es))
 
   -- each value fits its place, and each place has one
   pub FitsVals : Map → ℕ → List Place → Vals → Type 0
   FitsVals t left places no_vals = places ≡ []
-  FitsVals t left places (val v vs) = (p : Place) × (ps : List Place) × (places ≡ p ∷ ps) × FitsVal t left p.slot v × FitsVals t left ps vs
+  FitsVals t left places (val v vs) = (p : Place) × (ps : List Place) × (places ≡ p ∷ ps)
+      × FitsVal t left p.slot v × FitsVals t left ps vs
 
   pub FitsElems : Map → ℕ → Parsed → Elems → Type 0
   FitsElems t left form no_elems = Unit {0}
-  FitsElems t left form (elem variant vs es) = (ps : List Piece) × HasPieces form variant ps × FitsVals t left (places_of ps) vs × FitsElems t left form es
+  FitsElems t left form (elem variant vs es) = (ps : List Piece) × HasPieces form variant ps
+      × FitsVals t left (places_of ps) vs × FitsElems t left form es
 
 -- ---- the weights of Format values and elements: how often each is printed
 
@@ -101,18 +107,21 @@ abbrev mutual
   weigh_val t weight (istr index) = 0
   weigh_val t weight (bytes s) = 0
   weigh_val t weight (bits n) = 0
-  weigh_val t weight (format index variant vs) = weight + weigh_vals t (node_places t index variant) weight vs
+  weigh_val t weight (format index variant vs) =
+      weight + weigh_vals t (node_places t index variant) weight vs
   weigh_val t weight (seq index es) = weigh_elems t (index_or index) weight es
 
   -- a value's weight is that of the text in which its position stands, as often as the text uses the position
   pub weigh_vals : Map → List Place → ℕ → Vals → ℕ
   weigh_vals t places weight no_vals = 0
   weigh_vals t [] weight (val v vs) = 0
-  weigh_vals t (p ∷ ps) weight (val v vs) = weigh_val t (p.uses * weight) v + weigh_vals t ps weight vs
+  weigh_vals t (p ∷ ps) weight (val v vs) =
+      weigh_val t (p.uses * weight) v + weigh_vals t ps weight vs
 
   pub weigh_elems : Map → ℕ → ℕ → Elems → ℕ
   weigh_elems t index weight no_elems = 0
-  weigh_elems t index weight (elem variant vs es) = weight + weigh_vals t (node_places t index variant) weight vs + weigh_elems t index weight es
+  weigh_elems t index weight (elem variant vs es) =
+      weight + weigh_vals t (node_places t index variant) weight vs + weigh_elems t index weight es
 
 -- The statement fits the table: 16 levels at most, and all weights together at most 8,192.
 pub record Fits (t : Map) (index : ℕ) (vs : Vals) : Type 0 where

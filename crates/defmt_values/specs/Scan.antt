@@ -63,7 +63,8 @@ bytes_cause slot count = Err 3
 
 -- a number of bit fields has no bit outside the bytes of its window
 abbrev pub bits_cause : Slot → ℕ → Result (Unit {0}) ℕ
-bits_cause (slots.Bits first width) n = test (nat_lt n (256 ^ (first + width)) && (n % 256 ^ first == 0)) 4
+bits_cause (slots.Bits first width) n =
+    test (nat_lt n (256 ^ (first + width)) && (n % 256 ^ first == 0)) 4
 bits_cause slot n = Err 3
 
 abbrev pub node_cause : Slot → Result (Unit {0}) ℕ
@@ -172,7 +173,8 @@ unfoldable mutual
   pub scan_vals : Map → ℕ → List Place → ℕ → ℕ → Vals → Result ℕ ℕ
   scan_vals t left places weight sum no_vals = end_of places sum
   scan_vals t left [] weight sum (val v vs) = Err 2
-  scan_vals t left (p ∷ ps) weight sum (val v vs) = scan_val t left p.slot (p.uses * weight) sum v >>= λ r. scan_vals t left ps weight r vs
+  scan_vals t left (p ∷ ps) weight sum (val v vs) =
+      scan_val t left p.slot (p.uses * weight) sum v >>= λ r. scan_vals t left ps weight r vs
 
   pub scan_elems : Map → ℕ → Parsed → ℕ → ℕ → Elems → Result ℕ ℕ
   scan_elems t left form weight sum no_elems = Ok sum
@@ -230,5 +232,10 @@ opened t left slot weight sum index variant =
 
 -- the form of a list's elements where it has some, or the first cause in front of them
 abbrev pub started : Map → ℕ → Slot → Option ℕ → Bool → Result (Option Parsed) ℕ
-started t left slot index true = list_cause slot >>= λ _. no_index index >>= λ _. count_cause slot 0 >>= λ _. Ok None
-started t left slot index false = list_cause slot >>= λ _. test (nat_lt 0 left) 6 >>= λ _. list_form t index >>= λ form. Ok (Some form)
+started t left slot index true =
+    list_cause slot >>= λ _. no_index index >>= λ _. count_cause slot 0 >>= λ _. Ok None
+started t left slot index false =
+    list_cause slot >>= λ _.
+    test (nat_lt 0 left) 6 >>= λ _.
+    list_form t index >>= λ form.
+    Ok (Some form)

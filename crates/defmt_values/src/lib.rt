@@ -1,15 +1,20 @@
 //! Statements: the values of a format string's arguments, and whether they fit a table.
+//!
+//! A value fits where its parameter takes it (the defmt book, on the arguments of log statements): 255 fits `{=u8}`, and 256 is
+//! refused with cause 4 (text_tests, `values`).
 #![tactic(auto)]
 
+mod entries;
 mod fitting;
 mod law;
+mod leaves;
+mod numbers;
 mod sound;
 mod value;
 
-pub use fitting::{
-    check, cut, form_of, is_below, is_format, is_interned, is_logged, is_multiple, is_of_bits,
-    is_signed, look_up, own_form, pick, power, size_bits,
-};
+pub use entries::{form_of, is_format, is_interned, is_logged, look_up, own_form, pick};
+pub use fitting::{check, cut};
 pub use law::one_cause;
+pub use numbers::{is_below, is_multiple, is_of_bits, is_signed, power, size_bits};
 pub use sound::args_are_sound;
 pub use value::{Args, Item, Items, Node, Seq, Statement, Value};

@@ -13,7 +13,9 @@ text_at at bytes = to_zero (drop at bytes)
 
 -- the name, or what stands between its double quotes
 abbrev pub IsUnquoted : List ℕ → List ℕ → Type 0
-IsUnquoted name inner = (name ≡ 34 ∷ (inner ++ 34 ∷ [])) ⊎ ((inner ≡ name) × ((text : List ℕ) → name ≡ 34 ∷ (text ++ 34 ∷ []) → ⊥))
+IsUnquoted name inner =
+    (name ≡ 34 ∷ (inner ++ 34 ∷ []))
+    ⊎ ((inner ≡ name) × ((text : List ℕ) → name ≡ 34 ∷ (text ++ 34 ∷ []) → ⊥))
 
 -- what stands behind a front, where the text begins with it
 abbrev pub IsBehind : List ℕ → List ℕ → Option (Bor (List ℕ)) → Type 0

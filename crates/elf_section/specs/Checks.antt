@@ -110,23 +110,29 @@ Holds file is_little = slice_index file 5 ≡ 1
 Holds file has_header = header_len (class_of file) ≤ length file
 Holds file has_sections = 0 < (header file).shnum
 Holds file has_entry_size = (header file).shentsize ≡ section_len (class_of file)
-Holds file has_section_headers = (header file).shoff + (header file).shnum * section_len (class_of file) ≤ length file
-Holds file has_names = ((header file).shstrndx < (header file).shnum) × Fits file (section file (header file).shstrndx)
+Holds file has_section_headers =
+    (header file).shoff + (header file).shnum * section_len (class_of file) ≤ length file
+Holds file has_names =
+    ((header file).shstrndx < (header file).shnum) × Fits file (section file (header file).shstrndx)
 Holds file (has_section_name i) = i < (header file).shnum → IsSome (section_name file i)
 Holds file has_defmt = (i : ℕ) × IsDefmt file i
 Holds file has_symbols = (i : ℕ) × IsSymbols file i
 Holds file (has_table i) = IsSymbols file i → IsTable file i
 Holds file (has_plain_strings i) = IsSymbols file i → IsPlain (strings file i)
 Holds file (has_strings i) = IsSymbols file i → Fits file (strings file i)
-Holds file (has_symbol_name k) = (i : ℕ) → IsSymbols file i → 0 < k → k < count file i → IsSome (symbol_name file i k)
+Holds file (has_symbol_name k) =
+    (i : ℕ) → IsSymbols file i → 0 < k → k < count file i → IsSome (symbol_name file i k)
 Holds file has_version = (i : ℕ) → IsSymbols file i → HasMarker file i version_front (codes "4")
-Holds file has_encoding = (i : ℕ) → IsSymbols file i → HasMarker file i encoding_front (codes "rzcobs")
+Holds file has_encoding =
+    (i : ℕ) → IsSymbols file i → HasMarker file i encoding_front (codes "rzcobs")
 Holds file has_profile = (i : ℕ) → IsSymbols file i
-    → SaysOnly file i profile_front (profile_word profiles.One) ⊎ SaysOnly file i profile_front (profile_word profiles.Two)
+    → SaysOnly file i profile_front (profile_word profiles.One)
+    ⊎ SaysOnly file i profile_front (profile_word profiles.Two)
 
 -- some symbol says the second profile
 abbrev pub SaysTwo : List ℕ → Type 0
-SaysTwo file = (i : ℕ) × (k : ℕ) × IsSymbols file i × Says file i profile_front k (profile_word profiles.Two)
+SaysTwo file =
+    (i : ℕ) × (k : ℕ) × IsSymbols file i × Says file i profile_front k (profile_word profiles.Two)
 
 -- the profile that a file says: the second where some symbol says so, else the first
 abbrev pub ProfileIs : List ℕ → Profile → Type 0

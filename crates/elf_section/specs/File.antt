@@ -23,8 +23,18 @@ symbol_len Elf32 = 16
 symbol_len Elf64 = 24
 
 unfoldable pub header_in : Class → List ℕ → Header
-header_in Elf32 file = record { shoff = number 32 4 file; shentsize = number 46 2 file; shnum = number 48 2 file; shstrndx = number 50 2 file }
-header_in Elf64 file = record { shoff = number 40 8 file; shentsize = number 58 2 file; shnum = number 60 2 file; shstrndx = number 62 2 file }
+header_in Elf32 file = record {
+  shoff = number 32 4 file;
+  shentsize = number 46 2 file;
+  shnum = number 48 2 file;
+  shstrndx = number 50 2 file;
+}
+header_in Elf64 file = record {
+  shoff = number 40 8 file;
+  shentsize = number 58 2 file;
+  shnum = number 60 2 file;
+  shstrndx = number 62 2 file;
+}
 
 unfoldable pub section_in : Class → ℕ → List ℕ → Section
 section_in Elf32 at file = record {
@@ -47,8 +57,16 @@ section_in Elf64 at file = record {
 }
 
 unfoldable pub symbol_in : Class → ℕ → List ℕ → RawSymbol
-symbol_in Elf32 at file = record { name = number at 4 file; value = number (at + 4) 4 file; section = number (at + 14) 2 file }
-symbol_in Elf64 at file = record { name = number at 4 file; value = number (at + 8) 8 file; section = number (at + 6) 2 file }
+symbol_in Elf32 at file = record {
+  name = number at 4 file;
+  value = number (at + 4) 4 file;
+  section = number (at + 14) 2 file;
+}
+symbol_in Elf64 at file = record {
+  name = number at 4 file;
+  value = number (at + 8) 8 file;
+  section = number (at + 6) 2 file;
+}
 
 -- ---- of a file
 
@@ -59,7 +77,8 @@ abbrev pub header : List ℕ → Header
 header file = header_in (class_of file) file
 
 abbrev pub section : List ℕ → ℕ → Section
-section file i = section_in (class_of file) ((header file).shoff + i * section_len (class_of file)) file
+section file i =
+    section_in (class_of file) ((header file).shoff + i * section_len (class_of file)) file
 
 -- the section lies in the file
 abbrev pub Fits : List ℕ → Section → Type 0
@@ -110,7 +129,8 @@ abbrev pub count : List ℕ → ℕ → ℕ
 count file i = (section file i).size / symbol_len (class_of file)
 
 abbrev pub symbol : List ℕ → ℕ → ℕ → RawSymbol
-symbol file i k = symbol_in (class_of file) ((section file i).offset + k * symbol_len (class_of file)) file
+symbol file i k =
+    symbol_in (class_of file) ((section file i).offset + k * symbol_len (class_of file)) file
 
 abbrev pub symbol_name : List ℕ → ℕ → ℕ → Option (List ℕ)
 symbol_name file i k = text_at (symbol file i k).name (contents file (strings file i))

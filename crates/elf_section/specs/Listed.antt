@@ -22,10 +22,12 @@ is_braced name = slice_index name 0 == 123
 
 -- the symbol k of the table in section i lies in section d, and its name begins with `{`
 abbrev pub is_listed : List ℕ → ℕ → ℕ → ℕ → Bool
-is_listed file d i k = ((symbol file i k).section == d) && is_braced (unwrap_or (symbol_name file i k) [])
+is_listed file d i k =
+    ((symbol file i k).section == d) && is_braced (unwrap_or (symbol_name file i k) [])
 
 abbrev pub symbol_of : List ℕ → ℕ → ℕ → PlainSymbol
-symbol_of file i k = record { name = unwrap_or (symbol_name file i k) []; value = (symbol file i k).value }
+symbol_of file i k =
+    record { name = unwrap_or (symbol_name file i k) []; value = (symbol file i k).value }
 
 -- those of the symbols below n, but for symbol 0, in their order
 abbrev pub symbols_below : List ℕ → ℕ → ℕ → ℕ → List PlainSymbol
@@ -51,7 +53,8 @@ Carries file symbols profile = Lists file symbols × ProfileIs file profile
 -- the symbols, the first refusal, or want of memory
 abbrev pub ReadsSymbols : List ℕ → Result (Vec Symbol Global) ElfFault → Type 0
 ReadsSymbols file (Ok v) = Lists file (plain_all v.items)
-ReadsSymbols file (Err (faults.Refused cause part place)) = Refused file (record { cause = cause; part = part; place = place })
+ReadsSymbols file (Err (faults.Refused cause part place)) =
+    Refused file (record { cause = cause; part = part; place = place })
 ReadsSymbols file (Err faults.Memory) = Unit {0}
 
 -- these symbols, unless memory runs out
@@ -63,7 +66,8 @@ GivesOnly (Err faults.Memory) symbols = Unit {0}
 -- the profile, the first refusal, or want of memory
 abbrev pub ReadsProfile : List ℕ → Result Profile ElfFault → Type 0
 ReadsProfile file (Ok profile) = HasProfile file profile
-ReadsProfile file (Err (faults.Refused cause part place)) = Refused file (record { cause = cause; part = part; place = place })
+ReadsProfile file (Err (faults.Refused cause part place)) =
+    Refused file (record { cause = cause; part = part; place = place })
 ReadsProfile file (Err faults.Memory) = Unit {0}
 
 -- this profile, unless memory runs out
@@ -75,19 +79,22 @@ TellsOnly (Err faults.Memory) profile = Unit {0}
 -- symbols and profile, the first refusal, or want of memory
 abbrev pub ReadsListing : List ℕ → Result Listing ElfFault → Type 0
 ReadsListing file (Ok listing) = Carries file (plain_all listing.symbols.items) listing.profile
-ReadsListing file (Err (faults.Refused cause part place)) = Refused file (record { cause = cause; part = part; place = place })
+ReadsListing file (Err (faults.Refused cause part place)) =
+    Refused file (record { cause = cause; part = part; place = place })
 ReadsListing file (Err faults.Memory) = Unit {0}
 
 -- these symbols and this profile, unless memory runs out
 abbrev pub ListsOnly : Result Listing ElfFault → List PlainSymbol → Profile → Type 0
-ListsOnly (Ok listing) symbols profile = (plain_all listing.symbols.items ≡ symbols) × (listing.profile ≡ profile)
+ListsOnly (Ok listing) symbols profile =
+    (plain_all listing.symbols.items ≡ symbols) × (listing.profile ≡ profile)
 ListsOnly (Err (faults.Refused cause part place)) symbols profile = ⊥
 ListsOnly (Err faults.Memory) symbols profile = Unit {0}
 
 -- this refusal, unless memory runs out
 abbrev pub RefusesOnly : {A : Type 0} → Result A ElfFault → Refusal → Type 0
 RefusesOnly (Ok found) refusal = ⊥
-RefusesOnly (Err (faults.Refused cause part place)) refusal = refusal ≡ record { cause = cause; part = part; place = place }
+RefusesOnly (Err (faults.Refused cause part place)) refusal =
+    refusal ≡ record { cause = cause; part = part; place = place }
 RefusesOnly (Err faults.Memory) refusal = Unit {0}
 
 -- ---- for private clauses
@@ -95,5 +102,6 @@ RefusesOnly (Err faults.Memory) refusal = Unit {0}
 -- what the checks so far have found, the first refusal, or want of memory
 abbrev pub Gets : {T : Type 0} → List ℕ → (T → Type 0) → Result T ElfFault → Type 0
 Gets file Has (Ok found) = Has found
-Gets file Has (Err (faults.Refused cause part place)) = Refused file (record { cause = cause; part = part; place = place })
+Gets file Has (Err (faults.Refused cause part place)) =
+    Refused file (record { cause = cause; part = part; place = place })
 Gets file Has (Err faults.Memory) = Unit {0}

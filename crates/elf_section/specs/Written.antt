@@ -64,16 +64,19 @@ names rs = flat_map ended rs
 abbrev pub header_bytes : ℕ → List ℕ
 header_bytes shoff =
     (0x7f ∷ 0x45 ∷ 0x4c ∷ 0x46 ∷ 1 ∷ 1 ∷ 1 ∷ 0 ∷ 0 ∷ 0 ∷ 0 ∷ 0 ∷ 0 ∷ 0 ∷ 0 ∷ 0 ∷ [])
-    ++ (half 2 ++ (half 40 ++ (word 1 ++ (word 0 ++ (word 0 ++ (word shoff ++ (word 0 ++ (half 52 ++ (half 0 ++ (half 0 ++ (half 40 ++ (half 5 ++ half 4))))))))))))
+    ++ (half 2 ++ (half 40 ++ (word 1 ++ (word 0 ++ (word 0 ++ (word shoff ++ (word 0 ++ (half 52
+    ++ (half 0 ++ (half 0 ++ (half 40 ++ (half 5 ++ half 4))))))))))))
 
 -- one entry of the symbol table
 abbrev pub symbol_bytes : ℕ → ℕ → ℕ → ℕ → List ℕ
-symbol_bytes name value info section = word name ++ (word value ++ (word 0 ++ (info ∷ 0 ∷ half section)))
+symbol_bytes name value info section =
+    word name ++ (word value ++ (word 0 ++ (info ∷ 0 ∷ half section)))
 
 -- the entries of rows, of which the first name stands at this place of the strings
 abbrev pub entries : ℕ → List Row → List ℕ
 entries at [] = []
-entries at (r ∷ more) = symbol_bytes at r.value 16 r.section ++ entries (at + length r.name + 1) more
+entries at (r ∷ more) =
+    symbol_bytes at r.value 16 r.section ++ entries (at + length r.name + 1) more
 
 abbrev pub symbol_table : List Row → List ℕ
 symbol_table rs = symbol_bytes 0 0 0 0 ++ entries 1 rs
@@ -82,7 +85,9 @@ abbrev pub string_table : List Row → List ℕ
 string_table rs = 0 ∷ names rs
 
 abbrev pub section_names : List ℕ
-section_names = 0 ∷ (codes ".defmt" ++ 0 ∷ (codes ".symtab" ++ 0 ∷ (codes ".strtab" ++ 0 ∷ (codes ".shstrtab" ++ 0 ∷ []))))
+section_names =
+    0 ∷ (codes ".defmt" ++ 0 ∷ (codes ".symtab" ++ 0 ∷ (codes ".strtab"
+    ++ 0 ∷ (codes ".shstrtab" ++ 0 ∷ []))))
 
 -- ---- places and sizes
 
@@ -104,7 +109,8 @@ sections_at rs = names_at rs + 34 + padding_len (names_at rs + 34)
 
 abbrev pub section_bytes : ℕ → ℕ → ℕ → ℕ → ℕ → ℕ → ℕ → ℕ → List ℕ
 section_bytes name kind offset size link info align entry_size =
-    word name ++ (word kind ++ (word 0 ++ (word 0 ++ (word offset ++ (word size ++ (word link ++ (word info ++ (word align ++ word entry_size))))))))
+    word name ++ (word kind ++ (word 0 ++ (word 0 ++ (word offset ++ (word size ++ (word link
+    ++ (word info ++ (word align ++ word entry_size))))))))
 
 -- the section headers for so many rows and so many bytes of strings
 abbrev pub headers_for : ℕ → ℕ → List ℕ
@@ -148,7 +154,8 @@ braced symbols = filter (λ s. is_braced s.name) symbols
 
 -- if the name begins as this marker, it has this value
 abbrev pub KeepsMarker : List ℕ → List ℕ → List ℕ → Type 0
-KeepsMarker front value name = (inner rest : List ℕ) → IsUnquoted name inner → inner ≡ front ++ rest → rest ≡ value
+KeepsMarker front value name =
+    (inner rest : List ℕ) → IsUnquoted name inner → inner ≡ front ++ rest → rest ≡ value
 
 -- no name of the list speaks of another version, encoding or profile
 pub record KeepsMarkers (p : Profile) (symbols : List PlainSymbol) : Type 0 where

@@ -16,21 +16,24 @@ fn is_elf(file: &[u8]) -> bool
 
 fn has_class(file: &[u8]) -> bool
     requires { Passed file.now 1 }
-    ensures { MatchBool result (Holds file.now check.has_class) (Holds file.now check.has_class → ⊥) }
+    ensures { MatchBool result (Holds file.now check.has_class)
+        (Holds file.now check.has_class → ⊥) }
 {
     file[4] == 1 || file[4] == 2
 }
 
 fn is_little(file: &[u8]) -> bool
     requires { Passed file.now 1 }
-    ensures { MatchBool result (Holds file.now check.is_little) (Holds file.now check.is_little → ⊥) }
+    ensures { MatchBool result (Holds file.now check.is_little)
+        (Holds file.now check.is_little → ⊥) }
 {
     file[5] == 1
 }
 
 fn has_header(file: &[u8]) -> bool
     requires { Passed file.now 1 }
-    ensures { MatchBool result (Holds file.now check.has_header) (Holds file.now check.has_header → ⊥) }
+    ensures { MatchBool result (Holds file.now check.has_header)
+        (Holds file.now check.has_header → ⊥) }
 {
     class_of(file).header_len() <= file.len() as u64
 }
@@ -47,21 +50,24 @@ pub fn header_of(file: &[u8]) -> Header
 
 fn has_sections(file: &[u8]) -> bool
     requires { Passed file.now 4 }
-    ensures { MatchBool result (Holds file.now check.has_sections) (Holds file.now check.has_sections → ⊥) }
+    ensures { MatchBool result (Holds file.now check.has_sections)
+        (Holds file.now check.has_sections → ⊥) }
 {
     0 < header_of(file).shnum
 }
 
 fn has_entry_size(file: &[u8]) -> bool
     requires { Passed file.now 4 }
-    ensures { MatchBool result (Holds file.now check.has_entry_size) (Holds file.now check.has_entry_size → ⊥) }
+    ensures { MatchBool result (Holds file.now check.has_entry_size)
+        (Holds file.now check.has_entry_size → ⊥) }
 {
     header_of(file).shentsize == class_of(file).section_len()
 }
 
 fn has_section_headers(file: &[u8]) -> bool
     requires { Passed file.now 4 }
-    ensures { MatchBool result (Holds file.now check.has_section_headers) (Holds file.now check.has_section_headers → ⊥) }
+    ensures { MatchBool result (Holds file.now check.has_section_headers)
+        (Holds file.now check.has_section_headers → ⊥) }
 {
     let header = header_of(file);
     let size = header.shnum * class_of(file).section_len();

@@ -1,4 +1,7 @@
 //! The symbols of the section `.defmt` of an ELF file and the profile that its markers say, read and written.
+//!
+//! The file is one of 32 or 64 bits, little-endian (ELF gABI), whose markers name the version 4 and the encoding rzcobs (the defmt
+//! book, "Interning"). One that is cut behind 15 bytes is refused with cause 1 (elf_tests, `symbols`).
 #![tactic(auto)]
 
 mod bytes;

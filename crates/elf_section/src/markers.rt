@@ -9,7 +9,7 @@ use crate::fault::{Cause, Fault};
 use crate::table::{SymbolTable, symbol_name};
 use defmt_intern::Profile;
 
-/// What a symbol says behind a front.
+// What a symbol says behind a front.
 fn says<'a>(file: &[u8], table: &'a SymbolTable<'_>, k: u64, front: &[u8]) -> Option<&'a [u8]>
     requires open { IsOpen file.now table.now }
     requires above { 0 < k }
@@ -22,7 +22,7 @@ fn says<'a>(file: &[u8], table: &'a SymbolTable<'_>, k: u64, front: &[u8]) -> Op
     }
 }
 
-/// Whether a symbol says something behind a front.
+// Whether a symbol says something behind a front.
 fn says_any(file: &[u8], table: &SymbolTable<'_>, k: u64, front: &[u8]) -> bool
     requires open { IsOpen file.now table.now }
     requires above { 0 < k }
@@ -36,7 +36,7 @@ fn says_any(file: &[u8], table: &SymbolTable<'_>, k: u64, front: &[u8]) -> bool
     }
 }
 
-/// Whether some symbol does.
+// Whether some symbol does.
 fn is_said(file: &[u8], table: &SymbolTable<'_>, front: &[u8]) -> bool
     requires { IsOpen file.now table.now }
     ensures { MatchBool result (IsSaid file.now table.now.number front.now)
@@ -50,7 +50,7 @@ fn is_said(file: &[u8], table: &SymbolTable<'_>, front: &[u8]) -> bool
     false
 }
 
-/// Whether some symbol says this value behind the front, and none another.
+// Whether some symbol says this value behind the front, and none another.
 fn has_marker(file: &[u8], table: &SymbolTable<'_>, front: &[u8], value: &[u8]) -> bool
     requires { IsOpen file.now table.now }
     ensures { MatchBool result (HasMarker file.now table.now.number front.now value.now)
@@ -83,7 +83,7 @@ pub fn check_markers(file: &[u8], table: &SymbolTable<'_>) -> Result<(), Fault>
     Ok(())
 }
 
-/// The profile that the symbols say, the first where none speaks of one.
+// The profile that the symbols say, the first where none speaks of one.
 fn said_profile(file: &[u8], table: &SymbolTable<'_>) -> Option<Profile>
     requires { IsOpen file.now table.now }
     ensures { SayProfile file.now table.now.number result }

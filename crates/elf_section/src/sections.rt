@@ -43,7 +43,8 @@ pub fn contents<'a>(file: &'a [u8], section: &Section) -> &'a [u8]
 
 fn has_names(file: &[u8]) -> bool
     requires { Passed file.now 7 }
-    ensures { MatchBool result (Holds file.now check.has_names) (Holds file.now check.has_names → ⊥) }
+    ensures { MatchBool result (Holds file.now check.has_names)
+        (Holds file.now check.has_names → ⊥) }
 {
     let header = header_of(file);
     header.shstrndx < header.shnum && fits(file, &section(file, header.shstrndx))

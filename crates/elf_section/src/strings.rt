@@ -14,7 +14,7 @@ use std::marker::Model;
 #[derive(Drop)]
 pub struct StringTable<'a> {
     bytes: &'a [u8],
-    /// How many bytes stand from place 64, 128 and so on to the next zero or the end.
+    // How many bytes stand from place 64, 128 and so on to the next zero or the end.
     gaps: Vec<u32>,
 }
 
@@ -29,7 +29,7 @@ impl<'a> Model for StringTable<'a> {
     ghost invariant = { λ t. HasGaps t.bytes.now t.gaps.items };
 }
 
-/// How many bytes stand from `at` to the next zero or the end, where `after` do so from `stop` on.
+// How many bytes stand from `at` to the next zero or the end, where `after` do so from `stop` on.
 fn gap_from(bytes: &[u8], at: usize, stop: usize, after: usize) -> usize
     requires order { at ≤ stop }
     requires inside { stop ≤ length bytes.now }
@@ -41,7 +41,7 @@ fn gap_from(bytes: &[u8], at: usize, stop: usize, after: usize) -> usize
     if here < stop - at { here } else { here + after }
 }
 
-/// The gaps from the places 64, 128 and so on.
+// The gaps from the places 64, 128 and so on.
 fn gaps_of(alloc: Global, bytes: &[u8]) -> Result<Vec<u32>, AllocError>
     requires { length bytes.now < 2 ^ 32 }
     ensures { IfOk result (λ v. HasGaps bytes.now v.items) }

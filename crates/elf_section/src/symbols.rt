@@ -31,14 +31,14 @@ pub struct Listing {
     pub profile: Profile,
 }
 
-/// The symbol table of a file that passes, and the file's profile.
+// The symbol table of a file that passes, and the file's profile.
 #[derive(Drop)]
 struct Checked<'a> {
     table: SymbolTable<'a>,
     profile: Profile,
 }
 
-/// Whether symbol `k` lies in section `defmt` with a name that begins with `{`.
+// Whether symbol `k` lies in section `defmt` with a name that begins with `{`.
 fn is_listed(file: &[u8], defmt: u64, table: &SymbolTable<'_>, k: u64) -> bool
     requires open { IsOpen file.now table.now }
     requires below { k < table.now.count }
@@ -73,7 +73,8 @@ fn collect(
     table: &SymbolTable<'_>,
 ) -> Result<Vec<Symbol>, Memory>
     requires open { IsOpen file.now table.now }
-    ensures symbols { IfOk result (λ v. plain_all v.items ≡ symbols_below file.now defmt table.now.number table.now.count) }
+    ensures symbols { IfOk result
+        (λ v. plain_all v.items ≡ symbols_below file.now defmt table.now.number table.now.count) }
     ensures few { IfOk result (λ v. length v.items ≤ table.now.count) }
 {
     let mut symbols = Vec::new(alloc);
@@ -158,7 +159,8 @@ pub fn read_symbols(alloc: Global, file: &[u8]) -> Result<Vec<Symbol>, ElfFault>
     ensures answer { ReadsSymbols file.now result }
 
     // Unless memory runs out, what the file lists is answered, and its refusal.
-    ensures listed { (symbols : List PlainSymbol) → Lists file.now symbols → GivesOnly result symbols }
+    ensures listed { (symbols : List PlainSymbol) → Lists file.now symbols
+        → GivesOnly result symbols }
     ensures refused { (refusal : Refusal) → Refused file.now refusal → RefusesOnly result refusal }
 
     // There are no more symbols than bytes.

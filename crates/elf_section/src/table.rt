@@ -62,7 +62,7 @@ pub fn check_table(file: &[u8], i: u64) -> Result<(), Fault>
     Ok(())
 }
 
-/// How many symbols there are.
+// How many symbols there are.
 fn count(file: &[u8], i: u64) -> u64
     requires passed { Passed file.now 14 }
     requires symbols { IsSymbols file.now i }

@@ -29,7 +29,7 @@ fn push_word(out: &mut Bytes, number: u32) -> Result<(), Memory>
     out.extend_from_slice(&bytes)
 }
 
-/// The ELF header, with the place of the section headers.
+// The ELF header, with the place of the section headers.
 #[tactic(auto, unfolding(crate::specs::Written::half, crate::specs::Written::word))]
 fn push_header(out: &mut Bytes, shoff: u32) -> Result<(), Memory>
     ensures { OnOk result (out.new.items ≡ out.old.items ++ header_bytes shoff) }
@@ -44,7 +44,7 @@ fn push_header(out: &mut Bytes, shoff: u32) -> Result<(), Memory>
     Ok(())
 }
 
-/// An entry of the symbol table: the place of the name, the value, `st_info` and the section.
+// An entry of the symbol table: the place of the name, the value, `st_info` and the section.
 fn push_symbol(out: &mut Bytes, name: u32, value: u32, info: u8, section: u16) -> Result<(), Memory>
     ensures { OnOk result (out.new.items ≡ out.old.items ++ symbol_bytes name value info section) }
 {
@@ -57,8 +57,8 @@ fn push_symbol(out: &mut Bytes, name: u32, value: u32, info: u8, section: u16) -
     Ok(())
 }
 
-/// A section header: the place of the name and the type, the section's place and size, `sh_link` and
-/// `sh_info`, the alignment and the size of an entry.
+// A section header: the place of the name and the type, the section's place and size, `sh_link` and
+// `sh_info`, the alignment and the size of an entry.
 fn push_section(
     out: &mut Bytes,
     name: (u32, u32),
@@ -66,7 +66,8 @@ fn push_section(
     links: (u32, u32),
     units: (u32, u32),
 ) -> Result<(), Memory>
-    ensures { OnOk result (out.new.items ≡ out.old.items ++ section_bytes name.0 name.1 part.0 part.1 links.0 links.1 units.0 units.1) }
+    ensures { OnOk result (out.new.items ≡ out.old.items
+        ++ section_bytes name.0 name.1 part.0 part.1 links.0 links.1 units.0 units.1) }
 {
     push_word(out, name.0)?;
     push_word(out, name.1)?;
@@ -81,7 +82,7 @@ fn push_section(
     Ok(())
 }
 
-/// The names of the markers, each with its zero.
+// The names of the markers, each with its zero.
 fn marker_names(profile: Profile) -> &'static [u8]
     ensures { result.now ≡ names (markers profile) }
 {
@@ -91,7 +92,7 @@ fn marker_names(profile: Profile) -> &'static [u8]
     }
 }
 
-/// How many bytes these are.
+// How many bytes these are.
 fn markers_len(profile: Profile) -> u32
     ensures value { result ≡ length (names (markers profile)) }
     ensures small { result ≤ 66 }
@@ -102,7 +103,7 @@ fn markers_len(profile: Profile) -> u32
     }
 }
 
-/// How many markers there are.
+// How many markers there are.
 fn marker_count(profile: Profile) -> u32
     ensures value { result ≡ length (markers profile) }
     ensures small { result ≤ 3 }
@@ -113,7 +114,7 @@ fn marker_count(profile: Profile) -> u32
     }
 }
 
-/// How many symbols stand behind the null symbol.
+// How many symbols stand behind the null symbol.
 fn count_of(list: &[Symbol], profile: Profile) -> u32
     requires { IsWritable (plain_all list.now) }
     ensures value { result ≡ length (rows profile (plain_all list.now)) }
@@ -123,7 +124,7 @@ fn count_of(list: &[Symbol], profile: Profile) -> u32
     count + list.len() as u32
 }
 
-/// How many bytes the names of the list have, each with its zero.
+// How many bytes the names of the list have, each with its zero.
 fn names_len(symbols: &[Symbol]) -> u32
     requires { IsWritable (plain_all symbols.now) }
     ensures { result ≡ length (names (listed_all (plain_all symbols.now))) }
@@ -135,7 +136,7 @@ fn names_len(symbols: &[Symbol]) -> u32
     len
 }
 
-/// The symbols that are markers.
+// The symbols that are markers.
 fn push_markers(out: &mut Bytes, profile: Profile) -> Result<(), Memory>
     ensures { OnOk result (out.new.items ≡ out.old.items ++ entries 1 (markers profile)) }
 {
@@ -150,7 +151,7 @@ fn push_markers(out: &mut Bytes, profile: Profile) -> Result<(), Memory>
     }
 }
 
-/// The symbols of the list, of which the first name stands at this place of the strings.
+// The symbols of the list, of which the first name stands at this place of the strings.
 fn push_list(out: &mut Bytes, symbols: &[Symbol], first: u32) -> Result<(), Memory>
     requires writable { IsWritable (plain_all symbols.now) }
     requires first { first ≤ 67 }
@@ -165,7 +166,7 @@ fn push_list(out: &mut Bytes, symbols: &[Symbol], first: u32) -> Result<(), Memo
     Ok(())
 }
 
-/// The symbol table: the null symbol, the markers and the list.
+// The symbol table: the null symbol, the markers and the list.
 fn push_symbols(out: &mut Bytes, symbols: &[Symbol], profile: Profile) -> Result<(), Memory>
     requires { IsWritable (plain_all symbols.now) }
     ensures { OnOk result (out.new.items
@@ -178,7 +179,7 @@ fn push_symbols(out: &mut Bytes, symbols: &[Symbol], profile: Profile) -> Result
     Ok(())
 }
 
-/// The names of the list, each with its zero.
+// The names of the list, each with its zero.
 fn push_names(out: &mut Bytes, symbols: &[Symbol]) -> Result<(), Memory>
     ensures { OnOk result (out.new.items
         ≡ out.old.items ++ names (listed_all (plain_all symbols.now))) }
@@ -190,7 +191,7 @@ fn push_names(out: &mut Bytes, symbols: &[Symbol]) -> Result<(), Memory>
     Ok(())
 }
 
-/// The strings of the symbol table.
+// The strings of the symbol table.
 fn push_strings(out: &mut Bytes, symbols: &[Symbol], profile: Profile) -> Result<(), Memory>
     ensures { OnOk result (out.new.items
         ≡ out.old.items ++ string_table (rows profile (plain_all symbols.now))) }
@@ -201,7 +202,7 @@ fn push_strings(out: &mut Bytes, symbols: &[Symbol], profile: Profile) -> Result
     Ok(())
 }
 
-/// At most three zeros.
+// At most three zeros.
 fn push_zeros(out: &mut Bytes, count: u32) -> Result<(), Memory>
     requires { count ≤ 3 }
     ensures { OnOk result (out.new.items ≡ out.old.items ++ replicate count 0) }
@@ -210,7 +211,7 @@ fn push_zeros(out: &mut Bytes, count: u32) -> Result<(), Memory>
     Ok(())
 }
 
-/// The five section headers: none, `.defmt`, `.symtab`, `.strtab` and `.shstrtab`.
+// The five section headers: none, `.defmt`, `.symtab`, `.strtab` and `.shstrtab`.
 fn push_sections(out: &mut Bytes, count: u32, strings: u32) -> Result<(), Memory>
     requires count { count ≤ 65539 }
     requires strings { strings < 2 ^ 31 }
@@ -225,8 +226,8 @@ fn push_sections(out: &mut Bytes, count: u32, strings: u32) -> Result<(), Memory
     Ok(())
 }
 
-/// The parts of the file, one after another. The strings have so many bytes, so many zeros stand in front of the section
-/// headers, and these lie at this place.
+// The parts of the file, one after another. The strings have so many bytes, so many zeros stand in front of the section
+// headers, and these lie at this place.
 fn push_parts(
     out: &mut Bytes,
     list: &[Symbol],

@@ -25,7 +25,8 @@ other_len (Other name) = length name
 other_len tag = 0
 
 abbrev pub entry_size : Entry → ℕ
-entry_size entry = length entry.«package» + length entry.text + length entry.disambiguator + other_len entry.tag
+entry_size entry =
+    length entry.«package» + length entry.text + length entry.disambiguator + other_len entry.tag
 
 abbrev pub item_size : ℕ × Entry → ℕ
 item_size item = entry_size item.1
@@ -36,7 +37,8 @@ size_of table = sum_by item_size (tables.entries table)
 
 -- no `Other` spells one of the eleven tags
 abbrev pub AreSpelled : Map → Type 0
-AreSpelled table = (index : ℕ) (entry : Entry) → tables.get table index ≡ Some entry → IsSpelled entry.tag
+AreSpelled table =
+    (index : ℕ) (entry : Entry) → tables.get table index ≡ Some entry → IsSpelled entry.tag
 
 -- ---- for private clauses
 

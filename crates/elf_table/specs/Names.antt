@@ -51,19 +51,25 @@ Holds symbols (has_entry p) = (s : PlainSymbol) → At symbols p s → (e : Entr
 -- its value is an index
 Holds symbols (is_small p) = (s : PlainSymbol) → At symbols p s → s.value ≤ 65535
 -- no earlier symbol has its value
-Holds symbols (is_single p) = (s : PlainSymbol) → At symbols p s → (q : ℕ) (t : PlainSymbol) → q < p → At symbols q t → t.value ≢ s.value
+Holds symbols (is_single p) = (s : PlainSymbol) → At symbols p s → (q : ℕ) (t : PlainSymbol) → q < p
+    → At symbols q t → t.value ≢ s.value
 -- its text isn't too long
-Holds symbols (is_short p) = (s : PlainSymbol) (e : Entry) → At symbols p s → Names s.name e → length e.text ≤ 4096
+Holds symbols (is_short p) =
+    (s : PlainSymbol) (e : Entry) → At symbols p s → Names s.name e → length e.text ≤ 4096
 -- if it is the timestamp's, no earlier one is
-Holds symbols (is_one_stamp p) = (s : PlainSymbol) (e : Entry) → At symbols p s → Names s.name e → e.tag ≡ Timestamp → (q : ℕ) (t : PlainSymbol) (f : Entry) → q < p → At symbols q t → Names t.name f → f.tag ≢ Timestamp
+Holds symbols (is_one_stamp p) = (s : PlainSymbol) (e : Entry) → At symbols p s → Names s.name e
+    → e.tag ≡ Timestamp → (q : ℕ) (t : PlainSymbol) (f : Entry) → q < p → At symbols q t
+    → Names t.name f → f.tag ≢ Timestamp
 
 -- ---- the file's table, and its refusals
 
 -- the table has exactly the pairs of the symbols' values and entries
 pub record IsTableOf (symbols : List PlainSymbol) (table : Map) : Type 0 where
   pub passes : (check : NameCheck) → Holds symbols check
-  pub each : (p : ℕ) (s : PlainSymbol) (e : Entry) → At symbols p s → Names s.name e → map.get table s.value ≡ Some e
-  pub only : (i : ℕ) (e : Entry) → map.get table i ≡ Some e → (p : ℕ) × (s : PlainSymbol) × At symbols p s × (s.value ≡ i) × Names s.name e
+  pub each : (p : ℕ) (s : PlainSymbol) (e : Entry) → At symbols p s → Names s.name e
+      → map.get table s.value ≡ Some e
+  pub only : (i : ℕ) (e : Entry) → map.get table i ≡ Some e
+      → (p : ℕ) × (s : PlainSymbol) × At symbols p s × (s.value ≡ i) × Names s.name e
 
 -- the first refusal of the symbols
 pub record NamesRefused (symbols : List PlainSymbol) (cause : ℕ) (symbol : ℕ) : Type 0 where
@@ -89,7 +95,8 @@ pub record SymbolRefused (file : List ℕ) (cause symbol : ℕ) : Type 0 where
 
 abbrev pub ReadsTable : List ℕ → Result Table LoadFault → Type 0
 ReadsTable file (Ok table) = NamesTable file table
-ReadsTable file (Err (faults.Elf cause part place)) = Refused file (record { cause = cause; part = part; place = place })
+ReadsTable file (Err (faults.Elf cause part place)) =
+    Refused file (record { cause = cause; part = part; place = place })
 ReadsTable file (Err (faults.Names cause symbol)) = SymbolRefused file cause symbol
 ReadsTable file (Err faults.Memory) = Unit {0}
 
@@ -105,8 +112,10 @@ AnswersOnly (Err faults.Memory) wanted = Unit {0}
 -- the table of the symbols below n
 pub record Made (symbols : List PlainSymbol) (n : ℕ) (table : Map) : Type 0 where
   pub passed : (check : NameCheck) → (place check).row < n → Holds symbols check
-  pub each : (p : ℕ) (s : PlainSymbol) (e : Entry) → p < n → At symbols p s → Names s.name e → map.get table s.value ≡ Some e
-  pub only : (i : ℕ) (e : Entry) → map.get table i ≡ Some e → (p : ℕ) × (s : PlainSymbol) × (p < n) × At symbols p s × (s.value ≡ i) × Names s.name e
+  pub each : (p : ℕ) (s : PlainSymbol) (e : Entry) → p < n → At symbols p s → Names s.name e
+      → map.get table s.value ≡ Some e
+  pub only : (i : ℕ) (e : Entry) → map.get table i ≡ Some e
+      → (p : ℕ) × (s : PlainSymbol) × (p < n) × At symbols p s × (s.value ≡ i) × Names s.name e
 
 abbrev pub cause_number : Cause → ℕ
 cause_number causes.Name = 3
@@ -117,7 +126,10 @@ abbrev pub IsUnread : PlainSymbol → Type 0
 IsUnread s = (e : Entry) → Names s.name e → ⊥
 
 abbrev pub StepRefused : Map → PlainSymbol → ℕ → Type 0
-StepRefused table s cause = ((cause ≡ 3) × IsUnread s) ⊎ (((cause ≡ 6) × (65535 < s.value) × ((e : Entry) × Names s.name e)) ⊎ ((e : Entry) × Names s.name e × (s.value ≤ 65535) × InsertRefused table s.value e cause))
+StepRefused table s cause =
+    ((cause ≡ 3) × IsUnread s)
+    ⊎ (((cause ≡ 6) × (65535 < s.value) × ((e : Entry) × Names s.name e))
+    ⊎ ((e : Entry) × Names s.name e × (s.value ≤ 65535) × InsertRefused table s.value e cause))
 
 pub record Puts (old new : Map) (s : PlainSymbol) : Type 0 where
   pub entry : Entry
@@ -132,7 +144,8 @@ Steps old s (Err (steps.Refused cause)) new = StepRefused old s (cause_number ca
 Steps old s (Err steps.Memory) new = Unit {0}
 
 abbrev pub Makes : List PlainSymbol → Profile → Result Table LoadFault → Type 0
-Makes symbols profile (Ok table) = Made symbols (length symbols) table.entries × (table.profile ≡ profile)
+Makes symbols profile (Ok table) =
+    Made symbols (length symbols) table.entries × (table.profile ≡ profile)
 Makes symbols profile (Err (faults.Elf cause part place)) = ⊥
 Makes symbols profile (Err (faults.Names cause symbol)) = NamesRefused symbols cause symbol
 Makes symbols profile (Err faults.Memory) = Unit {0}

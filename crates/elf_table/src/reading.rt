@@ -12,7 +12,7 @@ use defmt_intern::{NameFault, Profile, Table, TableFault, read_name};
 use elf_section::{ElfFault, Symbol, read_listing};
 use std::alloc::Global;
 
-/// Puts the entry that a symbol names into the table.
+// Puts the entry that a symbol names into the table.
 fn put_symbol(alloc: Global, table: &mut Table, symbol: &Symbol) -> Result<(), StepFault>
     ensures steps { Steps table.old.entries (plain symbol.now) result table.new.entries }
     ensures profile { table.new.profile ≡ table.old.profile }
@@ -36,7 +36,7 @@ fn put_symbol(alloc: Global, table: &mut Table, symbol: &Symbol) -> Result<(), S
     }
 }
 
-/// The table of these symbols and this profile.
+// The table of these symbols and this profile.
 fn table_of(alloc: Global, symbols: &[Symbol], profile: Profile) -> Result<Table, LoadFault>
     requires { length symbols.now < 2 ^ 32 }
     ensures { Makes (plain_all symbols.now) profile result }

@@ -15,10 +15,10 @@ use dl_io::{Bytes, Memory};
 use elf_section::{Symbol, write_symbols};
 use std::alloc::Global;
 
-/// The size of a table's texts, in bytes, up to which it can be written.
+// The size of a table's texts, in bytes, up to which it can be written.
 const MAX_SIZE: usize = 1 << 26;
 
-/// What is left of the bytes behind those of an entry's texts, `None` where it has more.
+// What is left of the bytes behind those of an entry's texts, `None` where it has more.
 fn left_behind(left: usize, entry: &Entry) -> Option<usize>
     ensures { SomeIff result (entry_size entry.now ≤ left) (left - entry_size entry.now) }
 {
@@ -53,7 +53,7 @@ pub fn size_grows()
         → size_of (map.insert table index entry) ≡ size_of table + entry_size entry }
 {}
 
-/// The symbol of an entry.
+// The symbol of an entry.
 fn symbol_for(alloc: Global, entry: &Entry, index: u16) -> Result<Symbol, Memory>
     ensures value { IfOk result (λ symbol. plain symbol ≡ symbol_of (index, entry.now)) }
     ensures named { IfOk result (λ _. IsNamed (index, entry.now)) }
@@ -67,9 +67,10 @@ fn symbol_for(alloc: Global, entry: &Entry, index: u16) -> Result<Symbol, Memory
     })
 }
 
-/// The symbols of the entries, in the order of their indexes.
+// The symbols of the entries, in the order of their indexes.
 fn symbols_of(alloc: Global, table: &Table) -> Result<Vec<Symbol>, Memory>
-    ensures value { IfOk result (λ symbols. plain_all symbols.items ≡ symbols_in table.now.entries) }
+    ensures value { IfOk result
+        (λ symbols. plain_all symbols.items ≡ symbols_in table.now.entries) }
     ensures named { IfOk result (λ _. All IsNamed (map.entries table.now.entries)) }
     ensures few { IfOk result (λ _. map.len table.now.entries ≤ 65536) }
 {

@@ -20,7 +20,8 @@ coded_bytes = coded_list coded_ℕ
 
 abbrev coded_up : Coded Up
 coded_up = code_by (List ℕ × (ℕ × (List ℕ × (List ℕ × (ℕ × (ℕ × (ℕ × Bool)))))))
-    (coded× coded_bytes (coded× coded_ℕ (coded× coded_bytes (coded× coded_bytes (coded× coded_ℕ (coded× coded_ℕ (coded× coded_ℕ coded_bool)))))))
+    (coded× coded_bytes (coded× coded_ℕ (coded× coded_bytes (coded× coded_bytes (coded× coded_ℕ
+    (coded× coded_ℕ (coded× coded_ℕ coded_bool)))))))
     (λ u. (u.split, (u.size, (u.sent, (u.staged, (u.room, (u.looks, (u.freed, u.tells))))))))
     (λ p. record {
       split = p.0;

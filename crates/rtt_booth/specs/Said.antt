@@ -9,7 +9,9 @@ use Rattle.rtt_terminal.specs.Stream.{Line, screens, spoken}
 -- the lines of the words in order
 abbrev pub lines_of : Speech → List Word → List Line
 lines_of speech [] = []
-lines_of speech (w ∷ words) = option_to_list (option_map line_of (slice_get (said_by speech w.writer) w.place)) ++ lines_of speech words
+lines_of speech (w ∷ words) =
+    option_to_list (option_map line_of (slice_get (said_by speech w.writer) w.place))
+    ++ lines_of speech words
 
 -- the same with their switches
 abbrev pub spoken_by : Speech → List Word → List ℕ
@@ -24,12 +26,14 @@ screens_by speech words = screens (lines_of speech words)
 -- the places of a writer's words, in order
 abbrev pub places : ℕ → List Word → List ℕ
 places writer [] = []
-places writer (w ∷ words) = if w.writer == writer then w.place ∷ places writer words else places writer words
+places writer (w ∷ words) =
+    if w.writer == writer then w.place ∷ places writer words else places writer words
 
 -- how many words a writer has
 abbrev pub words_of : ℕ → List Word → ℕ
 words_of writer [] = 0
-words_of writer (w ∷ words) = if w.writer == writer then words_of writer words + 1 else words_of writer words
+words_of writer (w ∷ words) =
+    if w.writer == writer then words_of writer words + 1 else words_of writer words
 
 -- the numbers from this one on, one after another
 abbrev pub Runs : ℕ → List ℕ → Type 0

@@ -1,4 +1,4 @@
-// The booth.
+//! The booth.
 ghost use Rattle.std.specs.Prelude.{◌≡◌, ◌+◌, ◌<◌, [], ◌∷◌, IfOk};
 ghost use Rattle.rtt_booth.specs.Said.{IsLawful, spoken_by, words_of};
 ghost use Rattle.rtt_ring.specs.Views.{new_up};

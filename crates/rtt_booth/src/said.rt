@@ -1,4 +1,4 @@
-// The words that were said, with a reserved room.
+//! The words that were said, with a reserved room.
 ghost use Rattle.std.specs.Prelude.{◌≡◌, ◌+◌, ◌<◌, [], ◌∷◌, ◌++◌, length, max, OnOk, OnErr};
 
 use dl_io::Memory;

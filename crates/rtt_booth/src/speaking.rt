@@ -1,4 +1,4 @@
-// What a booth's writers share.
+//! What a booth's writers share.
 ghost use Rattle.std.specs.Prelude.{◌≡◌};
 ghost use Rattle.std.specs.Coded.{Coded-set};
 ghost use Rattle.rtt_terminal.specs.Codes.{coded_speech};

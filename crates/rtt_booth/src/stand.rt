@@ -1,4 +1,4 @@
-// The stand.
+//! The stand.
 ghost use Rattle.std.specs.Prelude.{◌≡◌, ◌≤◌, ◌<◌, ◌++◌, ◌∷◌, [], IfOk, length, take};
 ghost use Rattle.rtt_booth.specs.Kept.{IsKept, line_from, word};
 ghost use Rattle.rtt_booth.specs.Said.{words_of};

@@ -38,7 +38,8 @@ Counts xs turns = (length xs ≡ 8) × ((w : ℕ) → w < 8 → slice_index_or x
 
 -- The turns are steered by what was got, of which each took at most 192 bytes; the writers' next places, what was heard,
 -- and the room for all statements that a script can have.
-pub record Steers (s : Script) (got : List ℕ) (reel : Reel) (places : List ℕ) (line : Option (List ℕ)) (seen : ℕ) (floor : Level) : Type 0 where
+pub record Steers (s : Script) (got : List ℕ) (reel : Reel) (places : List ℕ)
+    (line : Option (List ℕ)) (seen : ℕ) (floor : Level) : Type 0 where
   pub steered : IsSteered s reel.turns got
   pub counts : Counts places reel.turns
   pub heard : Heard got line seen floor
@@ -59,7 +60,8 @@ pub record Turned (s : Script) (d e : Down) (c n : Course) (w : ℕ) (t : Turn) 
 
 -- what a bridge keeps of its parts: the sheet, the course of its turns, the sites of the script, the numbers of its stamps,
 -- and the buffers for a message and a frame
-pub record IsWorking (d : Sheet) (course : Course) (sites : Sites) (pace : Pace) (message frame : List ℕ) : Type 0 where
+pub record IsWorking (d : Sheet) (course : Course) (sites : Sites) (pace : Pace)
+    (message frame : List ℕ) : Type 0 where
   pub kept : IsKept d
   pub steers : SteersBy d.script d.down.got course
   pub sites_are : HasSites d.script sites

@@ -10,7 +10,9 @@ IsMode bytes = (words : List (List ℕ)) × Says bytes (head Mode words)
 -- The number of the first of these lines that is so, where the first has this number, and none where no line is.
 abbrev pub FirstMode : ℕ → List (List ℕ) → Option ℕ → Type 0
 FirstMode number [] found = found ≡ None
-FirstMode number (bytes ∷ more) found = (IsMode bytes × (found ≡ Some number)) ⊎ ((IsMode bytes → ⊥) × FirstMode (number + 1) more found)
+FirstMode number (bytes ∷ more) found =
+    (IsMode bytes × (found ≡ Some number))
+    ⊎ ((IsMode bytes → ⊥) × FirstMode (number + 1) more found)
 
 -- ---- for private clauses
 

@@ -9,7 +9,8 @@ use Rattle.defmt_hooks.specs.declared.level.Level.TheVariants.{Trace, Debug, Inf
 -- the whole lines, of which the first begins with what was open
 abbrev pub lines_from : List ℕ → List ℕ → List (List ℕ)
 lines_from line [] = []
-lines_from line (b ∷ bs) = if b == 10 then line ∷ lines_from [] bs else lines_from (line ++ b ∷ []) bs
+lines_from line (b ∷ bs) =
+    if b == 10 then line ∷ lines_from [] bs else lines_from (line ++ b ∷ []) bs
 
 -- the line that isn't ended
 abbrev pub open_from : List ℕ → List ℕ → List ℕ
@@ -27,8 +28,12 @@ open_line bytes = open_from [] bytes
 -- the level of a digit from `1` to `5`
 abbrev pub level_of_digit : ℕ → Option Level
 level_of_digit d =
-    if d == 49 then Some Trace else if d == 50 then Some Debug else if d == 51 then Some Info else if d == 52 then Some Warn
-    else if d == 53 then Some Error else None
+    if d == 49 then Some Trace
+    else if d == 50 then Some Debug
+    else if d == 51 then Some Info
+    else if d == 52 then Some Warn
+    else if d == 53 then Some Error
+    else None
 
 -- the level that a line orders
 abbrev pub ordered_by : List ℕ → Option Level

@@ -50,7 +50,8 @@ pub record IsSteered (s : Script) (turns : List Turn) (got : List ℕ) : Type 0 
   pub within : (w : ℕ) → turns_of w turns ≤ count s w
   pub rises : Rises 0 turns
   pub all_seen : last_seen 0 turns ≡ length (orders got)
-  pub each : (before after : List Turn) (t : Turn) → turns ≡ before ++ t ∷ after → IsTurn s before (orders got) t
+  pub each : (before after : List Turn) (t : Turn) → turns ≡ before ++ t ∷ after
+      → IsTurn s before (orders got) t
 
 -- ---- what is sent
 

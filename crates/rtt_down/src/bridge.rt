@@ -1,4 +1,4 @@
-// The bridge.
+//! The bridge.
 ghost use Rattle.std.specs.Prelude.{◌≡◌, ◌<◌, [], ◌∷◌, ◌++◌, IfOk, length, slice_index_or};
 ghost use Rattle.defmt_frames.specs.Frames.{count, pace_of};
 ghost use Rattle.defmt_frames.specs.Sites.{HasSites};
@@ -10,7 +10,7 @@ use crate::course::Course;
 use crate::level::level_at;
 use crate::turn::Turn;
 use crate::turns::Turns;
-use defmt_frames::{Sites, write_frame};
+use defmt_frames::{FRAME_SIZE, MESSAGE_SIZE, Sites, write_frame};
 use defmt_hooks::{Clock, Stamp};
 use defmt_script::Script;
 use dl_io::Memory;
@@ -19,12 +19,6 @@ use rtt_ring::{DownEnd, UpEnd};
 use std::alloc::Global;
 use std::marker::Model;
 use std::sync::Wait;
-
-// How many bytes a message has at most.
-const MESSAGE_SIZE: usize = 2000;
-
-// How many bytes a frame has at most.
-const FRAME_SIZE: usize = 2288;
 
 // How many bytes a turn takes at most.
 const TAKEN_SIZE: usize = 192;

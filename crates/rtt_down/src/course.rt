@@ -1,4 +1,4 @@
-// The course of turns.
+//! The course of turns.
 ghost use Rattle.std.specs.Prelude.{◌≡◌, ℕ, ◌+◌, ◌^◌, ◌<◌, ◌≤◌, List, [], ◌∷◌, ◌++◌, length, IfOk, slice_index_or};
 ghost use Rattle.defmt_frames.specs.Frames.{count, stamp_number};
 ghost use Rattle.defmt_script.specs.Script.{Script as AnyScript};

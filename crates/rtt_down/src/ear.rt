@@ -1,4 +1,4 @@
-// What hears orders.
+//! What hears orders.
 ghost use Rattle.std.specs.Prelude.{◌≡◌, ℕ, List, [], ◌∷◌, ◌++◌, Some};
 ghost use Rattle.std.specs.Option.{option_to_list};
 ghost use Rattle.rtt_down.specs.Orders.{kept_of, lengthened, ordered_at, ordered_by_kept, open_after, open_line, orders};

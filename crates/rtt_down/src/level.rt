@@ -1,4 +1,4 @@
-// The levels of statements.
+//! The levels of statements.
 ghost use Rattle.std.specs.Prelude.{◌≡◌};
 ghost use Rattle.rtt_down.specs.Levels.{is_sent, level_at, level_of};
 

@@ -12,6 +12,9 @@
 //! A [`Steered`] logger has a bridge behind a lock, as the work that eight writers share. It gives a helm to each writer,
 //! which is a [`Pen`], and only a helm takes a turn. When all helms are back, `close` gives the turns, and each writer has as
 //! many as its helm tells.
+//!
+//! After SEGGER RTT's down-buffers. The lines `l4` and `l5` order warnings and then errors; `l4x` orders
+//! nothing (device_tests, `steering`).
 #![tactic(auto)]
 
 mod bridge;

@@ -1,4 +1,4 @@
-// What counts orders.
+//! What counts orders.
 ghost use Rattle.std.specs.Prelude.{◌≡◌, ℕ, ◌+◌, ◌<◌, ◌≤◌, ◌^◌, List, [], ◌∷◌, ◌++◌, length};
 ghost use Rattle.rtt_down.specs.Listening.{Heard};
 

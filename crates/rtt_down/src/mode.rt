@@ -40,6 +40,7 @@ fn sets_mode(line: Line<'_>) -> bool
 
 /// A text that reads as a script whose mode isn't the blocking one has a line that sets it.
 pub fn modes_are_set()
-    ensures { (text : List ℕ) (script : Read) → Reads text (Ok script) → is_block script.settings.mode ≡ false
+    ensures { (text : List ℕ) (script : Read) → Reads text (Ok script)
+        → is_block script.settings.mode ≡ false
         → FirstMode 1 (lines text) None → ⊥ }
 {}

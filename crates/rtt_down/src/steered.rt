@@ -1,4 +1,4 @@
-// The steered logger.
+//! The steered logger.
 ghost use Rattle.std.specs.Prelude.{◌≡◌, ◌+◌, ◌<◌, [], ◌∷◌, IfOk};
 ghost use Rattle.defmt_frames.specs.Frames.{count, pace_of};
 ghost use Rattle.rtt_down.specs.Kept.{IsKept};

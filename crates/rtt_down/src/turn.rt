@@ -1,4 +1,4 @@
-// A turn.
+//! A turn.
 use defmt_hooks::Level;
 
 /// A statement whose turn came, and whether it was sent.

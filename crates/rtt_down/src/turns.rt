@@ -1,4 +1,4 @@
-// A list of turns with a reserved room.
+//! A list of turns with a reserved room.
 ghost use Rattle.std.specs.Prelude.{◌≡◌, ◌+◌, ◌<◌, [], ◌∷◌, ◌++◌, length, max, OnOk, OnErr, nat_lt, position};
 ghost use Rattle.rtt_down.specs.declared.turn.Turn.{Turn};
 

@@ -1,0 +1,151 @@
+//! Values inside which no values stand, read from the bytes of a message.
+ghost use Rattle.std.specs.Prelude.{◌≡◌, ◌≤◌, ◌<◌, ◌+◌, ◌^◌, ◌*◌, Option, ℕ};
+ghost use Rattle.defmt_grammar.specs.Slots.{IsSound};
+ghost use Rattle.defmt_encode.specs.Read.{istr_at, uint_at, int_at, flag_at, char_at, str_at, slice_at, array_at, window_at, slot_at, below, OneAt};
+ghost use Rattle.defmt_encode.specs.Reads.{ReadsVal, SumSmall, IsLeaf};
+
+use crate::cause::{Cause, Fault};
+use crate::field::{
+    byte, char_of, flag_of, index, number, read_array, read_bytes, read_text, signed, word,
+};
+use crate::forms::interned;
+use crate::widths::size_bytes;
+use defmt_grammar::{IntSize, Kind, Slot};
+use defmt_intern::Table;
+use defmt_values::{Value, power};
+use std::alloc::Global;
+
+// A number with so many zero bytes below it.
+fn moved_up(n: u128, first: u8, width: u8) -> u128
+    requires { (n < 256 ^ width) × (first + width ≤ 16) }
+    ensures { result ≡ n * 256 ^ first }
+{
+    match power(u32::from(first)) {
+        Some(p) => n * p,
+        None => 0,
+    }
+}
+
+fn read_uint(size: IntSize, sum: u128, bytes: &[u8]) -> Result<(Value, u128, &[u8]), Fault>
+    requires { sum ≤ 8192 }
+    ensures value { ReadsVal result (uint_at size sum bytes.now) }
+    ensures small { SumSmall result }
+{
+    let (n, rest) = number(bytes, size_bytes(size))?;
+    Ok((Value::Uint(n), sum, rest))
+}
+
+fn read_int(size: IntSize, sum: u128, bytes: &[u8]) -> Result<(Value, u128, &[u8]), Fault>
+    requires { sum ≤ 8192 }
+    ensures value { ReadsVal result (int_at size sum bytes.now) }
+    ensures small { SumSmall result }
+{
+    let (n, rest) = signed(bytes, size_bytes(size))?;
+    Ok((Value::Int(n), sum, rest))
+}
+
+fn read_bool(sum: u128, bytes: &[u8]) -> Result<(Value, u128, &[u8]), Fault>
+    requires { sum ≤ 8192 }
+    ensures value { ReadsVal result (flag_at sum bytes.now) }
+    ensures small { SumSmall result }
+{
+    let (n, rest) = byte(bytes)?;
+    let b = flag_of(n)?;
+    Ok((Value::Bool(b), sum, rest))
+}
+
+fn read_char(sum: u128, bytes: &[u8]) -> Result<(Value, u128, &[u8]), Fault>
+    requires { sum ≤ 8192 }
+    ensures value { ReadsVal result (char_at sum bytes.now) }
+    ensures small { SumSmall result }
+{
+    let (n, rest) = word(bytes)?;
+    let c = char_of(n)?;
+    Ok((Value::Char(c), sum, rest))
+}
+
+fn read_str(alloc: Global, sum: u128, bytes: &[u8]) -> Result<(Value, u128, &[u8]), Fault>
+    requires { sum ≤ 8192 }
+    ensures value { ReadsVal result (str_at sum bytes.now) }
+    ensures small { SumSmall result }
+{
+    let (text, rest) = read_text(alloc, bytes)?;
+    Ok((Value::Str(text), sum, rest))
+}
+
+fn read_istr<'b>(
+    table: &Table,
+    sum: u128,
+    bytes: &'b [u8],
+) -> Result<(Value, u128, &'b [u8]), Fault>
+    requires { sum ≤ 8192 }
+    ensures value { ReadsVal result (istr_at table.now.entries sum bytes.now) }
+    ensures small { SumSmall result }
+{
+    let (index, rest) = index(bytes)?;
+    interned(table, index)?;
+    Ok((Value::Istr(index), sum, rest))
+}
+
+fn read_slice(alloc: Global, sum: u128, bytes: &[u8]) -> Result<(Value, u128, &[u8]), Fault>
+    requires { sum ≤ 8192 }
+    ensures value { ReadsVal result (slice_at sum bytes.now) }
+    ensures small { SumSmall result }
+{
+    let (read, rest) = read_bytes(alloc, bytes)?;
+    Ok((Value::Bytes(read), sum, rest))
+}
+
+fn read_byte_array(
+    alloc: Global,
+    count: u16,
+    sum: u128,
+    bytes: &[u8],
+) -> Result<(Value, u128, &[u8]), Fault>
+    requires { sum ≤ 8192 }
+    ensures value { ReadsVal result (array_at count sum bytes.now) }
+    ensures small { SumSmall result }
+{
+    let (read, rest) = read_array(alloc, count, bytes)?;
+    Ok((Value::Bytes(read), sum, rest))
+}
+
+fn read_window(first: u8, width: u8, sum: u128, bytes: &[u8]) -> Result<(Value, u128, &[u8]), Fault>
+    requires window { first + width ≤ 16 }
+    requires sum { sum ≤ 8192 }
+    ensures value { ReadsVal result (window_at first width sum bytes.now) }
+    ensures small { SumSmall result }
+{
+    let (n, rest) = number(bytes, width)?;
+    Ok((Value::Bits(moved_up(n, first, width)), sum, rest))
+}
+
+// A value of a slot inside which no values stand.
+pub(crate) fn read_leaf<'b>(
+    alloc: Global,
+    table: &Table,
+    slot: Slot,
+    sum: u128,
+    bytes: &'b [u8],
+) -> Result<(Value, u128, &'b [u8]), Fault>
+    requires slot { IsSound slot }
+    requires leaf { IsLeaf slot }
+    requires sum { sum ≤ 8192 }
+    ensures value { (below : Option OneAt) (weight : ℕ)
+        → ReadsVal result (slot_at table.now.entries below slot weight sum bytes.now) }
+    ensures small { SumSmall result }
+{
+    match slot {
+        Slot::One(Kind::Uint(size)) => read_uint(size, sum, bytes),
+        Slot::One(Kind::Int(size)) => read_int(size, sum, bytes),
+        Slot::One(Kind::Bool) => read_bool(sum, bytes),
+        Slot::One(Kind::Char) => read_char(sum, bytes),
+        Slot::One(Kind::Str) => read_str(alloc, sum, bytes),
+        Slot::One(Kind::Istr) => read_istr(table, sum, bytes),
+        Slot::One(Kind::Bytes) => read_slice(alloc, sum, bytes),
+        Slot::One(Kind::ByteArray(count)) => read_byte_array(alloc, count, sum, bytes),
+        Slot::One(Kind::Bits { .. }) => Err(Fault::Bad(Cause::Short)),
+        Slot::Bits { first, width } => read_window(first, width, sum, bytes),
+        Slot::One(Kind::Format | Kind::FormatSlice | Kind::FormatArray(_)) => unreachable!(),
+    }
+}

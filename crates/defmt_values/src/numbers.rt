@@ -1,0 +1,67 @@
+//! How many bits and bytes numbers have.
+ghost use Rattle.std.specs.Prelude.{◌≡◌, ◌==◌, ◌%◌, nat_lt, ◌<◌, ◌≤◌, ◌^◌, MatchOption};
+ghost use Rattle.defmt_grammar.specs.Sizes.{size_bits, is_signed};
+
+use defmt_grammar::IntSize;
+
+/// How many bits an integer of a size has. Native integers have 32. Takes no memory.
+pub fn size_bits(size: IntSize) -> u32
+    ensures value { result ≡ size_bits size }
+    ensures some { 0 < result }
+    ensures bound { result ≤ 128 }
+{
+    match size {
+        IntSize::W8 => 8,
+        IntSize::W16 => 16,
+        IntSize::W32 | IntSize::Native => 32,
+        IntSize::W64 => 64,
+        IntSize::W128 => 128,
+    }
+}
+
+/// Whether a number has at most so many bits. Takes no memory.
+pub fn is_of_bits(n: u128, bits: u32) -> bool
+    ensures { result ≡ nat_lt n (2 ^ bits) }
+{
+    if bits < 128 { n < 1u128 << bits } else { true }
+}
+
+/// Whether a signed number has at most so many bits, in two's complement. Takes no memory.
+pub fn is_signed(n: i128, bits: u32) -> bool
+    requires { (0 < bits) × (bits ≤ 128) }
+    ensures { result ≡ is_signed bits n }
+{
+    let magnitude = if n < 0 { (-(n + 1)) as u128 } else { n as u128 };
+    is_of_bits(magnitude, bits - 1)
+}
+
+/// 256 to this power, where it has at most 128 bits. Takes no memory.
+pub fn power(bytes: u32) -> Option<u128>
+    ensures { MatchOption result (16 ≤ bytes) (λ p. (p ≡ 256 ^ bytes) × (0 < p)) }
+{
+    if bytes < 16 {
+        Some(256u128.pow(bytes))
+    } else {
+        None
+    }
+}
+
+/// Whether a number has at most so many bytes. Takes no memory.
+pub fn is_below(n: u128, bytes: u32) -> bool
+    ensures { result ≡ nat_lt n (256 ^ bytes) }
+{
+    match power(bytes) {
+        Some(p) => n < p,
+        None => true,
+    }
+}
+
+/// Whether the lowest bytes of a number, so many, are zero. Takes no memory.
+pub fn is_multiple(n: u128, bytes: u32) -> bool
+    ensures { result ≡ (n % 256 ^ bytes == 0) }
+{
+    match power(bytes) {
+        Some(p) => n % p == 0,
+        None => n == 0,
+    }
+}
