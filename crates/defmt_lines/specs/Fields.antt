@@ -15,8 +15,10 @@ pub record Begins (text field rest : List ℕ) : Type 0 where
 abbrev pub AreFields : List ℕ → List (List ℕ) → Type 0
 AreFields text [] = ⊥
 AreFields text (field ∷ []) = (text ≡ field) × IsField field
-AreFields text (field ∷ next ∷ more) = (rest : List ℕ) × Begins text field rest × AreFields rest (next ∷ more)
+AreFields text (field ∷ next ∷ more) =
+    (rest : List ℕ) × Begins text field rest × AreFields rest (next ∷ more)
 
 -- a field and the rest of the line: where the rest is empty, the space in front of it may be missing
 abbrev pub IsFieldAndRest : List ℕ → List ℕ → List ℕ → Type 0
-IsFieldAndRest text field rest = Begins text field rest ⊎ ((text ≡ field) × IsField field × (rest ≡ []))
+IsFieldAndRest text field rest =
+    Begins text field rest ⊎ ((text ≡ field) × IsField field × (rest ≡ []))

@@ -7,8 +7,9 @@ use Rattle.defmt_lines.specs.declared.form.Form.TheVariants as forms
 -- the form that a line's first word gives it
 abbrev pub form_of : List ℕ → Option Form
 form_of word = at_word word (
-    (codes "ring", forms.Ring) ∷ (codes "mode", forms.Mode) ∷ (codes "reader", forms.Reader) ∷ (codes "stamp", forms.Stamp)
-    ∷ (codes "profile", forms.Profile) ∷ (codes "d", forms.Order) ∷ (codes "s", forms.Entry) ∷ (codes "w", forms.Statement)
+    (codes "ring", forms.Ring) ∷ (codes "mode", forms.Mode) ∷ (codes "reader", forms.Reader)
+    ∷ (codes "stamp", forms.Stamp) ∷ (codes "profile", forms.Profile)
+    ∷ (codes "d", forms.Order) ∷ (codes "s", forms.Entry) ∷ (codes "w", forms.Statement)
     ∷ (codes "t", forms.Say) ∷ [])
 
 -- What stands behind the first word: so many words that set something; the name, the tag and the text of a string; or a writer, a field
@@ -37,7 +38,8 @@ IsSetting form = (count : ℕ) × (shape_of form ≡ setting count)
 -- the lines of a script stand in this order, but that statements and texts may come in any
 abbrev pub order : List Form
 order =
-    forms.Ring ∷ forms.Mode ∷ forms.Reader ∷ forms.Stamp ∷ forms.Profile ∷ forms.Order ∷ forms.Entry ∷ forms.Statement ∷ forms.Say ∷ []
+    forms.Ring ∷ forms.Mode ∷ forms.Reader ∷ forms.Stamp ∷ forms.Profile
+    ∷ forms.Order ∷ forms.Entry ∷ forms.Statement ∷ forms.Say ∷ []
 
 abbrev pub is_form : Form → Form → Bool
 is_form forms.Ring forms.Ring = true

@@ -34,9 +34,11 @@ pub record HasForm (text : List ℕ) (form : Form) (rest : List ℕ) : Type 0 wh
 -- the tags that the strings of a script may have
 abbrev pub tag_of : List ℕ → Option Tag
 tag_of word = at_word word (
-    (codes "defmt_trace", tags.Trace) ∷ (codes "defmt_debug", tags.Debug) ∷ (codes "defmt_info", tags.Info) ∷ (codes "defmt_warn", tags.Warn)
-    ∷ (codes "defmt_error", tags.Error) ∷ (codes "defmt_println", tags.Println) ∷ (codes "defmt_prim", tags.Prim)
-    ∷ (codes "defmt_derived", tags.Derived) ∷ (codes "defmt_write", tags.Write) ∷ (codes "defmt_str", tags.Interned) ∷ [])
+    (codes "defmt_trace", tags.Trace) ∷ (codes "defmt_debug", tags.Debug)
+    ∷ (codes "defmt_info", tags.Info) ∷ (codes "defmt_warn", tags.Warn)
+    ∷ (codes "defmt_error", tags.Error) ∷ (codes "defmt_println", tags.Println)
+    ∷ (codes "defmt_prim", tags.Prim) ∷ (codes "defmt_derived", tags.Derived)
+    ∷ (codes "defmt_write", tags.Write) ∷ (codes "defmt_str", tags.Interned) ∷ [])
 
 -- `NAME TAG TEXT`
 pub record IsString (rest name : List ℕ) (tag : Tag) (text : List ℕ) : Type 0 where
@@ -57,9 +59,12 @@ pub record IsAction (rest : List ℕ) (writer : Option ℕ) (field more : List �
 -- The text is a line that says this.
 abbrev pub Spells : List ℕ → Line → Type 0
 Spells text blank = IsPassedOver text
-Spells text (head form words) = (rest : List ℕ) × HasForm text form rest × (shape_of form ≡ setting (length words)) × AreFields rest words
-Spells text (entry name tag body) = (rest : List ℕ) × HasForm text forms.Entry rest × IsString rest name tag body
-Spells text (act form writer field more) = (rest : List ℕ) × HasForm text form rest × (shape_of form ≡ action) × IsAction rest writer field more
+Spells text (head form words) = (rest : List ℕ) × HasForm text form rest
+    × (shape_of form ≡ setting (length words)) × AreFields rest words
+Spells text (entry name tag body) =
+    (rest : List ℕ) × HasForm text forms.Entry rest × IsString rest name tag body
+Spells text (act form writer field more) = (rest : List ℕ) × HasForm text form rest
+    × (shape_of form ≡ action) × IsAction rest writer field more
 Spells text other = ⊥
 
 -- What a line says. One that isn't UTF-8 or has none of the forms is `other`.
@@ -89,7 +94,8 @@ one_field text = alone text (cut 32 text)
 
 -- the two fields of a text that has no more
 unfoldable pub two_fields : List ℕ → Option (List ℕ × List ℕ)
-two_fields text = option_and_then (λ p. option_map (λ last. (p.0, last)) (one_field p.1)) (cut 32 text)
+two_fields text =
+    option_and_then (λ p. option_map (λ last. (p.0, last)) (one_field p.1)) (cut 32 text)
 
 abbrev pub or_all : List ℕ → Option (List ℕ × List ℕ) → List ℕ × List ℕ
 or_all text None = (text, [])
@@ -107,10 +113,18 @@ abbrev pub two_words : Form → List ℕ → Option Line
 two_words form rest = option_map (λ p. head form (p.0 ∷ p.1 ∷ [])) (two_fields rest)
 
 unfoldable pub entry_of : List ℕ → Option Line
-entry_of text = option_and_then (λ p. option_map (λ tag. entry p.0 tag (field_and_rest p.1).1) (tag_of (field_and_rest p.1).0)) (cut 32 text)
+entry_of text =
+    option_and_then
+    (λ p. option_map (λ tag. entry p.0 tag (field_and_rest p.1).1)
+    (tag_of (field_and_rest p.1).0))
+    (cut 32 text)
 
 unfoldable pub act_of : Form → List ℕ → Option Line
-act_of form text = option_and_then (λ p. option_map (λ writer. act form writer (field_and_rest p.1).0 (field_and_rest p.1).1) (writer_of p.0)) (cut 32 text)
+act_of form text =
+    option_and_then
+    (λ p. option_map (λ writer. act form writer (field_and_rest p.1).0 (field_and_rest p.1).1)
+    (writer_of p.0))
+    (cut 32 text)
 
 -- what the rest of a line says behind its first word
 abbrev pub by_form : Form → List ℕ → Option Line
@@ -125,7 +139,8 @@ by_form forms.Statement rest = act_of forms.Statement rest
 by_form forms.Say rest = act_of forms.Say rest
 
 unfoldable pub worded : List ℕ → Option Line
-worded text = option_and_then (λ p. option_and_then (λ form. by_form form p.1) (form_of p.0)) (cut 32 text)
+worded text =
+    option_and_then (λ p. option_and_then (λ form. by_form form p.1) (form_of p.0)) (cut 32 text)
 
 abbrev pub line_of_text : List ℕ → Line
 line_of_text text = if is_blank text then blank else unwrap_or (worded text) other

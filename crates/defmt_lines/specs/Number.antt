@@ -36,11 +36,14 @@ has_leading_zero (c ∷ d ∷ more) = c == 48
 
 -- the number that digits stand for, where it lies from low to high
 unfoldable pub within : ℕ → ℕ → List ℕ → Option ℕ
-within low high text = if nat_le low (digits_value 10 text) && nat_le (digits_value 10 text) high then Some (digits_value 10 text) else None
+within low high text =
+    if nat_le low (digits_value 10 text) && nat_le (digits_value 10 text) high
+    then Some (digits_value 10 text) else None
 
 -- a decimal number without a sign or a leading zero, from low to high
 unfoldable pub number_within : ℕ → ℕ → List ℕ → Option ℕ
-number_within low high text = if is_digits text && not (has_leading_zero text) then within low high text else None
+number_within low high text =
+    if is_digits text && not (has_leading_zero text) then within low high text else None
 
 -- digits, and which of the writers 0 to 7 they stand for
 unfoldable pub writer_of : List ℕ → Option (Option ℕ)

@@ -28,7 +28,8 @@ abbrev pub orders_limit : ℕ
 orders_limit = 64
 
 abbrev pub mode_of : List ℕ → Option RingMode
-mode_of word = at_word word ((codes "block", Block) ∷ (codes "skip", Skip) ∷ (codes "trim", Trim) ∷ [])
+mode_of word =
+    at_word word ((codes "block", Block) ∷ (codes "skip", Skip) ∷ (codes "trim", Trim) ∷ [])
 
 -- whether a word says that the reader is late
 abbrev pub late_of : List ℕ → Option Bool
@@ -37,8 +38,8 @@ late_of word = at_word word ((codes "live", false) ∷ (codes "late", true) ∷ 
 -- the level that a word names
 abbrev pub level_of : List ℕ → Option Level
 level_of word = at_word word (
-    (codes "trace", levels.Trace) ∷ (codes "debug", levels.Debug) ∷ (codes "info", levels.Info) ∷ (codes "warn", levels.Warn)
-    ∷ (codes "error", levels.Error) ∷ [])
+    (codes "trace", levels.Trace) ∷ (codes "debug", levels.Debug) ∷ (codes "info", levels.Info)
+    ∷ (codes "warn", levels.Warn) ∷ (codes "error", levels.Error) ∷ [])
 
 abbrev pub is_block : RingMode → Bool
 is_block Block = true
@@ -50,7 +51,14 @@ profile_of word = at_word word ((codes "1", profiles.One) ∷ (codes "2", profil
 
 -- what a script has without these lines
 abbrev pub no_settings : Settings
-no_settings = record { ring = 1024; mode = Block; late = false; stamp = None; profile = profiles.One; orders = [] }
+no_settings = record {
+  ring = 1024;
+  mode = Block;
+  late = false;
+  stamp = None;
+  profile = profiles.One;
+  orders = [];
+}
 
 -- ---- what the words of a line make of the settings, or the cause why they set nothing
 
@@ -70,7 +78,8 @@ IsTooLate s late = (late ≡ true) × (is_block s.mode ≡ true)
 
 -- `reader WORD`
 abbrev pub SetsReader : List ℕ → Settings → Result Settings Cause → Type 0
-SetsReader word s (Ok t) = (late : Bool) × (late_of word ≡ Some late) × (IsTooLate s late → ⊥) × (t ≡ record s { late = late })
+SetsReader word s (Ok t) = (late : Bool) × (late_of word ≡ Some late) × (IsTooLate s late → ⊥)
+    × (t ≡ record s { late = late })
 SetsReader word s (Err cause) =
     ((late_of word ≡ None) × (cause ≡ causes.Mode))
     ⊎ ((late : Bool) × (late_of word ≡ Some late) × IsTooLate s late × (cause ≡ causes.Late))
@@ -81,12 +90,15 @@ AreStamps base step b d = IsNumber 0 stamp_limit base b × IsNumber 0 stamp_limi
 
 -- `stamp BASE STEP`
 abbrev pub SetsStamp : List ℕ → List ℕ → Settings → Result Settings Cause → Type 0
-SetsStamp base step s (Ok t) = (b : ℕ) × (d : ℕ) × AreStamps base step b d × (t ≡ record s { stamp = Some (b, d) })
-SetsStamp base step s (Err cause) = ((b d : ℕ) → AreStamps base step b d → ⊥) × (cause ≡ causes.Stamp)
+SetsStamp base step s (Ok t) =
+    (b : ℕ) × (d : ℕ) × AreStamps base step b d × (t ≡ record s { stamp = Some (b, d) })
+SetsStamp base step s (Err cause) =
+    ((b d : ℕ) → AreStamps base step b d → ⊥) × (cause ≡ causes.Stamp)
 
 -- `profile WORD`
 abbrev pub SetsProfile : List ℕ → Settings → Result Settings Cause → Type 0
-SetsProfile word s (Ok t) = (p : Profile) × (profile_of word ≡ Some p) × (t ≡ record s { profile = p })
+SetsProfile word s (Ok t) =
+    (p : Profile) × (profile_of word ≡ Some p) × (t ≡ record s { profile = p })
 SetsProfile word s (Err cause) = (profile_of word ≡ None) × (cause ≡ causes.Profile)
 
 -- a number of frames, from 0 to the limit, and a level
@@ -96,10 +108,12 @@ IsOrder number word n level = IsNumber 0 frames_limit number n × (level_of word
 -- `d N LEVEL`
 abbrev pub SetsOrder : List ℕ → List ℕ → Settings → Result Settings Cause → Type 0
 SetsOrder number word s (Ok t) =
-    (n : ℕ) × (level : Level) × IsOrder number word n level × (length s.orders < orders_limit) × (t ≡ record s { orders = s.orders ++ (n, level) ∷ [] })
+    (n : ℕ) × (level : Level) × IsOrder number word n level × (length s.orders < orders_limit)
+    × (t ≡ record s { orders = s.orders ++ (n, level) ∷ [] })
 SetsOrder number word s (Err cause) =
     (((n : ℕ) (level : Level) → IsOrder number word n level → ⊥) × (cause ≡ causes.Level))
-    ⊎ ((n : ℕ) × (level : Level) × IsOrder number word n level × (orders_limit ≤ length s.orders) × (cause ≡ causes.Many))
+    ⊎ ((n : ℕ) × (level : Level) × IsOrder number word n level × (orders_limit ≤ length s.orders)
+    × (cause ≡ causes.Many))
 
 -- A line of a form of settings, with its words. Other forms, and other numbers of words, set nothing.
 abbrev pub Sets : Form → List (List ℕ) → Settings → Result Settings Cause → Type 0
@@ -138,7 +152,8 @@ unfoldable pub with_mode : Settings → List ℕ → Result Settings Cause
 with_mode s word = mode_or s (mode_of word)
 
 abbrev pub reader_or : Settings → Option Bool → Result Settings Cause
-reader_or s (Some late) = if late && is_block s.mode then Err causes.Late else Ok (record s { late = late })
+reader_or s (Some late) =
+    if late && is_block s.mode then Err causes.Late else Ok (record s { late = late })
 reader_or s None = Err causes.Mode
 
 unfoldable pub with_reader : Settings → List ℕ → Result Settings Cause
@@ -149,7 +164,8 @@ stamp_or s (Some base) (Some step) = Ok (record s { stamp = Some (base, step) })
 stamp_or s base step = Err causes.Stamp
 
 unfoldable pub with_stamp : Settings → List ℕ → List ℕ → Result Settings Cause
-with_stamp s base step = stamp_or s (number_within 0 stamp_limit base) (number_within 0 stamp_limit step)
+with_stamp s base step =
+    stamp_or s (number_within 0 stamp_limit base) (number_within 0 stamp_limit step)
 
 abbrev pub profile_or : Settings → Option Profile → Result Settings Cause
 profile_or s (Some p) = Ok (record s { profile = p })
@@ -159,7 +175,9 @@ unfoldable pub with_profile : Settings → List ℕ → Result Settings Cause
 with_profile s word = profile_or s (profile_of word)
 
 abbrev pub order_or : Settings → Option ℕ → Option Level → Result Settings Cause
-order_or s (Some n) (Some level) = if nat_lt (length s.orders) orders_limit then Ok (record s { orders = s.orders ++ (n, level) ∷ [] }) else Err causes.Many
+order_or s (Some n) (Some level) =
+    if nat_lt (length s.orders) orders_limit
+    then Ok (record s { orders = s.orders ++ (n, level) ∷ [] }) else Err causes.Many
 order_or s number level = Err causes.Level
 
 unfoldable pub with_order : Settings → List ℕ → List ℕ → Result Settings Cause

@@ -19,7 +19,8 @@ JudgesForms (text ∷ more) verdict =
 
 -- more than 255 variants are refused before any is read
 abbrev pub JudgesVariants : List (List ℕ) → Option ℕ → Type 0
-JudgesVariants forms verdict = ((255 < length forms) × (verdict ≡ Some 0)) ⊎ ((length forms ≤ 255) × JudgesForms forms verdict)
+JudgesVariants forms verdict =
+    ((255 < length forms) × (verdict ≡ Some 0)) ⊎ ((length forms ≤ 255) × JudgesForms forms verdict)
 
 abbrev pub JudgesBody : Tag → List ℕ → Option ℕ → Type 0
 JudgesBody tags.Interned text verdict = verdict ≡ None
@@ -30,4 +31,6 @@ JudgesBody tag text verdict = JudgesForms (text ∷ []) verdict
 
 -- a text of more than 4,096 bytes is refused whatever it says
 unfoldable pub Judges : Tag → List ℕ → Option ℕ → Type 0
-Judges tag text verdict = ((4096 < length text) × (verdict ≡ Some 0)) ⊎ ((length text ≤ 4096) × JudgesBody tag text verdict)
+Judges tag text verdict =
+    ((4096 < length text) × (verdict ≡ Some 0))
+    ⊎ ((length text ≤ 4096) × JudgesBody tag text verdict)

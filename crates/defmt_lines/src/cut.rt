@@ -4,22 +4,18 @@ ghost use Rattle.std.specs.Prelude.{◌≡◌, ◌<◌, ◌+◌, ◌∷◌, leng
 ghost use Rattle.std.specs.Str.Lines.{lines, strip_carriage_return};
 ghost use Rattle.defmt_lines.specs.Cut.{up_to, from_mark};
 
+use memchr::memchr;
+
 // The bytes before the first `mark`, and the bytes from that one on.
 fn split_at_mark(bytes: &[u8], mark: u8) -> (&[u8], &[u8])
     ensures front { result.0.now ≡ up_to mark bytes.now }
     ensures rest { result.1.now ≡ from_mark mark bytes.now }
     ensures lengths { length result.0.now + length result.1.now ≡ length bytes.now }
 {
-    let mut count = 0usize;
-    let mut rest = bytes;
-    while let [first, more @ ..] = rest {
-        if *first == mark {
-            break;
-        }
-        count += 1;
-        rest = more;
+    match memchr(mark, bytes) {
+        Some(place) => bytes.split_at(place),
+        None => (bytes, &[]),
     }
-    (&bytes[..count], rest)
 }
 
 /// The first line of a text, and what comes after it.

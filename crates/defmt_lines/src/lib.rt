@@ -1,5 +1,7 @@
 //! The lines of a script: a text cut into lines, what each line says, and what the texts and the first lines of a script
-//! must be. Which lines may follow one another, and what they come to, is the crate above.
+//! must be (docs/SCRIPT.md, "Lines"). Which lines may follow one another, and what they come to, is the crate above.
+//!
+//! So `ring 16` sets the ring's size, and `ring 064` is refused with cause 6 (script_tests, `content`).
 #![tactic(auto)]
 
 mod cause;

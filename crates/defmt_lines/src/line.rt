@@ -19,7 +19,8 @@ pub fn read_line(line: &[u8]) -> Line<'_>
 
 /// A line says one thing.
 pub fn one_line()
-    ensures { (bytes : List ℕ) (line other : Said) → Says bytes line → Says bytes other → line ≡ other }
+    ensures { (bytes : List ℕ) (line other : Said) → Says bytes line → Says bytes other
+        → line ≡ other }
 {}
 
 #[tactic(auto, unfolding(crate::specs::Line::line_of))]

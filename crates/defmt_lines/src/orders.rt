@@ -62,7 +62,7 @@ impl Orders {
         }
     }
 
-    /// The same with one more behind them. Takes no memory.
+    // The same with one more behind them. Takes no memory.
     pub(crate) fn extended(&self, number: u32, level: Level) -> Orders
         requires room { length self.now < 64 }
         ensures { result ≡ self.now ++ (number, level) ∷ [] }
@@ -76,7 +76,7 @@ impl Orders {
         }
     }
 
-    /// The same. Takes no memory.
+    // The same. Takes no memory.
     pub(crate) fn copy(&self) -> Orders
         ensures { result ≡ self.now }
     {

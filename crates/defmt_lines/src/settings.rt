@@ -15,6 +15,11 @@ use crate::orders::Orders;
 use defmt_hooks::Level;
 use defmt_intern::Profile;
 
+// The least and the greatest size of a ring.
+const LEAST_RING: u64 = 16;
+
+const GREATEST_RING: u64 = 65_536;
+
 // The greatest base and step of a stamp.
 const STAMP_LIMIT: u64 = 281_474_976_710_656;
 
@@ -123,7 +128,7 @@ impl Settings {
     fn with_ring(&self, word: &str) -> Result<Settings, Cause>
         ensures { result ≡ with_ring self.now word.now }
     {
-        match number_within(16, 65_536, word) {
+        match number_within(LEAST_RING, GREATEST_RING, word) {
             Some(ring) => Ok(Settings {
                 ring: ring as u32,
                 mode: self.mode,
@@ -233,7 +238,8 @@ impl Settings {
 
 /// The words of a line set one thing, or nothing for one cause.
 pub fn one_setting()
-    ensures { (form : AnyForm) (words : List (List ℕ)) (s : AnySettings) (set other : Result AnySettings AnyCause)
+    ensures { (form : AnyForm) (words : List (List ℕ)) (s : AnySettings)
+        (set other : Result AnySettings AnyCause)
         → Sets form words s set → Sets form words s other → set ≡ other }
 {}
 

@@ -33,7 +33,8 @@ pub fn judge(alloc: Global, tag: &Tag, text: &str) -> Result<Option<u8>, Memory>
 
 /// A text has one verdict at most.
 pub fn one_verdict()
-    ensures { (tag : AnyTag) (text : List ℕ) (verdict other : Option ℕ) → Judges tag text verdict → Judges tag text other → verdict ≡ other }
+    ensures { (tag : AnyTag) (text : List ℕ) (verdict other : Option ℕ) → Judges tag text verdict
+        → Judges tag text other → verdict ≡ other }
 {
     one_answer();
 }

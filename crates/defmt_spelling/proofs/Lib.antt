@@ -7,6 +7,7 @@ mod LeafLaws
 mod Loops
 mod NameLaws
 mod PrintLaws
+mod QuickLaws
 mod Wholes
 mod Writable
 mod Written

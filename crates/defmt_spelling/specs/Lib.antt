@@ -5,3 +5,4 @@ pub mod Names
 pub mod Printed
 pub mod Reading
 pub mod Spelling
+pub mod Quick

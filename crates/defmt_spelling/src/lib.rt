@@ -5,6 +5,7 @@ mod fault;
 mod leaves;
 mod names;
 mod printing;
+mod quick;
 mod reading;
 
 pub use fault::ArgFault;

@@ -21,6 +21,7 @@ use crate::leaves::{
     istr_value, negative_value, str_value,
 };
 use crate::names::Names;
+use crate::quick::quick_value;
 use defmt_grammar::{Kind, Pieces, Slot};
 use defmt_intern::{Parsed, Table};
 use defmt_shapes::{Number, Spelling, first_item, first_value, skip_spaces};
@@ -369,6 +370,9 @@ fn read_front<'a>(
     let text = skip_spaces(text);
     if text.is_empty() {
         return Err(Cause::Count.into());
+    }
+    if let Some((value, rest)) = quick_value(alloc, slot, text)? {
+        return Ok((value, sum, rest));
     }
     let Some((spelling, rest)) = first_value(alloc, text)? else {
         return Err(Cause::Syntax.into());

@@ -5,7 +5,10 @@ use Rattle.defmt_spelling.proofs.Exits as exits
 use Rattle.defmt_spelling.proofs.Loops as loops
 use Rattle.std.specs.Prelude.{IfSome}
 use Rattle.std.specs.Str.{IsUtf8}
-use Rattle.std.proofs.Common.{Ok, Err, subst}
+use Rattle.std.proofs.Common.{Ok, Err, subst, Option, List, ℕ, Bor}
+use Rattle.defmt_spelling.proofs.QuickLaws.{quick_front}
+use Rattle.defmt_spelling.specs.Quick.{IsQuick}
+use Rattle.defmt_values.specs.declared.value.Value.{Value}
 use Rattle.defmt_shapes.specs.Spelling.{IsValue}
 use Rattle.defmt_spelling.proofs.Firsts.{one_head, one_item}
 use Rattle.defmt_spelling.specs.Meaning.{index_of}
@@ -60,10 +63,15 @@ read_list-returns-clause-value t c = λ items n s.
     exits.list_end c.args.names.now c.args.table.now.entries c.args.left c.args.weight c.args.sum c.args.slot c.args.name.now c.args.inside.now items n s c.in_ok-index.index c.in_ok-index.form.now c.in_ok-items.items c.in_ok-items.sum c.len.result c.in_ok-check_list.ensures c.in_ok-index.ensures.form
     (c.in_ok-items.ensures.value (index_of c.args.names.now c.args.name.now) items (arms.form_there c.args.table.now.entries c.args.left _ c.in_ok-index.form.now c.in_ok-index.ensures.form.1) s) c.len.ensures c.in_ok-check_count.ensures
 
-pub read_front-returns-in_default-clause-value : goal.read_front-returns-in_default-clause-value
-read_front-returns-in_default-clause-value t c =
-    rw c.into-in_default.ensures (loops.front_unspelled c.args.names.now c.args.table.now.entries c.args.left c.args.slot c.args.weight c.args.sum c.args.text.now c.skip_spaces-text.result.now c.skip_spaces-text.ensures.rest c.if-is_empty.ensures
-    (subst (λ o. IsValue c.skip_spaces-text.result.now o) c.in_default.is c.in_ok-spelling.ensures.value))
+pub read_front-returns-in-Some-clause-value : goal.read_front-returns-in-Some-clause-value
+read_front-returns-in-Some-clause-value t c =
+    quick_front c.args.names.now c.args.table.now.entries c.args.left c.args.slot c.args.weight c.args.sum c.args.text.now c.skip_spaces-text.result.now (plain c.in-Some.value) c.in-Some.rest.now c.skip_spaces-text.ensures.rest
+    (subst (λ (o : Option (Value × Bor (List ℕ))). IfSome o (λ p. IsQuick c.args.slot c.skip_spaces-text.result.now (plain p.0) p.1.now)) c.in-Some.is c.in_ok-value.ensures.value)
+
+pub read_front-returns-in_default-2-clause-value : goal.read_front-returns-in_default-2-clause-value
+read_front-returns-in_default-2-clause-value t c =
+    rw c.into-in_default-2.ensures (loops.front_unspelled c.args.names.now c.args.table.now.entries c.args.left c.args.slot c.args.weight c.args.sum c.args.text.now c.skip_spaces-text.result.now c.skip_spaces-text.ensures.rest c.if-is_empty.ensures
+    (subst (λ o. IsValue c.skip_spaces-text.result.now o) c.in_default-2.is c.in_ok-spelling.ensures.value))
 
 pub read_item-returns-in_err-args-clause-value : goal.read_item-returns-in_err-args-clause-value
 read_item-returns-in_err-args-clause-value t c = λ v ss m s.

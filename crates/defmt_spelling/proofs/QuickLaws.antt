@@ -1,0 +1,62 @@
+-- Quick values, and the front of a text that has one.
+use Rattle.std.proofs.Common.{◌≡◌, ◌<◌, ◌^◌, ℕ, Bool, List, Ok, Some, refl, sym, ap, subst, ◌∙◌, length}
+use Rattle.defmt_grammar.specs.Cut.{skip_spaces}
+use Rattle.defmt_grammar.specs.declared.kind.Kind.TheVariants as kinds
+use Rattle.defmt_grammar.specs.declared.slot.Slot.{Slot}
+use Rattle.defmt_grammar.specs.declared.slot.Slot.TheVariants as slots
+use Rattle.defmt_intern.specs.Table.{Map}
+use Rattle.defmt_shapes.specs.Shape as shapes
+use Rattle.defmt_shapes.specs.Shape.{HeadShape}
+use Rattle.defmt_spelling.proofs.Arms.{decimal_scan}
+use Rattle.defmt_spelling.specs.Leaves.{decimal_cause, sum_or}
+use Rattle.defmt_spelling.specs.Meaning.{decimal_at, negated, meant_val}
+use Rattle.defmt_spelling.specs.Names.{NameMap}
+use Rattle.defmt_spelling.specs.Quick.{IsQuick}
+use Rattle.defmt_spelling.specs.Reading.{Front}
+use Rattle.defmt_values.specs.Plain.{Val, int, flag, str, bytes}
+use Rattle.defmt_values.specs.Scan.{int_cause, scan_val}
+
+pub decimal_quick : (slot : Slot) (text rest : List ℕ) (n : ℕ) (v : Val) → HeadShape text (shapes.decimal n) rest → v ≡ decimal_at slot n → decimal_cause slot n ≡ Ok tt → IsQuick slot text v rest
+unfolding meant_val
+decimal_quick slot text rest n v head is fits = record {
+  shape = shapes.decimal n;
+  head = head;
+  meant = λ names t. sym is;
+  fits = λ t left weight sum.
+      ap (λ (x : Val). scan_val t left slot weight sum x) is ∙ decimal_scan t left weight sum slot n ∙ ap (λ cause. sum_or cause sum) fits;
+}
+
+pub negative_quick : (slot : Slot) (text rest : List ℕ) (n : ℕ) (v : Val) → HeadShape text (shapes.negative n) rest → v ≡ int (negated n) → int_cause slot (negated n) ≡ Ok tt → IsQuick slot text v rest
+unfolding meant_val scan_val
+negative_quick slot text rest n v head is fits = record {
+  shape = shapes.negative n;
+  head = head;
+  meant = λ names t. sym is;
+  fits = λ t left weight sum. rw (is, fits) refl;
+}
+
+pub flag_quick : (text rest : List ℕ) (b : Bool) → HeadShape text (shapes.flag b) rest → IsQuick (slots.One kinds.Bool) text (flag b) rest
+unfolding meant_val scan_val
+flag_quick text rest b head = record { shape = shapes.flag b; head = head; meant = λ names t. refl; fits = λ t left weight sum. refl }
+
+pub str_quick : (text rest inside s : List ℕ) → HeadShape text (shapes.quoted inside) rest → s ≡ inside → IsQuick (slots.One kinds.Str) text (str s) rest
+unfolding meant_val scan_val
+str_quick text rest inside s head is = record {
+  shape = shapes.quoted inside;
+  head = head;
+  meant = λ names t. ap str (sym is);
+  fits = λ t left weight sum. refl;
+}
+
+pub bytes_quick : (text rest bs : List ℕ) → HeadShape text (shapes.bytes bs) rest → IsQuick (slots.One kinds.Bytes) text (bytes bs) rest
+unfolding meant_val scan_val
+bytes_quick text rest bs head = record { shape = shapes.bytes bs; head = head; meant = λ names t. refl; fits = λ t left weight sum. refl }
+
+-- what is read quickly is what stands in front
+pub quick_front : (names : NameMap) (t : Map) (left : ℕ) (slot : Slot) (weight sum : ℕ) (text behind : List ℕ) (v : Val) (rest : List ℕ) → behind ≡ skip_spaces text → IsQuick slot behind v rest → Front names t left slot weight sum text v sum rest
+quick_front names t left slot weight sum text behind v rest is q = record {
+  shape = q.shape;
+  head = subst (λ (x : List ℕ). HeadShape x q.shape rest) is q.head;
+  meant = q.meant names t;
+  fits = q.fits t left weight sum;
+}

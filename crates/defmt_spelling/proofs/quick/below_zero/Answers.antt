@@ -1,0 +1,9 @@
+use Rattle.std.proofs.Common.{arith}
+use Rattle.defmt_values.specs.View.{plain}
+use Rattle.defmt_spelling.proofs.QuickLaws.{negative_quick}
+use Rattle.defmt_spelling.proofs.quick.below_zero.Goals as goal
+
+pub returns-in-Ok-clause-value : goal.returns-in-Ok-clause-value
+returns-in-Ok-clause-value c =
+    let k = c.in-Ok.ensures c.in_ok-number.number (c.from.ensures, omega arith) in
+    negative_quick c.args.slot c.args.text.now c.in_ok-number.rest.now c.in_ok-number.number (plain c.in-Ok.value) c.in_ok-number.ensures.value k.0 k.1

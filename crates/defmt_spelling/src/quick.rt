@@ -1,0 +1,95 @@
+//! The values that scripts mostly have, read by their slot. Where no value is answered, the general reader is asked.
+ghost use Rattle.std.specs.Prelude.{◌≡◌, IfOk, IfSome};
+ghost use Rattle.std.specs.Str.{IsUtf8};
+ghost use Rattle.defmt_grammar.specs.Slots.{IsSound};
+ghost use Rattle.defmt_spelling.specs.Quick.{IsQuick};
+ghost use Rattle.defmt_values.specs.View.{plain};
+
+use crate::leaves::{decimal_value, negative_value};
+use defmt_grammar::{Kind, Slot, Text};
+use defmt_quick::{quick_bytes, quick_decimal, quick_flag, quick_negative, quick_quoted};
+use defmt_shapes::Number;
+use defmt_values::Value;
+use dl_io::Memory;
+use std::alloc::Global;
+
+// A number of decimal digits, without a sign or with one.
+fn number(slot: Slot, text: &str) -> Option<(Value, &str)>
+    requires { IsSound slot }
+    ensures value { IfSome result (λ p. IsQuick slot text.now (plain p.0) p.1.now) }
+    ensures utf8 { IfSome result (λ p. IsUtf8 p.1.now) }
+{
+    let Some((number, rest)) = quick_decimal(text) else {
+        return below_zero(slot, text);
+    };
+    match decimal_value(slot, Number::Within(u128::from(number))) {
+        Ok(value) => Some((value, rest)),
+        Err(_) => None,
+    }
+}
+
+// A number behind a sign.
+fn below_zero(slot: Slot, text: &str) -> Option<(Value, &str)>
+    ensures value { IfSome result (λ p. IsQuick slot text.now (plain p.0) p.1.now) }
+    ensures utf8 { IfSome result (λ p. IsUtf8 p.1.now) }
+{
+    let (number, rest) = quick_negative(text)?;
+    match negative_value(slot, Number::Within(u128::from(number))) {
+        Ok(value) => Some((value, rest)),
+        Err(_) => None,
+    }
+}
+
+fn truth(text: &str) -> Option<(Value, &str)>
+    ensures value { IfSome result
+        (λ p. IsQuick (Slot.One Kind.Bool) text.now (plain p.0) p.1.now) }
+    ensures utf8 { IfSome result (λ p. IsUtf8 p.1.now) }
+{
+    let (value, rest) = quick_flag(text)?;
+    Some((Value::Bool(value), rest))
+}
+
+fn quoted(alloc: Global, text: &str) -> Result<Option<(Value, &str)>, Memory>
+    ensures value { IfOk result
+        (λ o. IfSome o (λ p. IsQuick (Slot.One Kind.Str) text.now (plain p.0) p.1.now)) }
+    ensures utf8 { IfOk result (λ o. IfSome o (λ p. IsUtf8 p.1.now)) }
+{
+    let Some((inside, rest)) = quick_quoted(text) else {
+        return Ok(None);
+    };
+    let mut copy = Text::new(alloc);
+    match copy.push_str(inside) {
+        Ok(()) => Ok(Some((Value::Str(copy), rest))),
+        Err(_) => Err(Memory),
+    }
+}
+
+fn bytes(alloc: Global, text: &str) -> Result<Option<(Value, &str)>, Memory>
+    ensures value { IfOk result
+        (λ o. IfSome o (λ p. IsQuick (Slot.One Kind.Bytes) text.now (plain p.0) p.1.now)) }
+    ensures utf8 { IfOk result (λ o. IfSome o (λ p. IsUtf8 p.1.now)) }
+{
+    let Some((bytes, rest)) = quick_bytes(alloc, text)? else {
+        return Ok(None);
+    };
+    Ok(Some((Value::Bytes(bytes), rest)))
+}
+
+/// The value of a slot that the text begins with, and what follows it, where it is one that most scripts have.
+///
+/// # Errors
+/// `Memory` where memory runs out.
+pub fn quick_value(alloc: Global, slot: Slot, text: &str) -> Result<Option<(Value, &str)>, Memory>
+    requires { IsSound slot }
+    ensures value { IfOk result
+        (λ o. IfSome o (λ p. IsQuick slot text.now (plain p.0) p.1.now)) }
+    ensures utf8 { IfOk result (λ o. IfSome o (λ p. IsUtf8 p.1.now)) }
+{
+    match slot {
+        Slot::One(Kind::Uint(_) | Kind::Int(_)) | Slot::Bits { .. } => Ok(number(slot, text)),
+        Slot::One(Kind::Bool) => Ok(truth(text)),
+        Slot::One(Kind::Str) => quoted(alloc, text),
+        Slot::One(Kind::Bytes) => bytes(alloc, text),
+        _ => Ok(None),
+    }
+}
