@@ -2,4 +2,5 @@ mod Bytes
 mod Deciding
 mod Gaps
 mod InFrames
+mod Planned
 mod Sending

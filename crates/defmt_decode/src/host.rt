@@ -37,8 +37,8 @@ impl Model for Host {
 impl Host {
     ghost use Rattle.defmt_framing.specs.Framing.{Stands, Hears};
 
-    /// A host of this table that has heard nothing. It takes the memory that it works in, 458,752
-    /// bytes and more; on want of it the table is given up.
+    /// A host of this table that has heard nothing. It takes the memory of the plans of the table's strings; on want of it the
+    /// table is given up. What it works in grows with the pieces that it is fed.
     pub fn new(alloc: Global, table: Table) -> Result<Host, Memory>
         ensures stands { IfOk result (λ host. Stands host.framing []) }
         ensures table { IfOk result (λ host. host.table ≡ table) }

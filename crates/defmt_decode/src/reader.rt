@@ -1,6 +1,6 @@
 //! What a piece tells.
 
-ghost use Rattle.std.specs.Prelude.{◌≡◌, IfOk};
+ghost use Rattle.std.specs.Prelude.{◌≡◌, ◌≤◌, length, IfOk, IfSome, OnOk};
 ghost use Rattle.defmt_decode.specs.Event.{of_heard, of_read, read_of, tells};
 ghost use Rattle.defmt_decode.specs.Refusal.{refusal_number};
 ghost use Rattle.defmt_encode.specs.Heard.{IsHeard};
@@ -9,13 +9,16 @@ use crate::event::Event;
 use defmt_eager::{EagerFault, line};
 use defmt_encode::{Heard, ReadCause};
 use defmt_framing::{Teller, decode_piece};
+use defmt_grammar::Text;
 use defmt_intern::Table;
+use defmt_plan::PlannedTable;
 use dl_io::Memory;
 use std::alloc::Global;
 use std::marker::Model;
+use std::str;
 
-// How many bytes the longest piece that is decoded may stand for.
-const LONGEST: usize = 458752;
+// The most bytes of a line that is written by a plan.
+const LONGEST_LINE: usize = 65536;
 
 // Why a piece gives no line, beside what its message is refused for.
 enum Refusal {
@@ -44,18 +47,19 @@ impl Refusal {
     }
 }
 
-// Reads pieces by a table. The buffer is for what they stand for as codes, and what is heard in them is
-// kept, so that its lists needn't be made anew for each.
+// Reads pieces by a table with the plans of its strings. The buffer is for what they stand for as codes, and the line for what
+// is written by a plan; both grow as the pieces need them. What is heard in them is kept, so that its lists needn't be made
+// anew for each.
 #[derive(Drop)]
 pub(crate) struct Reader {
     alloc: Global,
-    table: Table,
+    table: PlannedTable,
     buffer: Vec<u8>,
+    line: Vec<u8>,
     heard: Heard,
 }
 
 impl Model for Reader {
-    ghost use Rattle.std.specs.Prelude.{◌≡◌, vec_len};
     ghost use Rattle.defmt_intern.specs.declared.table.Table.{Table as AnyTable};
     ghost use Rattle.defmt_intern.specs.contracts.table.Table.{the_row};
 
@@ -64,18 +68,18 @@ impl Model for Reader {
     ghost coded = { the_row.coded };
 
     ghost view = { λ r. r.table };
-
-    ghost invariant = { λ r. vec_len r.buffer ≡ 458752 };
 }
 
 impl Reader {
     pub(crate) fn new(alloc: Global, table: Table) -> Result<Self, Memory>
         ensures { IfOk result (λ reader. reader ≡ table) }
     {
+        let table = planned(alloc, table)?;
         Ok(Reader {
             alloc,
             table,
-            buffer: vec![in alloc; 0u8; LONGEST]?,
+            buffer: Vec::new(alloc),
+            line: Vec::new(alloc),
             heard: Heard::new(alloc),
         })
     }
@@ -83,7 +87,17 @@ impl Reader {
     pub(crate) fn table(&self) -> &Table
         ensures { result.now ≡ self.now }
     {
-        &self.table
+        self.table.table()
+    }
+}
+
+// The table with its plans.
+fn planned(alloc: Global, table: Table) -> Result<PlannedTable, Memory>
+    ensures { IfOk result (λ planned. planned ≡ table) }
+{
+    match PlannedTable::new(alloc, table) {
+        Ok(planned) => Ok(planned),
+        Err(_) => Err(Memory),
     }
 }
 
@@ -94,10 +108,18 @@ impl Teller for Reader {
     ghost tells = { λ t. tells t };
 
     fn piece(&mut self, piece: &[u8]) -> Result<Event, Memory> {
+        make_room(&mut self.buffer, 7 * piece.len())?;
         match decode_piece(piece, &mut self.buffer) {
             Some(count) => {
                 let bytes = &self.buffer[..count];
-                event_of_message(self.alloc, &self.table, bytes, &mut self.heard)
+                make_room(&mut self.line, line_room(count))?;
+                event_of_message(
+                    self.alloc,
+                    &self.table,
+                    bytes,
+                    &mut self.line,
+                    &mut self.heard,
+                )
             }
             None => Ok(Refusal::Cobs.event()),
         }
@@ -116,9 +138,61 @@ impl Teller for Reader {
     }
 }
 
-// What the bytes that a code stands for tell.
-#[tactic(auto, using(crate::proofs::Deciding::heard_read))]
+// Makes a buffer as large as it has to be.
+fn make_room(buffer: &mut Vec<u8>, least: usize) -> Result<(), Memory>
+    ensures { OnOk result (least ≤ length buffer.new.items) }
+{
+    if buffer.len() < least {
+        buffer.resize(least, 0)?;
+    }
+    Ok(())
+}
+
+// Enough for most lines of a message with so many bytes.
+fn line_room(count: usize) -> usize {
+    count.min(LONGEST_LINE / 8 - 512) * 8 + 4096
+}
+
+// Bytes as a text of its own, where they are one.
+fn text_of(alloc: Global, bytes: &[u8]) -> Result<Option<Text>, Memory>
+    ensures { IfOk result (λ r. IfSome r (λ text. text ≡ bytes.now)) }
+{
+    let Ok(text) = str::from_utf8(bytes) else {
+        return Ok(None);
+    };
+    let mut copy = Text::new(alloc);
+    match copy.push_str(text) {
+        Ok(()) => Ok(Some(copy)),
+        Err(_) => Err(Memory),
+    }
+}
+
+// What the bytes that a code stands for tell, by a plan where there is one.
 fn event_of_message(
+    alloc: Global,
+    table: &PlannedTable,
+    bytes: &[u8],
+    line: &mut [u8],
+    heard: &mut Heard,
+) -> Result<Event, Memory>
+    ensures { IfOk result (λ event. event ≡ of_read table.now (read_of table.now bytes.now)) }
+{
+    let Some(told) = table.message(bytes, line, 0) else {
+        return event_of_any(alloc, table.table(), bytes, heard);
+    };
+    match text_of(alloc, &line[..told.end])? {
+        Some(text) => Ok(Event::Line {
+            index: told.index,
+            place: told.place,
+            text,
+        }),
+        None => event_of_any(alloc, table.table(), bytes, heard),
+    }
+}
+
+// The same, whatever the message is.
+#[tactic(auto, using(crate::proofs::Deciding::heard_read))]
+fn event_of_any(
     alloc: Global,
     table: &Table,
     bytes: &[u8],

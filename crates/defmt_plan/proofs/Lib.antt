@@ -1,0 +1,9 @@
+pub mod Along
+pub mod Carrying
+pub mod Complements
+pub mod Onward
+pub mod Places
+pub mod Planning
+pub mod Striding
+pub mod Telling
+pub mod Values

@@ -1,0 +1,50 @@
+-- What one pass over a whole message leaves.
+use Rattle.std.specs.Prelude.{◌≡◌, ℕ, List, ◌++◌, length, Option, Some, None}
+use Rattle.byteorder.specs.Endian.{little_bytes}
+use Rattle.defmt_intern.specs.Catalog.{Catalog}
+use Rattle.defmt_intern.specs.Stamp.{stamp_of}
+use Rattle.defmt_intern.specs.Table.{Map}
+use Rattle.defmt_intern.specs.declared.table.Profile.{Profile}
+use Rattle.defmt_values.specs.Fits.{FitsStamp}
+use Rattle.defmt_values.specs.Plain.{Vals}
+use Rattle.defmt_values.specs.Sound.{AreSound}
+use Rattle.defmt_encode.specs.Carry.{bytes_vals, stamp_slots}
+use Rattle.defmt_encode.specs.Heard.{IsHeard}
+use Rattle.defmt_encode.specs.Lengths.{LengthsFit}
+use Rattle.defmt_encode.specs.Placed.{HasPlace, place_bytes}
+use Rattle.defmt_eager.specs.Line.{eager_line, stamp_text, IsWide}
+use Rattle.defmt_plan.specs.Carried.{Carried}
+use Rattle.defmt_put.specs.Written.{Kept, Written}
+use Rattle.defmt_plan.specs.declared.leaves.Progress.{Progress}
+use Rattle.defmt_plan.specs.declared.message.Head.{Head}
+use Rattle.defmt_plan.specs.declared.message.Told.{Told}
+
+-- the index and the place that a message begins with
+pub record IsHead (profile : Profile) (bytes : List ℕ) (head : Head) : Type 0 where
+  pub placed : HasPlace profile head.place
+  pub carried : Carried bytes 0 head.read (little_bytes 2 head.index ++ place_bytes head.place)
+
+-- the stamp, where the table has one
+pub record StampPassed (t : Map) (bytes : List ℕ) (from to : ℕ) (old : List ℕ) (at : ℕ) (new : List ℕ) (end : ℕ) : Type 0 where
+  pub stamp : Vals
+  pub fits : FitsStamp t (stamp_of t) stamp
+  pub sound : AreSound stamp
+  pub lengths : LengthsFit t (stamp_slots t (stamp_of t)) stamp
+  pub carried : Carried bytes from to (bytes_vals t (stamp_slots t (stamp_of t)) stamp)
+  pub written : Written old at new end (stamp_text t (stamp_of t) stamp)
+
+abbrev pub StampPasses : Option Progress → Map → List ℕ → ℕ → List ℕ → ℕ → List ℕ → Type 0
+StampPasses None t bytes from old at new = Kept old at new
+StampPasses (Some after) t bytes from old at new = StampPassed t bytes from after.read old at new after.written
+
+-- a message that is heard, with its line behind a place
+pub record IsTold (t : Catalog) (bytes : List ℕ) (place : Option ℕ) (index : ℕ) (old : List ℕ) (at : ℕ) (new : List ℕ) (end : ℕ) : Type 0 where
+  pub stamp : Vals
+  pub args : Vals
+  pub heard : IsHeard t bytes place stamp index args
+  pub narrow : IsWide t.entries stamp index args → ⊥
+  pub written : Written old at new end (eager_line t.entries stamp index args)
+
+abbrev pub Tells : Option Told → Catalog → List ℕ → List ℕ → ℕ → List ℕ → Type 0
+Tells None t bytes old at new = Kept old at new
+Tells (Some told) t bytes old at new = IsTold t bytes told.place told.index old at new told.end

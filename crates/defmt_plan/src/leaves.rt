@@ -1,0 +1,178 @@
+//! Values that hold no others, each read and written before the next.
+
+ghost use Rattle.std.specs.Prelude.{◌≡◌, ◌≤◌, length, IfSome};
+ghost use Rattle.defmt_encode.specs.Carry.{size_bytes};
+ghost use Rattle.defmt_grammar.specs.declared.hint.Hint.{Hint as Shape};
+ghost use Rattle.defmt_grammar.specs.declared.kind.Kind.TheVariants as kinds;
+ghost use Rattle.defmt_intern.specs.Table.{Map};
+ghost use Rattle.defmt_plan.specs.Passed.{PassesOne};
+
+use crate::take::{take_bool, take_char, take_chunk, take_str, take_uint};
+use defmt_grammar::{Hint, IntSize, Kind};
+use defmt_put::{half_of, put_bool, put_bytes, put_char, put_int, put_str, put_uint};
+
+/// How far a pass has come: the place in the message, and the place in the buffer.
+#[derive(Clone, Copy)]
+pub(crate) struct Progress {
+    pub read: usize,
+    pub written: usize,
+}
+
+/// The number of bytes of an integer of up to 8.
+fn width_of(size: IntSize) -> Option<usize>
+    ensures { IfSome result (λ width. (width ≡ size_bytes size) × (width ≤ 8)) }
+{
+    match size {
+        IntSize::W8 => Some(1),
+        IntSize::W16 => Some(2),
+        IntSize::W32 | IntSize::Native => Some(4),
+        IntSize::W64 => Some(8),
+        IntSize::W128 => None,
+    }
+}
+
+/// An unsigned number.
+fn pass_uint(
+    size: IntSize,
+    hint: Hint,
+    bytes: &[u8],
+    before: Progress,
+    out: &mut [u8],
+) -> Option<Progress>
+    requires read { before.read ≤ length bytes.now }
+    requires written { before.written ≤ length out.old }
+    ensures { (t : Map) → PassesOne result t (kinds.Uint size) hint bytes.now before out.old out.new }
+{
+    let width = width_of(size)?;
+    let number = take_uint(bytes, before.read, width)?;
+    let written = put_uint(out, before.written, number, hint)?;
+    Some(Progress {
+        read: before.read + width,
+        written,
+    })
+}
+
+/// A truth value.
+fn pass_bool(bytes: &[u8], before: Progress, out: &mut [u8]) -> Option<Progress>
+    requires read { before.read ≤ length bytes.now }
+    requires written { before.written ≤ length out.old }
+    ensures { (t : Map) (hint : Shape) → PassesOne result t kinds.Bool hint bytes.now before out.old out.new }
+{
+    let value = take_bool(bytes, before.read)?;
+    let written = put_bool(out, before.written, value)?;
+    Some(Progress {
+        read: before.read + 1,
+        written,
+    })
+}
+
+/// A text.
+fn pass_str(hint: Hint, bytes: &[u8], before: Progress, out: &mut [u8]) -> Option<Progress>
+    requires read { before.read ≤ length bytes.now }
+    requires written { before.written ≤ length out.old }
+    ensures { (t : Map) → PassesOne result t kinds.Str hint bytes.now before out.old out.new }
+{
+    let text = take_str(bytes, before.read)?;
+    let written = put_str(out, before.written, text, hint)?;
+    Some(Progress {
+        read: before.read + 4 + text.len(),
+        written,
+    })
+}
+
+/// A signed number.
+fn pass_int(
+    size: IntSize,
+    hint: Hint,
+    bytes: &[u8],
+    before: Progress,
+    out: &mut [u8],
+) -> Option<Progress>
+    requires read { before.read ≤ length bytes.now }
+    requires written { before.written ≤ length out.old }
+    ensures { (t : Map) → PassesOne result t (kinds.Int size) hint bytes.now before out.old out.new }
+{
+    let width = width_of(size)?;
+    let half = half_of(size)?;
+    let number = take_uint(bytes, before.read, width)?;
+    let written = put_int(out, before.written, number, half, hint)?;
+    Some(Progress {
+        read: before.read + width,
+        written,
+    })
+}
+
+/// A character.
+fn pass_char(hint: Hint, bytes: &[u8], before: Progress, out: &mut [u8]) -> Option<Progress>
+    requires read { before.read ≤ length bytes.now }
+    requires written { before.written ≤ length out.old }
+    ensures { (t : Map) → PassesOne result t kinds.Char hint bytes.now before out.old out.new }
+{
+    let character = take_char(bytes, before.read)?;
+    let written = put_char(out, before.written, character, hint)?;
+    Some(Progress {
+        read: before.read + 4,
+        written,
+    })
+}
+
+/// Bytes behind their number.
+fn pass_bytes(hint: Hint, bytes: &[u8], before: Progress, out: &mut [u8]) -> Option<Progress>
+    requires read { before.read ≤ length bytes.now }
+    requires written { before.written ≤ length out.old }
+    ensures { (t : Map) → PassesOne result t kinds.Bytes hint bytes.now before out.old out.new }
+{
+    let count = take_uint(bytes, before.read, 4)? as usize;
+    let start = before.read + 4;
+    let chunk = take_chunk(bytes, start, count)?;
+    let written = put_bytes(out, before.written, chunk, hint)?;
+    Some(Progress {
+        read: start + count,
+        written,
+    })
+}
+
+/// So many bytes.
+fn pass_array(
+    count: u16,
+    hint: Hint,
+    bytes: &[u8],
+    before: Progress,
+    out: &mut [u8],
+) -> Option<Progress>
+    requires read { before.read ≤ length bytes.now }
+    requires written { before.written ≤ length out.old }
+    ensures { (t : Map) → PassesOne result t (kinds.ByteArray count) hint bytes.now before out.old out.new }
+{
+    let size = usize::from(count);
+    let chunk = take_chunk(bytes, before.read, size)?;
+    let written = put_bytes(out, before.written, chunk, hint)?;
+    Some(Progress {
+        read: before.read + size,
+        written,
+    })
+}
+
+/// A value of a kind that is usual.
+pub(crate) fn pass_value(
+    kind: Kind,
+    hint: Hint,
+    bytes: &[u8],
+    before: Progress,
+    out: &mut [u8],
+) -> Option<Progress>
+    requires read { before.read ≤ length bytes.now }
+    requires written { before.written ≤ length out.old }
+    ensures { (t : Map) → PassesOne result t kind hint bytes.now before out.old out.new }
+{
+    match kind {
+        Kind::Uint(size) => pass_uint(size, hint, bytes, before, out),
+        Kind::Int(size) => pass_int(size, hint, bytes, before, out),
+        Kind::Bool => pass_bool(bytes, before, out),
+        Kind::Char => pass_char(hint, bytes, before, out),
+        Kind::Str => pass_str(hint, bytes, before, out),
+        Kind::Bytes => pass_bytes(hint, bytes, before, out),
+        Kind::ByteArray(count) => pass_array(count, hint, bytes, before, out),
+        _ => None,
+    }
+}

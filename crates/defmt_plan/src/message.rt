@@ -1,0 +1,62 @@
+//! What stands in a message round its values.
+
+ghost use Rattle.std.specs.Prelude.{◌≡◌, ◌≤◌, true, length, IfSome};
+ghost use Rattle.defmt_encode.specs.Read.{all_zero};
+ghost use Rattle.defmt_plan.specs.Told.{IsHead};
+
+use crate::take::take_uint;
+use defmt_intern::Profile;
+
+/// The front of a message: its index, its place where the profile has one, and the place behind both.
+#[derive(Clone, Copy)]
+pub(crate) struct Head {
+    pub index: u16,
+    pub place: Option<u16>,
+    pub read: usize,
+}
+
+/// A line that was written: its statement's index, the place of its message, and where it ends in the buffer.
+#[derive(Clone, Copy)]
+pub struct Told {
+    pub index: u16,
+    pub place: Option<u16>,
+    pub end: usize,
+}
+
+/// The front of a message in a profile.
+pub(crate) fn read_head(profile: Profile, bytes: &[u8]) -> Option<Head>
+    ensures { IfSome result (λ head. IsHead profile bytes.now head) }
+{
+    let index = take_uint(bytes, 0, 2)? as u16;
+    match profile {
+        Profile::One => Some(Head {
+            index,
+            place: None,
+            read: 2,
+        }),
+        Profile::Two => {
+            let place = take_uint(bytes, 2, 2)? as u16;
+            Some(Head {
+                index,
+                place: Some(place),
+                read: 4,
+            })
+        }
+    }
+}
+
+/// Whether bytes are at most six zeros.
+pub(crate) fn is_padding(bytes: &[u8]) -> bool
+    ensures { result ≡ true → (length bytes.now ≤ 6) × (all_zero bytes.now ≡ true) }
+{
+    match bytes {
+        [] => true,
+        [0] => true,
+        [0, 0] => true,
+        [0, 0, 0] => true,
+        [0, 0, 0, 0] => true,
+        [0, 0, 0, 0, 0] => true,
+        [0, 0, 0, 0, 0, 0] => true,
+        _ => false,
+    }
+}

@@ -1,0 +1,122 @@
+//! Plans: what a table's strings need to be read and printed.
+
+ghost use Rattle.std.specs.Prelude.{◌≡◌, ◌++◌, true, codes, Some, IfSome, IfOk};
+ghost use Rattle.defmt_eager.specs.Line.{level_text};
+ghost use Rattle.defmt_values.specs.Entries.{is_logged};
+ghost use Rattle.defmt_plan.specs.Plans.{AreStepsOf, ArePlansIn, IsPlanIn, SaysStamp, space_if};
+
+use crate::steps::{Step, steps_of};
+use defmt_grammar::{Memory, Text};
+use defmt_intern::{Parsed, Table, Tag};
+use defmt_values::look_up;
+use std::alloc::Global;
+
+/// The plan of a statement of a level.
+#[derive(Drop)]
+pub(crate) struct Plan {
+    pub index: u16,
+    /// What stands between the stamp's text and its own.
+    pub front: Text,
+    pub steps: Vec<Step>,
+}
+
+/// The plan of a table's stamp.
+#[derive(Drop)]
+pub(crate) enum StampPlan {
+    /// The table has none.
+    Missing,
+    Steps(Vec<Step>),
+    /// It isn't usual.
+    Unusual,
+}
+
+/// The steps of the string at an index, where it has some that are usual.
+fn steps_at(alloc: Global, table: &Table, index: u16) -> Result<Option<Vec<Step>>, Memory>
+    ensures { IfOk result (λ r. IfSome r (λ steps. AreStepsOf table.now.entries index steps.items)) }
+{
+    let Some((_, body)) = look_up(table, index) else {
+        return Ok(None);
+    };
+    match body {
+        Parsed::One(pieces) => steps_of(alloc, pieces.as_slice()),
+        _ => Ok(None),
+    }
+}
+
+/// The plan of a table's stamp.
+pub(crate) fn stamp_plan(alloc: Global, table: &Table) -> Result<StampPlan, Memory>
+    ensures { IfOk result (λ plan. SaysStamp table.now.entries plan) }
+{
+    let Some(index) = table.stamp() else {
+        return Ok(StampPlan::Missing);
+    };
+    match steps_at(alloc, table, index)? {
+        Some(steps) => Ok(StampPlan::Steps(steps)),
+        None => Ok(StampPlan::Unusual),
+    }
+}
+
+/// The name of a level, in five places.
+fn level_text(tag: &Tag) -> Option<&'static str>
+    ensures text { IfSome result (λ level. level_text tag.now ≡ Some level.now) }
+    ensures logged { IfSome result (λ level. is_logged tag.now ≡ true) }
+{
+    match tag {
+        Tag::Trace => Some("TRACE"),
+        Tag::Debug => Some("DEBUG"),
+        Tag::Info => Some("INFO "),
+        Tag::Warn => Some("WARN "),
+        Tag::Error => Some("ERROR"),
+        _ => None,
+    }
+}
+
+/// What stands between a stamp, where there is one, and the text of a statement of this level.
+fn front_of(alloc: Global, stamped: bool, level: &str) -> Result<Text, Memory>
+    ensures { IfOk result (λ front. front ≡ space_if stamped ++ (level.now ++ codes " ")) }
+{
+    let mut front = Text::new(alloc);
+    if stamped {
+        front.push_str(" ")?;
+    }
+    front.push_str(level)?;
+    front.push_str(" ")?;
+    Ok(front)
+}
+
+/// The plan of the string at an index, where it is of a level and usual.
+fn plan_of(alloc: Global, table: &Table, index: u16) -> Result<Option<Plan>, Memory>
+    ensures { IfOk result (λ r. IfSome r (λ plan. IsPlanIn table.now.entries plan)) }
+{
+    let Some((entry, body)) = look_up(table, index) else {
+        return Ok(None);
+    };
+    let Some(level) = level_text(&entry.tag) else {
+        return Ok(None);
+    };
+    let Parsed::One(pieces) = body else {
+        return Ok(None);
+    };
+    let Some(steps) = steps_of(alloc, pieces.as_slice())? else {
+        return Ok(None);
+    };
+    let front = front_of(alloc, table.stamp().is_some(), level)?;
+    Ok(Some(Plan {
+        index,
+        front,
+        steps,
+    }))
+}
+
+/// The plans of a table's strings that are of a level and usual, in the order of their indexes.
+pub(crate) fn plans_of(alloc: Global, table: &Table) -> Result<Vec<Plan>, Memory>
+    ensures { IfOk result (λ plans. ArePlansIn table.now.entries plans.items) }
+{
+    let mut plans = Vec::new(alloc);
+    for (index, _) in table.entries() {
+        if let Some(plan) = plan_of(alloc, table, index)? {
+            plans.push(plan)?;
+        }
+    }
+    Ok(plans)
+}

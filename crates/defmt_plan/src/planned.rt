@@ -1,0 +1,138 @@
+//! A table with the plans of its strings.
+
+ghost use Rattle.std.specs.Prelude.{◌≡◌, ◌≤◌, length, IfOk, IfSome};
+ghost use Rattle.defmt_plan.specs.Plans.{IsPlanIn};
+ghost use Rattle.defmt_plan.specs.Told.{StampPasses, Tells};
+
+use crate::leaves::Progress;
+use crate::message::{Told, is_padding, read_head};
+use crate::plan::{Plan, StampPlan, plans_of, stamp_plan};
+use crate::steps::run;
+use defmt_grammar::Memory;
+use defmt_intern::Table;
+use defmt_put::put;
+use std::alloc::Global;
+use std::marker::Model;
+
+// The most bytes of a text that isn't too wide.
+const LONGEST: usize = 65536;
+
+/// A table, and a plan of each of its strings that is of a level and usual. Contracts see it as its table.
+///
+/// A string is usual where it uses each position once and in order.
+#[derive(Drop)]
+pub struct PlannedTable {
+    table: Table,
+    stamp: StampPlan,
+    plans: Vec<Plan>,
+    // At an index the number of its plan, where it has one.
+    numbers: Vec<u16>,
+}
+
+impl Model for PlannedTable {
+    ghost use Rattle.defmt_intern.specs.declared.table.Table.{Table as AnyTable};
+    ghost use Rattle.defmt_intern.specs.contracts.table.Table.{the_row};
+    ghost use Rattle.defmt_plan.specs.Plans.{ArePlansIn, SaysStamp};
+
+    ghost Value = { AnyTable };
+
+    ghost coded = { the_row.coded };
+
+    ghost view = { λ p. p.table };
+
+    ghost invariant = { λ p. SaysStamp p.table.entries p.stamp × ArePlansIn p.table.entries p.plans.items };
+}
+
+/// At each index up to the greatest of the plans the number of its plan.
+fn numbers_of(alloc: Global, plans: &[Plan]) -> Result<Vec<u16>, Memory> {
+    let Some(last) = plans.last() else {
+        return Ok(Vec::new(alloc));
+    };
+    let size = usize::from(last.index).saturating_add(1);
+    let mut numbers = vec![in alloc; 0u16; size]?;
+    for (number, plan) in plans.iter().enumerate() {
+        if let Some(place) = numbers.get_mut(usize::from(plan.index)) {
+            *place = number.min(65535) as u16;
+        }
+    }
+    Ok(numbers)
+}
+
+impl PlannedTable {
+    /// The table with its plans, which are made here.
+    pub fn new(alloc: Global, table: Table) -> Result<PlannedTable, Memory>
+        ensures { IfOk result (λ planned. planned ≡ table) }
+    {
+        let stamp = stamp_plan(alloc, &table)?;
+        let plans = plans_of(alloc, &table)?;
+        let numbers = numbers_of(alloc, &plans)?;
+        Ok(PlannedTable {
+            table,
+            stamp,
+            plans,
+            numbers,
+        })
+    }
+
+    /// The table. Takes no memory.
+    pub fn table(&self) -> &Table
+        ensures { result.now ≡ self.now }
+    {
+        &self.table
+    }
+
+    /// The plan of the string at an index, where it has one.
+    fn plan(&self, index: u16) -> Option<&Plan>
+        ensures at { IfSome result (λ plan. plan.now.index ≡ index) }
+        ensures is { IfSome result (λ plan. IsPlanIn self.now.entries plan.now) }
+    {
+        let number = self.numbers.get(usize::from(index))?;
+        let plan = self.plans.get(usize::from(*number))?;
+        if plan.index == index {
+            Some(plan)
+        } else {
+            None
+        }
+    }
+
+    /// The stamp, where the table has one.
+    fn stamp(&self, bytes: &[u8], from: usize, out: &mut [u8], at: usize) -> Option<Progress>
+        requires read { from ≤ length bytes.now }
+        requires written { at ≤ length out.old }
+        ensures { StampPasses result self.now.entries bytes.now from out.old at out.new }
+    {
+        match &self.stamp {
+            StampPlan::Missing => Some(Progress {
+                read: from,
+                written: at,
+            }),
+            StampPlan::Steps(steps) => run(steps, bytes, from, out, at),
+            StampPlan::Unusual => None,
+        }
+    }
+
+    /// The line of a message whose plan there is, written behind a place of the buffer. Where it is answered, the message is
+    /// heard, and neither its stamp's text nor its own is too wide. What stands in front of the place is as before in any case.
+    /// Takes no memory.
+    pub fn message(&self, bytes: &[u8], out: &mut [u8], at: usize) -> Option<Told>
+        requires { at ≤ length out.old }
+        ensures { Tells result self.now bytes.now out.old at out.new }
+    {
+        if out.len() > LONGEST {
+            return None;
+        }
+        let head = read_head(self.table.profile(), bytes)?;
+        let plan = self.plan(head.index)?;
+        let stamped = self.stamp(bytes, head.read, out, at)?;
+        let fronted = put(out, stamped.written, plan.front.as_str().as_bytes())?;
+        let said = run(&plan.steps, bytes, stamped.read, out, fronted)?;
+        if !is_padding(&bytes[said.read..]) {
+            return None;
+        }
+        Some(Told {
+            index: head.index,
+            place: head.place,
+            end: said.written,
+        })
+    }
+}

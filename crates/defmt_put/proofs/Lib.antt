@@ -1,0 +1,6 @@
+pub mod Chains
+pub mod Elements
+pub mod Filling
+pub mod Fractions
+pub mod Places
+pub mod Signs

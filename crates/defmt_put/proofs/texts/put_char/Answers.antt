@@ -1,0 +1,7 @@
+use Rattle.std.proofs.Common.{rules}
+use Rattle.defmt_hints.specs.Printed.{printed_char}
+use Rattle.defmt_put.proofs.texts.put_char.Goals as goal
+
+pub returns-in-Plain : goal.returns-in-Plain
+unfolding printed_char
+returns-in-Plain c = search rules
