@@ -1,5 +1,5 @@
 // Bytes at hand are heard.
-ghost use Rattle.std.specs.Prelude.{◌≡◌, ◌≤◌, ℕ, [], Some, None, List, length, IfOk, IfErr, OnOk};
+ghost use Rattle.std.specs.Prelude.{◌≡◌, ◌≤◌, ℕ, [], Some, None, List, length, IfOk, IfErr};
 ghost use Rattle.defmt_framing.specs.Framing.{Stands};
 ghost use Rattle.defmt_listen.specs.Heard.{Reported, ToldAll, ToldFront, recording_limit};
 ghost use Rattle.defmt_listen.specs.Streams.{output_of};
@@ -59,25 +59,29 @@ impl<'a> Source for AtHand<'a> {
     }
 }
 
-/// Hears all the bytes, and gives the reporter each event. What it prints is written nowhere.
-pub fn hear_bytes<L: Listener, R: Reporter<L::Event>>(
+/// Hears all the bytes, gives the reporter each event, and answers both as they are behind them. What is printed is written
+/// nowhere.
+pub fn hear_bytes<L: Listener + Drop, R: Reporter<L::Event> + Drop>(
     alloc: Global,
-    listener: &mut L,
-    reporter: &mut R,
+    listener: L,
+    reporter: R,
     bytes: &[u8],
-) -> Result<(), Memory>
-    ensures reported { OnOk result ((stream : List ℕ) → Stands (L.framing listener.old) stream
-        → Reported (L.tells listener.old) R.reporting (L.framing listener.new)
-        reporter.old reporter.new stream bytes.now) }
-    ensures same { OnOk result (L.tells listener.new ≡ L.tells listener.old) }
+) -> Result<(L, R), Memory>
+    ensures reported { IfOk result (λ heard.
+        (stream : List ℕ) → Stands (L.framing listener) stream
+        → Reported (L.tells listener) R.reporting (L.framing heard.0)
+        reporter heard.1 stream bytes.now) }
+    ensures same { IfOk result (λ heard. L.tells heard.0 ≡ L.tells listener) }
 {
+    let mut listener = listener;
+    let mut reporter = reporter;
     let mut told = Report {
         alloc,
         lines: Bytes::new(alloc),
         faults: 0,
     };
-    match hear_part(listener, reporter, &mut Nowhere, &mut told, bytes) {
-        Ok(()) => Ok(()),
+    match hear_part(&mut listener, &mut reporter, &mut Nowhere, &mut told, bytes) {
+        Ok(()) => Ok((listener, reporter)),
         Err(_) => Err(Memory),
     }
 }

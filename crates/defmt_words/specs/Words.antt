@@ -1,5 +1,6 @@
 -- What the words of the program ask for.
 use Rattle.std.specs.Prelude.{ℕ, Bool, true, false, not, List, [], ◌∷◌, Option, Some, None, is_some, if◌then◌else◌, codes, option_map, option_and_then}
+use Rattle.std.specs.List.{list_all, list_any}
 use Rattle.std.specs.Option.{option_map_or}
 use Rattle.std.specs.Str.{bytes_eq}
 use Rattle.clap.specs.Words.{App, Row, Rule, Text, first_of, fault_of, matches_of, new_app, new_rule, with_rule, Kinds}
@@ -76,8 +77,7 @@ is_there Value name rows = is_some (first_of name rows)
 is_there Flag name rows = is_set name rows
 
 abbrev pub is_among : Text → List Text → Bool
-is_among word [] = false
-is_among word (w ∷ ws) = if bytes_eq word w then true else is_among word ws
+is_among word words = list_any (bytes_eq word) words
 
 -- the command takes a parameter that is there, and doesn't need one that isn't
 abbrev pub goes : Text → List Row → Parameter → Bool
@@ -85,8 +85,7 @@ goes command rows parameter = if is_there parameter.kind parameter.name rows
     then is_among command parameter.taken else not (is_among command parameter.needed)
 
 abbrev pub all_go : Text → List Row → List Parameter → Bool
-all_go command rows [] = true
-all_go command rows (parameter ∷ more) = if goes command rows parameter then all_go command rows more else false
+all_go command rows list = list_all (goes command rows) list
 
 -- ---- the job of a command, by parameters that go with it
 

@@ -1,0 +1,112 @@
+-- The events of an up-buffer in an image of memory are printed, by the table that a file names.
+use Rattle.std.specs.Prelude.{◌≡◌, ◌⊎◌, ◌<◌, ℕ, nat_lt, List, length, Option, Some, None, if◌then◌else◌}
+use Rattle.dl_io.specs.Outside.{Rose}
+use Rattle.defmt_decode.specs.Event.{events_of}
+use Rattle.defmt_decode.specs.declared.event.Event.{Event}
+use Rattle.defmt_framing.specs.Told.{events}
+use Rattle.defmt_hooks.specs.declared.rules.Rules.{Rules}
+use Rattle.defmt_intern.specs.Catalog.{Catalog}
+use Rattle.defmt_intern.specs.declared.table.Table.{Table}
+use Rattle.defmt_listen.specs.Heard.{Reports, ToldAll, faults, lines, recording_limit}
+use Rattle.defmt_listen.specs.Streams.{Input, Output, WroteFront}
+use Rattle.defmt_recording.specs.Output.{reports}
+use Rattle.defmt_recording.specs.Shown.{shown_reports}
+use Rattle.defmt_recording.specs.Calls.{Files, GaveWithin, IsUnread, IsUnwritten, TookMore, TookWithin}
+use Rattle.defmt_recording.specs.Decoding.{Loaded, LoadingComesTo, RefusesTable, fault_of_count}
+use Rattle.defmt_recording.specs.declared.fault.Fault.{Fault}
+use Rattle.defmt_recording.specs.declared.fault.Fault.TheVariants.{Fine, Memory, Source, Sink, Long, Events, Control}
+use Rattle.defmt_words.specs.declared.job.DumpOptions.{DumpOptions}
+use Rattle.rtt_dump.specs.Answers.{refusal}
+use Rattle.rtt_dump.specs.Dump.{dump}
+use Rattle.rtt_dump.specs.declared.fault.DumpFault.{DumpFault}
+use Rattle.rtt_dump.specs.declared.fault.DumpFault.TheVariants as dumps
+
+-- ---- the image
+
+-- what an image is refused for
+abbrev pub refused_for : DumpOptions → List ℕ → Option DumpFault
+refused_for options image = refusal image options.base options.up
+
+-- the bytes of its up-buffer: those that wait, or all
+abbrev pub asked_bytes : DumpOptions → List ℕ → List ℕ
+asked_bytes options image = dump image options.base options.up options.old
+
+-- the source gave an image that isn't refused, and these are its bytes
+pub record Gives (options : DumpOptions) (input : Input) (bytes : List ℕ) : Type 0 where
+  pub image : List ℕ
+  pub whole : GaveWithin recording_limit input image
+  pub passes : refused_for options image ≡ None
+  pub is : bytes ≡ asked_bytes options image
+
+-- the source gave an image that is refused
+pub record RefusesImage (options : DumpOptions) (input : Input) (cause place : ℕ) : Type 0 where
+  pub image : List ℕ
+  pub whole : GaveWithin recording_limit input image
+  pub refused : refused_for options image ≡ Some (dumps.Refused cause place)
+
+-- Why the source gives no bytes: it failed, or has more than the limit, of which one byte more was taken, or its image is
+-- refused. Want of memory is free.
+abbrev pub GivesNone : DumpOptions → Input → Fault → Type 0
+GivesNone options input Memory = TookWithin recording_limit input
+GivesNone options input Source = Rose input.faults input.faults_after × TookWithin recording_limit input
+GivesNone options input Long = TookMore recording_limit input
+GivesNone options input (Control cause place) = RefusesImage options input cause place
+GivesNone options input fault = ⊥
+
+-- ---- what stands at each fault
+
+-- what became of these bytes, of which this is reported
+abbrev pub Prints : {S : Type 0} → Reports S Event → List ℕ → Output → Fault → Type 0
+Prints r bytes output Fine = ToldAll r bytes output 0
+Prints r bytes output (Events bad) = ToldAll r bytes output bad × (0 < bad)
+Prints r bytes output Memory = WroteFront output (lines r (events r.tells bytes))
+Prints r bytes output Sink =
+    WroteFront output (lines r (events r.tells bytes)) × Rose output.faults output.faults_after
+Prints r bytes output fault = ⊥
+
+-- the same by a table, with all lines or with those that rules show
+abbrev pub PrintsBy : Option Rules → Catalog → List ℕ → Output → Fault → Type 0
+PrintsBy None table bytes output fault = Prints (reports table) bytes output fault
+PrintsBy (Some rules) table bytes output fault = Prints (shown_reports rules table) bytes output fault
+
+-- by a table: the source gave no bytes, and nothing was written, or it did, and this became of their lines
+abbrev pub Shows : Option Rules → Catalog → DumpOptions → Input → Output → Fault → Type 0
+Shows only table options input output fault =
+    (GivesNone options input fault × IsUnwritten output)
+    ⊎ ((bytes : List ℕ) × Gives options input bytes × PrintsBy only table bytes output fault)
+
+-- Nothing was touched but the shelf, or the table was loaded, and then this.
+abbrev pub Dumps : List ℕ → DumpOptions → Option Rules → Input → Files → Output → Fault → Type 0
+Dumps name options only input files output fault =
+    (RefusesTable files name fault × IsUnread input × IsUnwritten output)
+    ⊎ ((table : Table) × Loaded files name table × Shows only table options input output fault)
+
+-- ---- what told inputs come to, where nothing fails and memory is there
+
+-- an image that is refused for this, or else comes to this fault; none is refused for want of memory
+abbrev pub or_refused : Option DumpFault → Fault → Fault
+or_refused None fault = fault
+or_refused (Some (dumps.Refused cause place)) fault = Control cause place
+or_refused (Some dumps.Memory) fault = Memory
+
+-- an image, by a table
+abbrev pub fault_of_image : DumpOptions → List ℕ → Catalog → Fault
+fault_of_image options image table =
+    if nat_lt recording_limit (length image) then Long
+    else or_refused (refused_for options image) (fault_of_count (faults (reports table) (events_of table (asked_bytes options image))))
+
+-- an image, and the table's file if there is one
+abbrev pub DumpingComesTo : DumpOptions → Option (List ℕ) → List ℕ → Fault → Type 0
+DumpingComesTo options file image fault = LoadingComesTo (fault_of_image options image) file fault
+
+-- ---- for private clauses
+
+-- an image isn't refused, and these are its bytes
+abbrev pub AreAsked : DumpOptions → List ℕ → List ℕ → Type 0
+AreAsked options image bytes = (refused_for options image ≡ None) × (bytes ≡ asked_bytes options image)
+
+-- why an image gives no bytes
+abbrev pub StopsAt : DumpOptions → List ℕ → Fault → Type 0
+StopsAt options image Memory = Unit {0}
+StopsAt options image (Control cause place) = refused_for options image ≡ Some (dumps.Refused cause place)
+StopsAt options image fault = ⊥

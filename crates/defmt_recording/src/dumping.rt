@@ -1,0 +1,166 @@
+// The bytes of an up-buffer in an image of memory are decoded by the table that a file names.
+ghost use Rattle.std.specs.Prelude.{◌≡◌, ◌≤◌, [], length, IfOk, IfErr};
+ghost use Rattle.defmt_decode.specs.Event.{tells};
+ghost use Rattle.defmt_framing.specs.Framing.{Stands};
+ghost use Rattle.defmt_listen.specs.Heard.{recording_limit};
+ghost use Rattle.defmt_listen.specs.Streams.{input_of, output_of};
+ghost use Rattle.defmt_recording.specs.Shown.{shown_reports};
+ghost use Rattle.defmt_recording.specs.Calls.{files_of};
+ghost use Rattle.defmt_recording.specs.Dumping.{AreAsked, Dumps, Gives, GivesNone, Prints, PrintsBy, Shows, StopsAt};
+
+use crate::decoding::load;
+use crate::ear::Ear;
+use crate::fault::Fault;
+use crate::printer::Printer;
+use crate::screened::Screened;
+use defmt_decode::{Event, Host};
+use defmt_hooks::Rules;
+use defmt_listen::{ListenFault, Reporter, listen_bytes};
+use defmt_words::DumpOptions;
+use dl_io::{Bytes, ReadFault, Shelf, Sink, Source, read_all};
+use rtt_dump::{DumpFault, dumped};
+use std::alloc::Global;
+
+const IMAGE_LIMIT: usize = 268_435_456;
+
+/// Prints the events of an up-buffer in the image that the source gives, by the table that the file of this name names, and by
+/// rules where there are some.
+pub fn dump<S: Source, F: Shelf, K: Sink>(
+    alloc: Global,
+    name: &str,
+    options: &DumpOptions,
+    only: &Option<Rules>,
+    src: &mut S,
+    shelf: &mut F,
+    out: &mut K,
+) -> Fault
+    ensures dumps { Dumps name.now options.now only.now
+        (input_of S.left S.faults src.old src.new) (files_of F.files F.faults shelf.old shelf.new)
+        (output_of K.held K.faults out.old out.new) result }
+    ensures source_count { S.faults src.old ≤ S.faults src.new }
+    ensures sink_count { K.faults out.old ≤ K.faults out.new }
+    ensures shelf_count { F.faults shelf.old ≤ F.faults shelf.new }
+    ensures files { F.files shelf.new ≡ F.files shelf.old }
+{
+    match load(alloc, name, shelf) {
+        Ok(host) => show(alloc, options, only, src, out, host),
+        Err(fault) => fault,
+    }
+}
+
+// Prints them by the table of this host. The image is let go before.
+fn show<S: Source, K: Sink>(
+    alloc: Global,
+    options: &DumpOptions,
+    only: &Option<Rules>,
+    src: &mut S,
+    out: &mut K,
+    host: Host,
+) -> Fault
+    requires { Stands host.framing [] }
+    ensures shows { Shows only.now host.table options.now
+        (input_of S.left S.faults src.old src.new)
+        (output_of K.held K.faults out.old out.new) result }
+    ensures source_count { S.faults src.old ≤ S.faults src.new }
+    ensures sink_count { K.faults out.old ≤ K.faults out.new }
+{
+    match given_bytes(alloc, options, src) {
+        Ok(bytes) => print_bytes(alloc, only, bytes.as_slice(), out, host),
+        Err(fault) => fault,
+    }
+}
+
+// The bytes of the up-buffer in the image that the source gives.
+fn given_bytes<S: Source>(alloc: Global, options: &DumpOptions, src: &mut S) -> Result<Bytes, Fault>
+    ensures gives { IfOk result (λ bytes. Gives options.now
+        (input_of S.left S.faults src.old src.new) bytes.items) }
+    ensures short { IfOk result (λ bytes. length bytes.items ≤ recording_limit) }
+    ensures none { IfErr result (λ fault. GivesNone options.now
+        (input_of S.left S.faults src.old src.new) fault) }
+    ensures later { S.faults src.old ≤ S.faults src.new }
+{
+    match read_all(alloc, src, IMAGE_LIMIT) {
+        Ok(image) => asked_bytes(alloc, options, image.as_slice()),
+        Err(ReadFault::Failed) => Err(Fault::Source),
+        Err(ReadFault::Long { .. }) => Err(Fault::Long),
+        Err(ReadFault::Memory) => Err(Fault::Memory),
+    }
+}
+
+// The bytes of the up-buffer in an image.
+fn asked_bytes(alloc: Global, options: &DumpOptions, image: &[u8]) -> Result<Bytes, Fault>
+    requires { length image.now ≤ recording_limit }
+    ensures asked { IfOk result (λ bytes. AreAsked options.now image.now bytes.items) }
+    ensures short { IfOk result (λ bytes. length bytes.items ≤ recording_limit) }
+    ensures stops { IfErr result (λ fault. StopsAt options.now image.now fault) }
+{
+    match dumped(alloc, image, options.base, options.up, options.old) {
+        Ok(bytes) => Ok(bytes),
+        Err(DumpFault::Refused { cause, place }) => Err(Fault::Control { cause, place }),
+        Err(DumpFault::Memory) => Err(Fault::Memory),
+    }
+}
+
+// Writes the lines of the events of these bytes, or those that rules show, with the gaps between them.
+fn print_bytes<K: Sink>(
+    alloc: Global,
+    only: &Option<Rules>,
+    bytes: &[u8],
+    out: &mut K,
+    host: Host,
+) -> Fault
+    requires stands { Stands host.framing [] }
+    requires short { length bytes.now ≤ recording_limit }
+    ensures prints { PrintsBy only.now host.table bytes.now
+        (output_of K.held K.faults out.old out.new) result }
+    ensures later { K.faults out.old ≤ K.faults out.new }
+{
+    match only {
+        None => print_with(alloc, bytes, out, host, Printer { last: None }),
+        Some(rules) => print_shown(alloc, rules, bytes, out, host),
+    }
+}
+
+// The same by rules, which ask a copy of the table.
+fn print_shown<K: Sink>(
+    alloc: Global,
+    rules: &Rules,
+    bytes: &[u8],
+    out: &mut K,
+    host: Host,
+) -> Fault
+    requires stands { Stands host.framing [] }
+    requires short { length bytes.now ≤ recording_limit }
+    ensures prints { Prints (shown_reports rules.now host.table) bytes.now
+        (output_of K.held K.faults out.old out.new) result }
+    ensures later { K.faults out.old ≤ K.faults out.new }
+{
+    match host.table().copy() {
+        Ok(table) => print_with(alloc, bytes, out, host, Screened::new(rules, table)),
+        Err(_) => Fault::Memory,
+    }
+}
+
+fn print_with<K: Sink, R: Reporter<Event> + Drop>(
+    alloc: Global,
+    bytes: &[u8],
+    out: &mut K,
+    host: Host,
+    reporter: R,
+) -> Fault
+    requires stands { Stands host.framing [] }
+    requires short { length bytes.now ≤ recording_limit }
+    ensures prints { Prints
+        (record { tells = tells host.table; reporting = R.reporting; start = reporter })
+        bytes.now (output_of K.held K.faults out.old out.new) result }
+    ensures later { K.faults out.old ≤ K.faults out.new }
+{
+    match listen_bytes(alloc, bytes, out, Ear { host }, reporter) {
+        Ok(0) => Fault::Fine,
+        Ok(bad) => Fault::Events { bad },
+        Err(ListenFault::Sink) => Fault::Sink,
+        Err(ListenFault::Memory) => Fault::Memory,
+        Err(ListenFault::Source) => unreachable!(),
+        Err(ListenFault::Long) => unreachable!(),
+    }
+}

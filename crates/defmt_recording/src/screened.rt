@@ -1,0 +1,79 @@
+// What events print by rules.
+ghost use Rattle.std.specs.Prelude.{◌≡◌, ◌++◌, None, OnErr, OnOk};
+ghost use Rattle.defmt_recording.specs.Shown.{by_rules, screening, shown_line};
+
+use crate::output::{add_gap, add_line, is_fault, last_behind};
+use defmt_decode::{Event, shows};
+use defmt_hooks::Rules;
+use defmt_intern::Table;
+use defmt_listen::Reporter;
+use dl_io::{Bytes, Memory};
+use std::alloc::Global;
+use std::marker::Model;
+
+/// Appends the output line of an event, nothing of a line that rules don't show, and in front of it how many frames are missing
+/// since the last line, which has this place. On want of memory nothing was appended.
+#[tactic(auto, unfolding(crate::specs::Output::gapped_line, crate::specs::Shown::shown_line))]
+pub fn add_shown_line(
+    alloc: Global,
+    rules: &Rules,
+    table: &Table,
+    last: Option<u16>,
+    event: &Event,
+    out: &mut Bytes,
+) -> Result<(), Memory>
+    ensures appended { OnOk result (out.new.items
+        ≡ out.old.items ++ shown_line rules.now table.now.entries last event.now) }
+    ensures err { OnErr result (out.new.items ≡ out.old.items) }
+{
+    if shows(rules, table, event) {
+        return add_line(alloc, last, event, out);
+    }
+    add_gap(alloc, last, event, out)
+}
+
+/// Prints the line of each event but of the lines that rules don't show, by a table, and in front of a line how many frames are
+/// missing since the last.
+#[derive(Drop)]
+pub struct Screened<'a> {
+    rules: &'a Rules,
+    table: Table,
+    last: Option<u16>,
+}
+
+impl<'a> Model for Screened<'a> {
+    ghost use Rattle.defmt_recording.specs.Shown.{Screening, screening, screening_code};
+
+    ghost Value = { Screening };
+
+    ghost coded = { screening_code };
+
+    ghost view = { λ s. screening s.rules.now s.table.entries s.last };
+}
+
+impl<'a> Screened<'a> {
+    /// A reporter by these rules and this table, which saw no line yet.
+    pub fn new(rules: &'a Rules, table: Table) -> Self
+        ensures { result ≡ screening rules.now table.entries None }
+    {
+        Screened {
+            rules,
+            table,
+            last: None,
+        }
+    }
+}
+
+impl<'a> Reporter<Event> for Screened<'a> {
+    ghost reporting = { by_rules };
+
+    fn add_line(&mut self, alloc: Global, event: Event, out: &mut Bytes) -> Result<(), Memory> {
+        add_shown_line(alloc, self.rules, &self.table, self.last, &event, out)?;
+        self.last = last_behind(self.last, &event);
+        Ok(())
+    }
+
+    fn is_fault(&self, event: &Event) -> bool {
+        is_fault(event)
+    }
+}
