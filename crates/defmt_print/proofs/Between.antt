@@ -10,8 +10,9 @@ use Rattle.defmt_logger.specs.Tape.{mark_line}
 use Rattle.defmt_logger.specs.declared.mark.Mark.{Mark}
 use Rattle.defmt_print.proofs.ShownLines.{no_events, one_event, one_line}
 use Rattle.defmt_print.specs.Heard.{AreNoLines, HaveNoPlaces, IsWhole, WasDropped, WereDropped, line_at}
-use Rattle.defmt_print.specs.Output.{gap_before, gap_line, last_behind}
-use Rattle.defmt_print.specs.Shown.{dropped_behind, event_lines_by, event_lines_from, kept_event, kept_line, shows_index, shows_mark, tape_line, tape_lines}
+use Rattle.defmt_recording.specs.Output.{gap_before, gap_line, last_behind}
+use Rattle.defmt_print.specs.Shown.{dropped_behind, kept_line, shows_index, shows_mark, tape_line, tape_lines}
+use Rattle.defmt_recording.specs.Shown.{event_lines_by, event_lines_from, kept_event}
 use Rattle.defmt_script.specs.Script.{Script}
 use Rattle.rtt_modes.specs.declared.fate.Fate.{Fate}
 use Rattle.rtt_modes.specs.declared.fate.Fate.TheVariants.{Whole, Dropped, Cut}

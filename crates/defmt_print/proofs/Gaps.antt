@@ -15,9 +15,10 @@ use Rattle.defmt_logger.specs.declared.mark.Mark.{Mark}
 use Rattle.defmt_print.proofs.Marks.{there}
 use Rattle.defmt_print.proofs.ShownLines.{no_events, one_whole}
 use Rattle.defmt_print.specs.Heard.{GapsIn, LinesIn, event_by, whole_events, whole_from}
-use Rattle.defmt_print.specs.Output.{gap_between, gap_line}
+use Rattle.defmt_recording.specs.Output.{gap_between, gap_line}
 use Rattle.defmt_print.specs.Printed.{ArePlaced, mark_statement}
-use Rattle.defmt_print.specs.Shown.{dropped_behind, event_lines_by, event_lines_from, kept_line, shown_by, shown_mark_line, shown_mark_lines, shows_by, tape_line, tape_lines, tape_lines_by}
+use Rattle.defmt_print.specs.Shown.{dropped_behind, kept_line, shown_by, shown_mark_line, shown_mark_lines, shows_by, tape_line, tape_lines, tape_lines_by}
+use Rattle.defmt_recording.specs.Shown.{event_lines_by, event_lines_from}
 use Rattle.defmt_script.specs.Script.{Script}
 use Rattle.defmt_values.specs.declared.value.Statement.{Statement}
 use Rattle.rtt_modes.specs.declared.fate.Fate.{Fate}

@@ -1,7 +1,5 @@
 pub mod Between
-pub mod Events
 pub mod Gaps
-pub mod HeardParts
 pub mod Lines
 pub mod Marks
 pub mod Numbered
@@ -9,4 +7,6 @@ pub mod OrderLaws
 pub mod ShownLines
 pub mod Sizes
 pub mod Stamped
+pub mod Tables
 pub mod Texts
+pub mod Quick

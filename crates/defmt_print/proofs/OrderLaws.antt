@@ -5,7 +5,7 @@ use Rattle.std.proofs.lemmas.List.{append-nil, take_all}
 use Rattle.std.proofs.lemmas.Option.{same_Some}
 use Rattle.defmt_hooks.specs.declared.level.Level.{Level}
 use Rattle.defmt_print.specs.OrderLines.{heard_at, order_lines, order_lines_from, order_text}
-use Rattle.defmt_print.specs.Output.{ended}
+use Rattle.defmt_recording.specs.Output.{ended}
 use Rattle.rtt_down.specs.declared.turn.Turn.{Turn}
 
 abbrev Plan : Type 0

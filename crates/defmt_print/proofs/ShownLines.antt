@@ -4,8 +4,9 @@ use Rattle.defmt_decode.specs.declared.event.Event.{Event}
 use Rattle.defmt_decode.specs.declared.event.Event.TheVariants.{Line}
 use Rattle.defmt_hooks.specs.declared.rules.Rules.{Rules}
 use Rattle.defmt_intern.specs.Table.{Map}
-use Rattle.defmt_print.specs.Output.{gap_before, gap_between, gap_line, gapped_line, event_line, last_behind}
-use Rattle.defmt_print.specs.Shown.{event_lines_from, kept_event, kept_line, shown_line, shows_by, shows_index}
+use Rattle.defmt_recording.specs.Output.{gap_before, gap_between, gap_line, gapped_line, event_line, last_behind}
+use Rattle.defmt_recording.specs.Shown.{event_lines_from, kept_event, shown_line}
+use Rattle.defmt_print.specs.Shown.{kept_line, shows_by, shows_index}
 use Rattle.defmt_values.specs.declared.value.Statement.{Statement}
 
 pub no_events : (only : Option Rules) (table : Map) (last : Option ℕ) → event_lines_from only table last [] ≡ []

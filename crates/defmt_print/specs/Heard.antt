@@ -8,13 +8,11 @@ use Rattle.defmt_intern.specs.Catalog.{Catalog}
 use Rattle.defmt_intern.specs.declared.table.Profile.{Profile}
 use Rattle.defmt_lines.specs.declared.settings.RingMode.{RingMode}
 use Rattle.defmt_lines.specs.declared.settings.RingMode.TheVariants.{Block, Skip, Trim}
-use Rattle.defmt_listen.specs.Heard.{Reporting}
 use Rattle.defmt_logger.specs.Tape.{mark_line}
 use Rattle.defmt_logger.specs.declared.mark.Mark.{Mark}
-use Rattle.defmt_print.specs.Output.{is_fault}
 use Rattle.defmt_print.specs.Printed.{mark_statement}
-use Rattle.defmt_print.specs.Shown.{event_lines_by, tape_lines_by}
-use Rattle.defmt_print.specs.declared.kept.Kept.{Kept}
+use Rattle.defmt_print.specs.Shown.{tape_lines_by}
+use Rattle.defmt_recording.specs.Shown.{event_lines_by}
 use Rattle.defmt_script.specs.Script.{Script}
 use Rattle.defmt_values.specs.declared.value.Statement.{Statement}
 use Rattle.rtt_modes.specs.declared.fate.Fate.{Fate}
@@ -93,9 +91,3 @@ WasDropped (Cut need room) = ⊥
 abbrev pub WereDropped : List Mark → Type 0
 WereDropped [] = Unit {0}
 WereDropped (m ∷ ms) = WasDropped m.fate × WereDropped ms
-
--- ---- for private clauses
-
--- each event is kept behind those before it, and nothing is printed
-abbrev pub by_keeping : Reporting Kept Event
-by_keeping = record { line = λ kept event. []; after = λ kept event. record { events = kept.events ++ event ∷ [] }; is_fault = is_fault }

@@ -4,7 +4,7 @@ use Rattle.std.specs.Fmt.{decimal}
 use Rattle.defmt_hooks.specs.Spelling.{word_of}
 use Rattle.defmt_hooks.specs.declared.level.Floor.TheVariants.{At}
 use Rattle.defmt_hooks.specs.declared.level.Level.{Level}
-use Rattle.defmt_print.specs.Output.{ended}
+use Rattle.defmt_recording.specs.Output.{ended}
 use Rattle.rtt_down.specs.declared.turn.Turn.{Turn}
 
 -- from which turn on an order of this level was heard, where it was

@@ -12,7 +12,7 @@ use Rattle.defmt_intern.specs.declared.entry.Entry.{Entry}
 use Rattle.defmt_intern.specs.declared.entry.Tag.{Tag}
 use Rattle.defmt_intern.specs.declared.entry.Tag.TheVariants as tags
 use Rattle.defmt_logger.specs.declared.mark.Mark.{Mark}
-use Rattle.defmt_print.specs.Output.{ended}
+use Rattle.defmt_recording.specs.Output.{ended}
 use Rattle.defmt_hooks.specs.declared.level.Level.{Level}
 use Rattle.defmt_hooks.specs.declared.level.Level.TheVariants as levels
 use Rattle.defmt_script.specs.Lawful.{stamp_in}

@@ -1,6 +1,6 @@
 -- What is printed of the texts of terminals.
 use Rattle.std.specs.Prelude.{◌==◌, ℕ, zero, suc, List, [], ◌∷◌, ◌++◌, codes, flat_map, length, if◌then◌else◌}
-use Rattle.defmt_print.specs.Output.{ended}
+use Rattle.defmt_recording.specs.Output.{ended}
 use Rattle.rtt_terminal.specs.Stream.{digit, screen_at}
 
 -- a line that names the terminal, and its texts, each with a newline; nothing of a terminal without a text

@@ -3,12 +3,12 @@ ghost use Rattle.std.specs.Prelude.{[], ◌≡◌, ◌≤◌, ◌++◌, ◌==◌
 ghost use Rattle.defmt_encode.specs.Placed.{place_in};
 ghost use Rattle.defmt_print.specs.Printed.{count_line, has_level, is_of_level, level_line, message_size, summary, writer_count_line};
 
-use crate::output::add_count;
 use crate::statements::stamp_in;
 use defmt_encode::message;
 use defmt_hooks::Level;
 use defmt_intern::{Profile, Tag};
 use defmt_logger::{Mark, Tape};
+use defmt_recording::add_count;
 use defmt_script::Script;
 use dl_io::{Bytes, Memory};
 use std::alloc::Global;

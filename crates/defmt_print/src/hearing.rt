@@ -1,18 +1,15 @@
 // What the host tells of what was sent.
-ghost use Rattle.std.specs.Prelude.{◌≡◌, ◌++◌, List, option_to_list, IfOk, OnOk};
+ghost use Rattle.std.specs.Prelude.{◌≡◌, ◌++◌, List, IfOk};
 ghost use Rattle.defmt_decode.specs.Event.{events_of};
 ghost use Rattle.defmt_logger.specs.Tape.{IsLawful, stream_of};
 ghost use Rattle.defmt_logger.specs.declared.mark.Mark.{Mark as AnyMark};
 ghost use Rattle.defmt_print.specs.Heard.{GapsIn, LinesIn, catalog_of};
 
-use crate::ear::Ear;
-use crate::kept::Kept;
 use crate::soundness::statements_are_sound;
 use crate::statements::stamps;
-use defmt_decode::{Event, Events, Host, frames_read_back, gaps_count, without_front};
-use defmt_intern::Table;
-use defmt_listen::{Listener, hear_bytes};
+use defmt_decode::{Events, frames_read_back, gaps_count, without_front};
 use defmt_logger::Tape;
+use defmt_recording::events_of;
 use defmt_script::{Script, stamps_fit};
 use dl_io::Memory;
 use std::alloc::Global;
@@ -71,27 +68,4 @@ pub fn heard_events(
 {
     let copy = script.table().copy()?;
     events_of(alloc, copy, front, rest)
-}
-
-// The events of a stream that is fed in two parts.
-fn events_of(alloc: Global, table: Table, front: &[u8], rest: &[u8]) -> Result<Events, Memory>
-    ensures { IfOk result (λ events. events ≡ events_of table (front.now ++ rest.now)) }
-{
-    let host = Host::new(alloc, table)?;
-    let events = Events::new(alloc);
-    let mut ear = Ear { host };
-    let mut kept = Kept { events };
-    hear_bytes(alloc, &mut ear, &mut kept, front)?;
-    hear_bytes(alloc, &mut ear, &mut kept, rest)?;
-    add_event(&mut kept.events, ear.finish())?;
-    Ok(kept.events)
-}
-
-fn add_event(events: &mut Events, event: Option<Event>) -> Result<(), Memory>
-    ensures { OnOk result (events.new ≡ events.old ++ option_to_list event) }
-{
-    match event {
-        Some(event) => events.push(event),
-        None => Ok(()),
-    }
 }

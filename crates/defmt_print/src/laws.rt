@@ -7,8 +7,9 @@ ghost use Rattle.defmt_intern.specs.Table.{Map};
 ghost use Rattle.defmt_logger.specs.Tape.{mark_line};
 ghost use Rattle.defmt_logger.specs.declared.mark.Mark.{Mark};
 ghost use Rattle.defmt_print.specs.Heard.{AreNoLines, HaveNoPlaces, IsWhole, WereDropped, line_at};
-ghost use Rattle.defmt_print.specs.Output.{gap_line};
-ghost use Rattle.defmt_print.specs.Shown.{event_lines_by, event_lines_from, kept_event, kept_line, shows_index, shows_mark, tape_lines};
+ghost use Rattle.defmt_recording.specs.Output.{gap_line};
+ghost use Rattle.defmt_recording.specs.Shown.{event_lines_by, event_lines_from, kept_event};
+ghost use Rattle.defmt_print.specs.Shown.{kept_line, shows_index, shows_mark, tape_lines};
 ghost use Rattle.defmt_script.specs.Script.{Script};
 
 /// In front of a line with a place stands how many frames are missing since the line before, by both places, whatever faults

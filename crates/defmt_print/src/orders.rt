@@ -1,34 +1,36 @@
 // The lines of orders.
-ghost use Rattle.std.specs.Prelude.{◌≡◌, ◌++◌, OnOk};
+ghost use Rattle.std.specs.Prelude.{◌≡◌, ◌++◌, IfOk, OnOk};
 ghost use Rattle.defmt_hooks.specs.Spelling.{word_of};
 ghost use Rattle.defmt_hooks.specs.declared.level.Floor.TheVariants.{At};
 ghost use Rattle.defmt_print.specs.OrderLines.{order_lines, order_text};
-ghost use Rattle.defmt_print.specs.Output.{ended};
+ghost use Rattle.defmt_recording.specs.Output.{ended};
 
-use crate::output::add_count;
 use defmt_hooks::Level;
+use defmt_recording::add_count;
 use defmt_script::Script;
 use dl_io::{Bytes, Memory};
 use rtt_down::Turns;
 use std::alloc::Global;
 
-/// Appends a line for each order of a script, which tells from which of these turns on it was heard, or that none heard it.
-pub fn add_orders(
+/// These lines, and then one for each order of a script, which tells from which of these turns on it was heard, or that none heard
+/// it.
+pub fn with_orders(
     alloc: Global,
+    lines: Bytes,
     script: &Script,
     turns: &Turns,
-    out: &mut Bytes,
-) -> Result<(), Memory>
-    ensures { OnOk result (out.new.items ≡ out.old.items
+) -> Result<Bytes, Memory>
+    ensures { IfOk result (λ out. out.items ≡ lines.items
         ++ order_lines script.now.settings.orders turns.now.turns) }
 {
     script.lawful();
+    let mut out = lines;
     let mut number = 0;
     while let Some((_, level)) = script.order(number) {
-        add_order(alloc, level, turns.heard_at(number), out)?;
+        add_order(alloc, level, turns.heard_at(number), &mut out)?;
         number += 1;
     }
-    Ok(())
+    Ok(out)
 }
 
 // Appends the line of an order of this level, which the turn with this number heard first, or none.

@@ -3,12 +3,13 @@ ghost use Rattle.std.specs.Prelude.{◌≡◌, ◌≤◌, ◌<◌, ◌^◌, ◌+
 ghost use Rattle.defmt_encode.specs.Carry.{stamp_args};
 ghost use Rattle.defmt_frames.specs.Frames.{first_stamp, stamp_number, stamp_step};
 ghost use Rattle.defmt_logger.specs.Tape.{mark_line};
-ghost use Rattle.defmt_print.specs.Output.{ended};
+ghost use Rattle.defmt_recording.specs.Output.{ended};
 ghost use Rattle.defmt_eager.specs.Line.{eager_line};
 ghost use Rattle.defmt_print.specs.Printed.{IsPlaced, Prints, numbered, numbered_line, statement_lines};
 ghost use Rattle.defmt_script.specs.Lawful.{IsSound, stamp_in};
 
 use defmt_eager::{EagerFault, line};
+use defmt_flat::put_line;
 use defmt_intern::Table;
 use defmt_logger::Mark;
 use defmt_script::{Script, stamps_fit};
@@ -17,6 +18,9 @@ use dl_io::{Bytes, Memory};
 use std::alloc::Global;
 
 const WRITERS: u8 = 8;
+
+// More bytes than most lines have.
+const LINE_ROOM: usize = 512;
 
 /// The lines of all statements, writer by writer, with the stamps of their numbers.
 pub fn statement_lines(alloc: Global, script: &Script) -> Result<Bytes, Memory>
@@ -114,8 +118,31 @@ pub fn add_mark_line(
     add_line(alloc, table, carried, statement, &mut args, out)
 }
 
-// Appends the line of a statement with a stamp or none, and a newline. The list takes the stamp's arguments.
+// Appends the line of a statement with a stamp or none, and a newline. Where it isn't one that a buffer takes, the list takes the stamp's
+// arguments.
 fn add_line(
+    alloc: Global,
+    table: &Table,
+    stamp: Option<u64>,
+    statement: &Statement,
+    args: &mut Args,
+    out: &mut Bytes,
+) -> Result<(), Memory>
+    requires { Prints table.now.entries stamp statement.now }
+    ensures { OnOk result (out.new.items ≡ out.old.items
+        ++ ended (eager_line table.now.entries (stamp_args stamp)
+        statement.now.index statement.now.args)) }
+{
+    let mut room = [0u8; LINE_ROOM];
+    let Some(end) = put_line(table, stamp, statement, &mut room, 0) else {
+        return add_any_line(alloc, table, stamp, statement, args, out);
+    };
+    out.extend_from_slice(&room[..end])?;
+    out.push(b'\n')
+}
+
+// Appends any line and a newline. The list takes the stamp's arguments.
+fn add_any_line(
     alloc: Global,
     table: &Table,
     stamp: Option<u64>,

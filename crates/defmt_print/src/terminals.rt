@@ -1,23 +1,24 @@
 // The texts of terminals.
-ghost use Rattle.std.specs.Prelude.{◌≡◌, ◌<◌, ◌++◌, flat_map, OnOk};
-ghost use Rattle.defmt_print.specs.Output.{ended};
+ghost use Rattle.std.specs.Prelude.{◌≡◌, ◌<◌, ◌++◌, flat_map, IfOk, OnOk};
+ghost use Rattle.defmt_recording.specs.Output.{ended};
 ghost use Rattle.defmt_print.specs.Terminals.{screen_lines, terminal_lines};
 ghost use Rattle.rtt_terminal.specs.Stream.{screen_at};
 
-use crate::output::add_ended;
+use defmt_recording::add_ended;
 use dl_io::{Bytes, Memory};
 use rtt_terminal::{Screens, digit_of};
 
 const TERMINALS: u8 = 16;
 
-/// Appends the texts of all terminals in order: of each that has one a line that names it, and then its texts.
-pub fn add_screens(screens: &Screens, out: &mut Bytes) -> Result<(), Memory>
-    ensures { OnOk result (out.new.items ≡ out.old.items ++ screen_lines screens.now) }
+/// These lines, and then the texts of all terminals in order: of each that has one a line that names it, and then its texts.
+pub fn with_screens(lines: Bytes, screens: &Screens) -> Result<Bytes, Memory>
+    ensures { IfOk result (λ out. out.items ≡ lines.items ++ screen_lines screens.now) }
 {
+    let mut out = lines;
     for terminal in 0..TERMINALS {
-        add_terminal(screens, terminal, out)?;
+        add_terminal(screens, terminal, &mut out)?;
     }
-    Ok(())
+    Ok(out)
 }
 
 // Appends a line that names a terminal, and its texts, nothing of a terminal without a text.

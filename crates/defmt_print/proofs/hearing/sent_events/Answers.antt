@@ -3,7 +3,7 @@ use Rattle.std.proofs.lemmas.Result.{IfOk-weaker}
 use Rattle.defmt_decode.specs.Event.{events_of}
 use Rattle.defmt_decode.specs.declared.event.Event.{Event}
 use Rattle.defmt_print.specs.Heard.{GapsIn, LinesIn, catalog_of}
-use Rattle.defmt_print.proofs.HeardParts.{by_table, same_catalog}
+use Rattle.defmt_print.proofs.Tables.{by_table, same_catalog}
 use Rattle.defmt_print.proofs.hearing.sent_events.Goals as goal
 
 pub returns-clause-events : goal.returns-clause-events

@@ -6,7 +6,7 @@ use Rattle.defmt_frames.proofs.Frames.{sound_at}
 use Rattle.defmt_frames.specs.Frames.{statements_of}
 use Rattle.defmt_intern.specs.Table.{Map}
 use Rattle.defmt_logger.specs.Tape.{mark_line}
-use Rattle.defmt_print.specs.Output.{ended}
+use Rattle.defmt_recording.specs.Output.{ended}
 use Rattle.defmt_print.proofs.Lines.{line_is}
 use Rattle.defmt_print.proofs.Marks.{is_there}
 use Rattle.defmt_print.proofs.Stamped.{prints}

@@ -1,6 +1,6 @@
 use Rattle.std.proofs.Common.{◌++◌, List, ℕ, flat_map, sym, ◌∙◌, ap, arith}
 use Rattle.std.proofs.lemmas.List.{append-nil, take_all}
-use Rattle.defmt_print.specs.Output.{ended}
+use Rattle.defmt_recording.specs.Output.{ended}
 use Rattle.rtt_terminal.specs.Stream.{screen_at}
 use Rattle.defmt_print.proofs.Texts.{one_text}
 use Rattle.defmt_print.proofs.terminals.add_texts.Goals as goal

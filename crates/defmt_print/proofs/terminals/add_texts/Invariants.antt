@@ -1,5 +1,5 @@
 use Rattle.std.proofs.Common.{◌≡◌, ◌++◌, take, flat_map}
-use Rattle.defmt_print.specs.Output.{ended}
+use Rattle.defmt_recording.specs.Output.{ended}
 use Rattle.rtt_terminal.specs.Stream.{screen_at}
 use Rattle.defmt_print.proofs.terminals.add_texts.Given as goal
 

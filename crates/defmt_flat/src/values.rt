@@ -1,0 +1,237 @@
+//! Values in the pieces of their texts, to the depth of the values.
+
+ghost use Rattle.std.specs.Prelude.{◌≡◌, ◌≤◌, ◌++◌, length};
+ghost use Rattle.defmt_eager.specs.Answers.{comma};
+ghost use Rattle.defmt_eager.specs.Show.{interned_text, node_pieces, own_pieces, pieces_in, acting, show_val, shows, show_elems, pieces_text, piece_text, param_text};
+ghost use Rattle.defmt_hints.specs.Printed.{list_text, parted};
+ghost use Rattle.defmt_put.specs.Written.{Writes};
+ghost use Rattle.defmt_values.specs.Entries.{look};
+ghost use Rattle.defmt_values.specs.Scan.{own_in};
+ghost use Rattle.defmt_values.specs.View.{plain};
+
+use crate::leaves::{put_number, put_sized};
+use defmt_grammar::{Hint, Kind, Param, Piece};
+use defmt_intern::{Parsed, Table};
+use defmt_put::{put, put_bool, put_bytes, put_str};
+use defmt_values::{Args, Item, Items, Value, cut, form_of, look_up, pick};
+
+// The text of an interned string.
+fn interned_text(table: &Table, index: u16) -> &str
+    ensures { result.now ≡ interned_text (look table.now.entries index) }
+{
+    match look_up(table, index) {
+        None => "",
+        Some((entry, _)) => entry.text.as_str(),
+    }
+}
+
+// The pieces of the text of a Format value.
+fn node_pieces(table: &Table, index: u16, variant: Option<u8>) -> &[Piece]
+    ensures { result.now ≡ node_pieces table.now.entries index variant }
+{
+    match form_of(table, index) {
+        Err(_) => &[],
+        Ok(form) => match pick(form, variant) {
+            Err(_) => &[],
+            Ok(pieces) => pieces.as_slice(),
+        },
+    }
+}
+
+/// The pieces of what a statement's entry stands for.
+pub fn pieces_of(body: &Parsed) -> &[Piece]
+    ensures { result.now ≡ pieces_in (own_in body.now) }
+{
+    match body {
+        Parsed::One(pieces) => pieces.as_slice(),
+        _ => &[],
+    }
+}
+
+/// The pieces of the text of a statement.
+pub fn own_pieces(table: &Table, index: u16) -> &[Piece]
+    ensures { result.now ≡ own_pieces table.now.entries index }
+{
+    match look_up(table, index) {
+        None => &[],
+        Some((_, body)) => pieces_of(body),
+    }
+}
+
+/// The hint that acts on a parameter, from the one that acts round it and its own.
+pub fn acting(outer: Hint, own: Hint) -> Hint
+    ensures { result ≡ acting outer own }
+{
+    match own {
+        Hint::Plain => outer,
+        _ => own,
+    }
+}
+
+fn comma(first: bool) -> &'static str
+    ensures { result.now ≡ comma first }
+{
+    if first { "" } else { ", " }
+}
+
+// Writes the text of a value where a parameter of this kind stands, under the hint that acts on it.
+#[cycle(show)]
+fn put_value(
+    table: &Table,
+    out: &mut [u8],
+    at: usize,
+    kind: Kind,
+    hint: Hint,
+    value: &Value,
+) -> Option<usize>
+    requires { at ≤ length out.old }
+    ensures { Writes result out.old at out.new
+        (show_val table.now.entries (plain value.now) kind hint) }
+{
+    match value {
+        Value::Uint(number) => put_number(out, at, *number, hint),
+        Value::Int(number) => put_sized(out, at, *number, kind, hint),
+        Value::Bool(value) => put_bool(out, at, *value),
+        Value::Char(_) | Value::Bits(_) => None,
+        Value::Str(text) => put_str(out, at, text.as_str(), hint),
+        Value::Istr(index) => put_str(out, at, interned_text(table, *index), hint),
+        Value::Bytes(bytes) => put_bytes(out, at, bytes.as_slice(), hint),
+        Value::Format(node) => {
+            let pieces = node_pieces(table, node.index, node.variant);
+            put_pieces(table, out, at, hint, pieces, &node.args)
+        }
+        Value::Seq(seq) => put_list(table, out, at, hint, seq.index.unwrap_or(0), &seq.items),
+    }
+}
+
+// Writes what stands for a parameter.
+#[cycle(show)]
+fn put_param(
+    table: &Table,
+    out: &mut [u8],
+    at: usize,
+    outer: Hint,
+    param: Param,
+    args: &Args,
+) -> Option<usize>
+    requires { at ≤ length out.old }
+    ensures { Writes result out.old at out.new
+        (param_text outer (shows table.now.entries args.now) param.position param.kind param.hint) }
+{
+    match args.get(param.position) {
+        None => None,
+        Some(value) => {
+            let hint = acting(outer, param.hint);
+            put_value(table, out, at, param.kind, hint, value)
+        }
+    }
+}
+
+#[cycle(show)]
+fn put_piece(
+    table: &Table,
+    out: &mut [u8],
+    at: usize,
+    outer: Hint,
+    piece: &Piece,
+    args: &Args,
+) -> Option<usize>
+    requires { at ≤ length out.old }
+    ensures { Writes result out.old at out.new
+        (piece_text outer piece.now (shows table.now.entries args.now)) }
+{
+    match piece {
+        Piece::Literal(text) => put(out, at, text.as_str().as_bytes()),
+        Piece::Param(param) => put_param(table, out, at, outer, *param, args),
+    }
+}
+
+/// Writes the text of pieces with these arguments, under the hint that acts round them.
+#[cycle(show)]
+pub fn put_pieces(
+    table: &Table,
+    out: &mut [u8],
+    at: usize,
+    outer: Hint,
+    pieces: &[Piece],
+    args: &Args,
+) -> Option<usize>
+    requires { at ≤ length out.old }
+    ensures { Writes result out.old at out.new
+        (pieces_text outer pieces.now (shows table.now.entries args.now)) }
+{
+    let mut place = at;
+    let mut rest = pieces;
+    'each: while let Some((piece, more)) = cut(rest) {
+        let end = put_piece(table, out, place, outer, piece, args)?;
+        place = end;
+        rest = more;
+    }
+    Some(place)
+}
+
+// Writes an element of a list, behind a comma where it isn't the first.
+#[cycle(show)]
+fn put_item(
+    table: &Table,
+    out: &mut [u8],
+    at: usize,
+    hint: Hint,
+    index: u16,
+    first: bool,
+    item: &Item,
+) -> Option<usize>
+    requires { at ≤ length out.old }
+    ensures { Writes result out.old at out.new (comma first
+        ++ pieces_text hint (node_pieces table.now.entries index item.now.variant)
+        (shows table.now.entries item.now.args)) }
+{
+    let behind = put(out, at, comma(first).as_bytes())?;
+    let pieces = node_pieces(table, index, item.variant);
+    put_pieces(table, out, behind, hint, pieces, &item.args)
+}
+
+// Writes the elements of a list.
+#[cycle(show)]
+fn put_items(
+    table: &Table,
+    out: &mut [u8],
+    at: usize,
+    hint: Hint,
+    index: u16,
+    items: &Items,
+) -> Option<usize>
+    requires { at ≤ length out.old }
+    ensures { Writes result out.old at out.new
+        (parted (show_elems table.now.entries index hint items.now)) }
+{
+    let mut place = at;
+    let mut rest = items.as_slice();
+    let mut first = true;
+    'each: while let Some((item, more)) = cut(rest) {
+        let end = put_item(table, out, place, hint, index, first, item)?;
+        place = end;
+        rest = more;
+        first = false;
+    }
+    Some(place)
+}
+
+// Writes a list between its brackets.
+#[cycle(show)]
+fn put_list(
+    table: &Table,
+    out: &mut [u8],
+    at: usize,
+    hint: Hint,
+    index: u16,
+    items: &Items,
+) -> Option<usize>
+    requires { at ≤ length out.old }
+    ensures { Writes result out.old at out.new
+        (list_text (show_elems table.now.entries index hint items.now)) }
+{
+    let open = put(out, at, b"[")?;
+    let behind = put_items(table, out, open, hint, index, items)?;
+    put(out, behind, b"]")
+}

@@ -1,6 +1,0 @@
-use Rattle.std.proofs.Common.{◌≡◌, ◌++◌, take, flat_map}
-use Rattle.defmt_print.specs.Shown.{writer_lines}
-use Rattle.defmt_print.proofs.printing.add_groups.Given as goal
-
-abbrev pub invariant-loop-writer : goal.invariant-loop-writer
-invariant-loop-writer l = l.out.items ≡ l.fn.out.items ++ flat_map (writer_lines l.only l.script l.tape) (take l.writer-index l.writer-items)
