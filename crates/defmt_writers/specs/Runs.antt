@@ -21,7 +21,8 @@ ReachedIn Trim s tape taken = Released s tape taken
 
 -- Every statement is on the lawful tape, its stream went to the ring, and what was captured and the rest are the stream.
 -- What was captured is what the reader took, and no look found more released than that. A late reader took nothing.
-pub record IsRun (s : Script) (tape : List Mark) (account : Account) (captured rest : List ℕ) (looks : ℕ) : Type 0 where
+pub record IsRun (s : Script) (tape : List Mark) (account : Account) (captured rest : List ℕ)
+    (looks : ℕ) : Type 0 where
   pub lawful : IsLawful s tape
   pub all : (w : ℕ) → w < 8 → marks_of w tape ≡ count s w
   pub sends : account.sent ≡ stream_of s tape

@@ -1,16 +1,17 @@
-// The reader of a run.
+//! The reader of a run.
 ghost use Rattle.std.specs.Prelude.{◌≡◌, true, []};
 
 use crate::gate::Gate;
 use crate::reader::{FromSplit, Reader};
 use defmt_logger::Naming;
+use dl_io::Bytes;
 use rtt_modes::Relief;
 use rtt_ring::DownEnd;
 use std::marker::PhantomData;
 
-// A reader that is late where the script says so, and then takes nothing.
+/// A reader that is late where the script says so, and then takes nothing.
 #[derive(Drop)]
-pub(crate) struct Drain<'g, N: FromSplit, K: Naming, D: DownEnd, G: Gate> {
+pub struct Drain<'g, N: FromSplit, K: Naming, D: DownEnd, G: Gate> {
     pub(crate) reader: Reader<'g, N, D, G>,
     pub(crate) late: bool,
     pub(crate) of: PhantomData<K>,
@@ -19,11 +20,25 @@ pub(crate) struct Drain<'g, N: FromSplit, K: Naming, D: DownEnd, G: Gate> {
 }
 
 impl<'g, N: FromSplit, K: Naming, D: DownEnd, G: Gate> Drain<'g, N, K, D, G> {
-    // Takes until nothing is there, or there is no room. A late reader takes nothing.
-    pub(crate) fn take_all(&mut self) {
+    /// Takes until nothing is there, or there is no room. A late reader takes nothing.
+    pub fn take_all(&mut self) {
         if !self.late {
             self.reader.take_all();
         }
+    }
+
+    // The end and what was captured of it.
+    pub(crate) fn into_parts(self) -> (D, Bytes)
+        ensures split { (D.view result.0).split ≡ N.split }
+        ensures got { (D.view result.0).got ≡ result.1.items }
+        ensures late { K.script.settings.late ≡ true → result.1.items ≡ [] }
+    {
+        let Drain {
+            reader,
+            late: _,
+            of: _,
+        } = self;
+        reader.into_parts()
     }
 }
 

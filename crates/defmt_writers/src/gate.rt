@@ -1,4 +1,4 @@
-// The gate that writers and reader pass.
+//! The gate that writers and reader pass.
 
 /// What is told of the steps of a run, by each of its threads.
 ///

@@ -1,4 +1,4 @@
-// A reader of a ring.
+//! A reader of a ring.
 ghost use Rattle.std.specs.Prelude.{◌≡◌, ◌+◌, ◌≤◌, length};
 
 use crate::gate::Gate;
@@ -39,11 +39,11 @@ pub(crate) fn take<D: DownEnd, G: Gate>(down: &mut D, capture: &mut Bytes, gate:
     count
 }
 
-// From which split of a ring a reader's end comes.
-pub(crate) trait FromSplit {
+/// From which split of a ring a reader's end comes.
+pub trait FromSplit {
     ghost use Rattle.std.specs.Prelude.{ℕ, List};
 
-    // The name of the split.
+    /// The name of the split.
     ghost split: { List ℕ };
 }
 
@@ -53,13 +53,17 @@ impl FromSplit for Brand {
     ghost split = { [] };
 }
 
-// The lower end of a ring with what was captured of it, and the gate that is told of each take.
+/// The lower end of a ring with what was captured of it, and the gate that is told of each take.
 #[derive(Drop)]
-pub(crate) struct Reader<'g, N: FromSplit, D: DownEnd, G: Gate> {
-    pub(crate) down: D,
-    pub(crate) captured: Bytes,
-    pub(crate) gate: &'g G,
-    pub(crate) of: PhantomData<N>,
+pub struct Reader<'g, N: FromSplit, D: DownEnd, G: Gate> {
+    /// The end.
+    pub down: D,
+    /// What was captured of it.
+    pub captured: Bytes,
+    /// The gate.
+    pub gate: &'g G,
+    /// Which split.
+    pub of: PhantomData<N>,
     ghost split: { (D.view down).split ≡ N.split },
     ghost got: { (D.view down).got ≡ captured.items },
 }
@@ -72,9 +76,24 @@ impl<'g, N: FromSplit, D: DownEnd, G: Gate> Reader<'g, N, D, G> {
         take(&mut self.down, &mut self.captured, self.gate)
     }
 
-    // Takes until nothing is there, or there is no room.
-    pub(crate) fn take_all(&mut self) {
+    /// Takes until nothing is there, or there is no room.
+    pub fn take_all(&mut self) {
         while self.take() > 0 {}
+    }
+
+    /// The end and what was captured of it.
+    pub fn into_parts(self) -> (D, Bytes)
+        ensures split { (D.view result.0).split ≡ N.split }
+        ensures got { (D.view result.0).got ≡ result.1.items }
+        ensures captured { result.1.items ≡ self.entry.captured.items }
+    {
+        let Reader {
+            down,
+            captured,
+            gate: _,
+            of: _,
+        } = self;
+        (down, captured)
     }
 }
 

@@ -1,5 +1,5 @@
-// How a run goes.
-ghost use Rattle.std.specs.Prelude.{◌≡◌, ◌<◌, ◌≤◌, ℕ, List, [], IfOk, length};
+//! How a run goes.
+ghost use Rattle.std.specs.Prelude.{◌≡◌, ◌<◌, ◌≤◌, ◌++◌, ℕ, List, [], IfOk, length};
 ghost use Rattle.defmt_frames.specs.Frames.{count as count_of, pace_of};
 ghost use Rattle.defmt_logger.specs.Kept.{IsKept, TellsIn};
 ghost use Rattle.defmt_logger.specs.Tape.{IsLawful, marks_of, stream_of};
@@ -14,11 +14,12 @@ use crate::drain::Drain;
 use crate::gate::Gate;
 use crate::reader::{FromSplit, Reader};
 use crate::writers::{finish, work};
+use defmt_frames::FRAME_SIZE;
 use defmt_hooks::{Clock, Stamp};
-use defmt_logger::{EachStatement, FRAME_SIZE, Logger, Logging, Naming, Tape};
+use defmt_logger::{EachStatement, Logger, Logging, Naming, Tape};
 use defmt_script::Script;
 use dl_io::{Bytes, Memory};
-use rtt_ring::{Channel, RingFault, Settled, UpEnd};
+use rtt_ring::{Channel, DownEnd, RingFault, Settled, UpEnd};
 use rzcobs_core::canonical_size;
 use shared_work::{Blanks, Eight, Named, Names};
 use std::alloc::Global;
@@ -61,14 +62,61 @@ fn frames_size(script: &Script) -> usize
     count as usize * FRAME_SIZE
 }
 
-// No bytes, with room for so many.
-pub(crate) fn empty_capture(alloc: Global, room: usize) -> Result<Bytes, Memory>
+/// The two ends of a new ring, and the room for what its reader takes.
+#[derive(Drop)]
+pub struct RingEnds<U, D> {
+    /// The upper end.
+    pub up: U,
+    /// The lower end.
+    pub down: D,
+    /// What was taken at the lower end.
+    pub captured: Bytes,
+}
+
+/// A ring that was settled.
+#[derive(Drop)]
+pub struct SettledRing {
+    /// The account of the ring.
+    pub settled: Settled,
+    /// The bytes that were sent and not taken.
+    pub rest: Bytes,
+}
+
+/// No bytes, with room for so many.
+///
+/// # Errors
+/// `Memory` where there is none.
+pub fn empty_capture(alloc: Global, room: usize) -> Result<Bytes, Memory>
     ensures items { IfOk result (λ captured. captured.items ≡ []) }
     ensures room { IfOk result (λ captured. captured.room ≡ room) }
 {
     let mut captured = Bytes::new(alloc);
     captured.reserve(room)?;
     Ok(captured)
+}
+
+/// A reader that has taken nothing yet, and is late where the script is.
+pub fn drain_of<'g, N: FromSplit, K: Naming, D: DownEnd, G: Gate>(
+    late: bool,
+    down: D,
+    captured: Bytes,
+    gate: &'g G,
+) -> Drain<'g, N, K, D, G>
+    requires late { late ≡ K.script.settings.late }
+    requires split { (D.view down).split ≡ N.split }
+    requires got { ((D.view down).got ≡ []) × (captured.items ≡ []) }
+{
+    let reader = Reader {
+        down,
+        captured,
+        gate,
+        of: PhantomData,
+    };
+    Drain {
+        reader,
+        late,
+        of: PhantomData,
+    }
 }
 
 // Runs a script over the two ends of one split, under their names.
@@ -87,36 +135,26 @@ fn run_named<
     script: Script,
     stamp: Stamp<C>,
     gate: &G,
-    up: H::Up,
-    down: H::Down,
-    captured: Bytes,
+    ends: RingEnds<H::Up, H::Down>,
 ) -> Result<Run, Memory>
     requires pace { stamp ≡ pace_of script.settings.stamp }
-    requires up { H.Up.view up
-        ≡ new_up (H.Up.view up).split script.settings.ring (H.Up.view up).tells }
-    requires told { TellsIn script.settings.mode (H.Up.view up) }
-    requires down { H.Down.view down ≡ new_down (H.Up.view up).split script.settings.ring }
-    requires captured { captured.items ≡ [] }
-    requires names { (K.script ≡ script) × (K.split ≡ (H.Up.view up).split)
-        × (N.split ≡ (H.Up.view up).split) }
+    requires up { H.Up.view ends.up
+        ≡ new_up (H.Up.view ends.up).split script.settings.ring (H.Up.view ends.up).tells }
+    requires told { TellsIn script.settings.mode (H.Up.view ends.up) }
+    requires down { H.Down.view ends.down
+        ≡ new_down (H.Up.view ends.up).split script.settings.ring }
+    requires captured { ends.captured.items ≡ [] }
+    requires names { (K.script ≡ script) × (K.split ≡ (H.Up.view ends.up).split)
+        × (N.split ≡ (H.Up.view ends.up).split) }
     requires ledgers { AreNamed blanks E.names }
     ensures script { IfOk result (λ r. r.script ≡ K.script) }
     ensures run { IfOk result (λ r.
         IsRun K.script r.tape.marks r.settled r.captured.items r.rest.items r.looks) }
     ensures ring { IfOk result (λ r. r.settled.ring ≡ H.KIND) }
 {
-    let reader = Reader::<N, H::Down, G> {
-        down,
-        captured,
-        gate,
-        of: PhantomData,
-    };
+    let RingEnds { up, down, captured } = ends;
     let late = script.late();
-    let drain = Drain::<N, K, H::Down, G> {
-        reader,
-        late,
-        of: PhantomData,
-    };
+    let drain = drain_of::<N, K, H::Down, G>(late, down, captured, gate);
     let (logger, mut pens) = Logger::<
         Eight<Named<E>>,
         EachStatement<K>,
@@ -129,8 +167,28 @@ fn run_named<
     settle_run::<H, N, K, G>(alloc, tape, up, script, drain)
 }
 
-// Settles the ring of a run of which every statement is on the tape.
-pub(crate) fn settle_run<H: Channel, N: FromSplit, K: Naming, G: Gate>(
+/// Settles a ring.
+///
+/// # Errors
+/// `Memory` where there is none. Both ends are then given up.
+pub fn settle<H: Channel>(alloc: Global, up: H::Up, down: H::Down) -> Result<SettledRing, Memory>
+    requires pair { (H.Up.view up).split ≡ (H.Down.view down).split }
+    requires staged { (H.Up.view up).staged ≡ [] }
+    ensures account { IfOk result (λ a. (a.settled.sent ≡ (H.Up.view up).sent)
+        × (a.settled.got ≡ (H.Down.view down).got) × (a.settled.ring ≡ H.KIND)) }
+    ensures rest { IfOk result (λ a. (a.settled.sent ≡ a.settled.got ++ a.rest.items)
+        × ((H.Up.view up).freed ≤ length a.settled.got)) }
+{
+    let mut rest = Bytes::new(alloc);
+    let settled = H::settle(up, down, &mut rest)?;
+    Ok(SettledRing { settled, rest })
+}
+
+/// Settles the ring of a run of which every statement is on the tape.
+///
+/// # Errors
+/// `Memory` where there is none.
+pub fn settle_run<H: Channel, N: FromSplit, K: Naming, G: Gate>(
     alloc: Global,
     tape: Tape,
     up: H::Up,
@@ -146,15 +204,14 @@ pub(crate) fn settle_run<H: Channel, N: FromSplit, K: Naming, G: Gate>(
         IsRun K.script r.tape.marks r.settled r.captured.items r.rest.items r.looks) }
     ensures ring { IfOk result (λ r. r.settled.ring ≡ H.KIND) }
 {
-    let reader = drain.reader;
     let looks = up.looks();
-    let mut rest = Bytes::new(alloc);
-    let settled = H::settle(up, reader.down, &mut rest)?;
+    let (down, captured) = drain.into_parts();
+    let SettledRing { settled, rest } = settle::<H>(alloc, up, down)?;
     Ok(Run {
         script,
         tape,
         settled,
-        captured: reader.captured,
+        captured,
         rest,
         looks,
     })
@@ -183,7 +240,7 @@ pub fn run_script<H: Channel, C: Clock + Send + Drop, G: Gate + Sync, R: Threads
         IsRun script r.tape.marks r.settled r.captured.items r.rest.items r.looks) }
     ensures ring { IfOk result (λ r. r.settled.ring ≡ H.KIND) }
 {
-    let (up, down, captured) = prepare::<H>(alloc, &script)?;
+    let ends = prepare::<H>(alloc, &script)?;
     run_named::<H, Brand, Brand, Brand, C, G, R>(
         rt,
         alloc,
@@ -191,9 +248,7 @@ pub fn run_script<H: Channel, C: Clock + Send + Drop, G: Gate + Sync, R: Threads
         script,
         stamp,
         gate,
-        up,
-        down,
-        captured,
+        ends,
     )
 }
 
@@ -214,20 +269,23 @@ fn split_ring<H: Channel>(alloc: Global, script: &Script) -> Result<(H::Up, H::D
     }
 }
 
-// The two ends of a new ring of the script's size, and the room for what the reader takes, with nothing in it.
-pub(crate) fn prepare<H: Channel>(
+/// The two ends of a new ring of the script's size, and the room for what the reader takes, with nothing in it.
+///
+/// # Errors
+/// `Memory` where there is none.
+pub fn prepare<H: Channel>(
     alloc: Global,
     script: &Script,
-) -> Result<(H::Up, H::Down, Bytes), Memory>
+) -> Result<RingEnds<H::Up, H::Down>, Memory>
     requires { ModeFits script.now.settings.mode H.tells }
-    ensures up { IfOk result (λ e. H.Up.view e.0
-        ≡ new_up (H.Up.view e.0).split script.now.settings.ring (H.Up.view e.0).tells) }
-    ensures told { IfOk result (λ e. TellsIn script.now.settings.mode (H.Up.view e.0)) }
-    ensures down { IfOk result (λ e. H.Down.view e.1
-        ≡ new_down (H.Up.view e.0).split script.now.settings.ring) }
-    ensures captured { IfOk result (λ e. e.2.items ≡ []) }
+    ensures up { IfOk result (λ e. H.Up.view e.up
+        ≡ new_up (H.Up.view e.up).split script.now.settings.ring (H.Up.view e.up).tells) }
+    ensures told { IfOk result (λ e. TellsIn script.now.settings.mode (H.Up.view e.up)) }
+    ensures down { IfOk result (λ e. H.Down.view e.down
+        ≡ new_down (H.Up.view e.up).split script.now.settings.ring) }
+    ensures captured { IfOk result (λ e. e.captured.items ≡ []) }
 {
     let captured = empty_capture(alloc, frames_size(script))?;
     let (up, down) = split_ring::<H>(alloc, script)?;
-    Ok((up, down, captured))
+    Ok(RingEnds { up, down, captured })
 }

@@ -1,4 +1,4 @@
-// A reader that reads while its own thread logs.
+//! A reader that reads while its own thread logs.
 ghost use Rattle.std.specs.Prelude.{◌≡◌};
 
 use crate::gate::Gate;
@@ -66,7 +66,8 @@ struct Serving<'s, 'g, N: Lent, D: DownEnd, G: Gate> {
 }
 
 impl<'s, 'g, N: Lent, D: DownEnd, G: Gate> Relief for Serving<'s, 'g, N, D, G> {
-    ghost kept = { λ s. ((D.view s.loan.down.now).got ≡ s.loan.capture.now.items) × ((D.view s.loan.down.now).split ≡ N.split)
+    ghost kept = { λ s. ((D.view s.loan.down.now).got ≡ s.loan.capture.now.items)
+        × ((D.view s.loan.down.now).split ≡ N.split)
         × (s.loan.down.ghost_name ≡ N.down) × (s.loan.capture.ghost_name ≡ N.capture) };
 
     fn ease(&mut self) {

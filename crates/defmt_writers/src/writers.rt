@@ -1,4 +1,4 @@
-// The writers' threads.
+//! The writers' threads.
 ghost use Rattle.std.specs.Prelude.{◌≡◌};
 
 use crate::gate::Gate;
@@ -13,9 +13,9 @@ use std::thread::{Scope, Threads};
 // How many writers there are.
 const WRITERS: u64 = 8;
 
-// Waits until other threads had their turn.
+/// Waits until other threads had their turn.
 #[derive(Clone, Copy)]
-pub(crate) struct Yields;
+pub struct Yields;
 
 impl Relief for Yields {
     ghost kept = { λ _. Unit {0} };
@@ -25,8 +25,8 @@ impl Relief for Yields {
     }
 }
 
-// Does the steps that the pen has left, and asks the gate before each.
-pub(crate) fn write<
+/// Does the steps that the pen has left, and asks the gate before each.
+pub fn write<
     B: Books,
     Q: Quota,
     T: Work<Q>,
@@ -46,8 +46,8 @@ pub(crate) fn write<
     }
 }
 
-// Does the steps that the pen has left until so many are done, and asks the gate before each.
-pub(crate) fn write_until<
+/// Does the steps that the pen has left until so many are done, and asks the gate before each.
+pub fn write_until<
     B: Books,
     Q: Quota,
     T: Work<Q>,
@@ -139,8 +139,8 @@ fn start_all<
     start(scope, rt, shared, &mut pens.p7, gate, ended);
 }
 
-// Does the steps that the pens have left.
-pub(crate) fn finish<E: Names, Q: Quota, T: Work<Q>, G: Gate, R: Relief, W: Wait>(
+/// Does the steps that the pens have left.
+pub fn finish<E: Names, Q: Quota, T: Work<Q>, G: Gate, R: Relief, W: Wait>(
     rt: &W,
     shared: &Shared<Eight<Named<E>>, Q, T>,
     pens: &mut Pens<Named<E>, Q>,
@@ -168,13 +168,8 @@ pub(crate) fn finish<E: Names, Q: Quota, T: Work<Q>, G: Gate, R: Relief, W: Wait
     write(rt, shared, &mut pens.p7, gate, relief);
 }
 
-// Eases until all writers have ended, or waits for nothing where it isn't to ease.
-pub(crate) fn ease_on<R: Relief, W: Wait>(
-    rt: &W,
-    ended: &AtomicU64,
-    eases: bool,
-    mut relief: R,
-) -> R
+/// Eases until all writers have ended, or waits for nothing where it isn't to ease.
+pub fn ease_on<R: Relief, W: Wait>(rt: &W, ended: &AtomicU64, eases: bool, mut relief: R) -> R
     requires { R.kept relief }
     ensures { R.kept result }
 {
@@ -188,9 +183,9 @@ pub(crate) fn ease_on<R: Relief, W: Wait>(
     relief
 }
 
-// Starts a thread for each writer that has steps, lends it its pen, and waits until all have ended. Meanwhile it eases again and
-// again, or sleeps where it isn't to ease.
-pub(crate) fn work<
+/// Starts a thread for each writer that has steps, lends it its pen, and waits until all have ended. Meanwhile it eases again and
+/// again, or sleeps where it isn't to ease.
+pub fn work<
     E: Names + Send,
     Q: Quota + Send,
     T: Work<Q> + Send,

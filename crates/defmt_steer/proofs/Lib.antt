@@ -1,0 +1,4 @@
+mod Counted
+mod Due
+mod Hosted
+pub mod SteeredSends

@@ -1,0 +1,199 @@
+//! The host of a run under orders.
+ghost use Rattle.std.specs.Prelude.{◌≡◌, ◌+◌, ◌<◌, ◌≤◌, true, [], ◌++◌, length, take};
+ghost use Rattle.std.specs.Coded.{Coded-set};
+ghost use Rattle.defmt_steer.specs.Steers.{Counts, coded_plan, due, whole_frames};
+ghost use Rattle.rtt_down.specs.Orders.{order_of, orders_joined};
+ghost use Rattle.rtt_ring.specs.Views.{UpKept};
+
+use crate::counting::FrameCount;
+use defmt_hooks::Level;
+use defmt_writers::Gate;
+use dl_io::Bytes;
+use rtt_down::order_bytes;
+use rtt_modes::{Relief, skip};
+use rtt_ring::{DownEnd, UpEnd};
+use std::marker::{Brand, PhantomData};
+
+// The most bytes that one take moves.
+const PIECE: usize = 256;
+
+// Takes bytes into the buffer, captures them, and counts the frames that are whole now.
+fn take_counted<D: DownEnd>(
+    down: &mut D,
+    capture: &mut Bytes,
+    count: &mut FrameCount,
+    buffer: &mut [u8],
+) -> usize
+    requires room { length buffer.old ≤ capture.old.room }
+    requires got { (D.view down.old).got ≡ capture.old.items }
+    requires counts { Counts count.old.frames count.old.zeros count.old.begun capture.old.items }
+    ensures split { (D.view down.new).split ≡ (D.view down.old).split }
+    ensures got { (D.view down.new).got ≡ capture.new.items }
+    ensures counts { Counts count.new.frames count.new.zeros count.new.begun capture.new.items }
+    ensures more { count.old.frames ≤ count.new.frames }
+    ensures room { capture.new.room + result ≡ capture.old.room }
+{
+    let size = down.take(buffer);
+    capture.extend_reserved(&buffer[..size]);
+    let _total = capture.len();
+    count.hear_all(&buffer[..size]);
+    size
+}
+
+// Sends an order. While so few bytes were sent there is room for it.
+fn send_order<U: UpEnd>(up: &mut U, level: Level)
+    requires staged { (U.view up.old).staged ≡ [] }
+    requires ring { ((U.view up.old).tells ≡ true) × ((U.view up.old).size ≡ 256) }
+    requires few { length (U.view up.old).sent ≤ 189 }
+    ensures sent { (U.view up.new).sent ≡ (U.view up.old).sent ++ order_of level }
+    ensures kept { UpKept (U.view up.old) (U.view up.new) }
+{
+    skip(up, &order_bytes(level));
+}
+
+// Sends the orders that are due of those that weren't sent, each behind the one in front of it, and answers how many were sent in
+// all.
+pub(crate) fn send_due<U: UpEnd>(
+    up: &mut U,
+    orders: &[(u32, Level)],
+    next: usize,
+    frames: u64,
+) -> usize
+    requires few { length orders.now ≤ 64 }
+    requires next { next ≤ length (due orders.now frames) }
+    requires sent { (U.view up.old).sent ≡ orders_joined (take next (due orders.now frames)) }
+    requires staged { (U.view up.old).staged ≡ [] }
+    requires ring { ((U.view up.old).tells ≡ true) × ((U.view up.old).size ≡ 256) }
+    ensures count { result ≡ length (due orders.now frames) }
+    ensures sent { (U.view up.new).sent ≡ orders_joined (due orders.now frames) }
+    ensures kept { UpKept (U.view up.old) (U.view up.new) }
+{
+    let mut sent = next;
+    while sent < orders.len() {
+        let (number, level) = orders[sent];
+        if u64::from(number) > frames {
+            return sent;
+        }
+        send_order(up, level);
+        sent += 1;
+    }
+    sent
+}
+
+// From which splits of two rings a host's ends come, and which orders it sends.
+pub(crate) trait Hosting {
+    ghost use Rattle.std.specs.Prelude.{ℕ, List};
+    ghost use Rattle.defmt_steer.specs.Steers.{Plan};
+
+    // The name of the split of the ring that frames come up.
+    ghost up: { List ℕ };
+
+    // The name of the split of the ring that orders go down.
+    ghost down: { List ℕ };
+
+    // The orders.
+    ghost plan: { Plan };
+}
+
+impl Hosting for Brand {
+    ghost use Rattle.std.specs.Prelude.{[]};
+
+    ghost up = { [] };
+
+    ghost down = { [] };
+
+    ghost plan = { [] };
+}
+
+// The lower end of the ring of frames with what was captured of it, and the upper end of the ring of orders. All orders that
+// are due were sent.
+#[derive(Drop)]
+pub(crate) struct Host<'g, N: Hosting, U: UpEnd, D: DownEnd, G: Gate> {
+    pub(crate) reads: D,
+    pub(crate) captured: Bytes,
+    pub(crate) count: FrameCount,
+    pub(crate) sends: U,
+    pub(crate) orders: Vec<(u32, Level)>,
+    pub(crate) next: usize,
+    pub(crate) gate: &'g G,
+    pub(crate) of: PhantomData<N>,
+    ghost split: { (D.view reads).split ≡ N.up },
+    ghost got: { (D.view reads).got ≡ captured.items },
+    ghost counts: { Counts count.frames count.zeros count.begun captured.items },
+    ghost order_split: { (U.view sends).split ≡ N.down },
+    ghost ring: { ((U.view sends).tells ≡ true) × ((U.view sends).size ≡ 256) },
+    ghost staged: { (U.view sends).staged ≡ [] },
+    ghost plan: { orders.items ≡ N.plan } by { Coded-set coded_plan _ _ },
+    ghost few: { length orders.items ≤ 64 },
+    ghost next_is: { next ≡ length (due orders.items count.frames) },
+    ghost sent: { (U.view sends).sent ≡ orders_joined (due orders.items count.frames) },
+}
+
+// The ends that a host had, and what it captured.
+#[derive(Drop)]
+pub(crate) struct HostEnds<U, D> {
+    pub(crate) reads: D,
+    pub(crate) captured: Bytes,
+    pub(crate) sends: U,
+}
+
+impl<'g, N: Hosting, U: UpEnd, D: DownEnd, G: Gate> Host<'g, N, U, D, G> {
+    // Takes bytes that are there, as far as there is room for them, tells the gate, and sends the orders that are due now. Answers
+    // how many bytes it took.
+    fn take(&mut self) -> usize
+        ensures { self.new.captured.room + result ≡ self.old.captured.room }
+    {
+        let mut buffer = [0; PIECE];
+        let size = self.captured.spare().min(PIECE);
+        let taken = take_counted(
+            &mut self.reads,
+            &mut self.captured,
+            &mut self.count,
+            &mut buffer[..size],
+        );
+        if taken > 0 {
+            self.gate.took(self.captured.len() as u64);
+        }
+        self.next = send_due(&mut self.sends, &self.orders, self.next, self.count.frames);
+        taken
+    }
+
+    // Takes until nothing is there, or there is no room.
+    pub(crate) fn take_all(&mut self) {
+        while self.take() > 0 {}
+    }
+
+    // The ends of both rings, and what was captured.
+    pub(crate) fn into_parts(self) -> HostEnds<U, D>
+        ensures split { (D.view result.reads).split ≡ N.up }
+        ensures order_split { (U.view result.sends).split ≡ N.down }
+        ensures got { (D.view result.reads).got ≡ result.captured.items }
+        ensures staged { (U.view result.sends).staged ≡ [] }
+        ensures sent { (U.view result.sends).sent
+            ≡ orders_joined (due N.plan (whole_frames result.captured.items)) }
+    {
+        let Host {
+            reads,
+            captured,
+            count: _,
+            sends,
+            orders: _,
+            next: _,
+            gate: _,
+            of: _,
+        } = self;
+        HostEnds {
+            reads,
+            captured,
+            sends,
+        }
+    }
+}
+
+impl<'g, N: Hosting, U: UpEnd, D: DownEnd, G: Gate> Relief for Host<'g, N, U, D, G> {
+    ghost kept = { λ _. Unit {0} };
+
+    fn ease(&mut self) {
+        self.take();
+    }
+}

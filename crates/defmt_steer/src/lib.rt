@@ -1,0 +1,12 @@
+//! How a script is run by threads under orders: a thread for each writer that has statements, and a host that reads the frames and
+//! sends the orders.
+//!
+//! [`run_steered`] splits two rings, and starts a steered logger over the upper end of the one and the lower end of the other. The
+//! calling thread reads the frames meanwhile, sends each order once it is due, does what is left, and settles both rings.
+#![tactic(auto)]
+
+mod counting;
+mod host;
+mod steer_run;
+
+pub use steer_run::{SteeredRun, run_steered};

@@ -1,0 +1,12 @@
+//! How a script is run by threads with its texts for terminals: a thread for each writer that has statements or texts, and a
+//! reader of two rings.
+//!
+//! [`run_terminals`] splits two rings, and starts a logger over the one and a booth over the other. Each thread has its writer's
+//! pen and voice, and says the writer's texts among the statements. The calling thread reads at both rings meanwhile, does what is
+//! left, and settles both.
+#![tactic(auto)]
+
+mod talk_run;
+mod talking;
+
+pub use talk_run::{Talk, run_terminals};

@@ -1,0 +1,252 @@
+//! The threads of writers that log statements and say texts.
+ghost use Rattle.std.specs.Prelude.{◌≡◌, slice_get};
+ghost use Rattle.defmt_talk.specs.Talks.{in_front};
+ghost use Rattle.rtt_terminal.specs.Speech.{said_by};
+
+use defmt_writers::{Gate, Yields, ease_on, write, write_until};
+use rtt_modes::Relief;
+use rtt_terminal::Speech;
+use shared_work::{Books, Eight, HasBook, Named, Names, Pen, Pens, Quota, Shared, Work};
+use std::sync::Wait;
+use std::sync::atomic::{AtomicU64, Ordering};
+use std::sync::ledger::Ledger;
+use std::thread;
+use std::thread::{Scope, Threads};
+
+// What the writers share: the work of logging, that of saying, and what they have to say. Each work has a lock of its own.
+#[derive(Drop)]
+pub(crate) struct Stage<'s, B: Books, Q: Quota, T: Work<Q>, C: Books, P: Quota, X: Work<P>> {
+    pub(crate) log: &'s Shared<B, Q, T>,
+    pub(crate) booth: &'s Shared<C, P, X>,
+    pub(crate) speech: &'s Speech,
+}
+
+// How many statements stand in front of a writer's text, none where there is no such text.
+fn statements_in_front(speech: &Speech, writer: u8, place: u32) -> u32
+    ensures { result ≡ in_front (slice_get (said_by speech.now writer) place) }
+{
+    match speech.get(writer, place) {
+        Some(saying) => saying.behind(),
+        None => 0,
+    }
+}
+
+// Does the steps that a pen and a voice have left: before each text the statements that stand in front of it, and then the
+// other statements. The gate is asked before each statement. No step of the one work is done within a step of the other.
+fn talk<
+    B: Books,
+    Q: Quota,
+    T: Work<Q>,
+    S: HasBook<B, L>,
+    L: Ledger,
+    C: Books,
+    P: Quota,
+    X: Work<P>,
+    V: HasBook<C, M>,
+    M: Ledger,
+    G: Gate,
+    R: Relief,
+    W: Wait,
+>(
+    rt: &W,
+    stage: &Stage<'_, B, Q, T, C, P, X>,
+    pen: &mut Pen<S, L, Q>,
+    voice: &mut Pen<V, M, P>,
+    gate: &G,
+    relief: &mut R,
+)
+    requires { R.kept relief.old }
+    ensures pen { pen.new.place ≡ pen.new.total }
+    ensures voice { voice.new.place ≡ voice.new.total }
+    ensures relief { R.kept relief.new }
+{
+    while voice.place() < voice.total() {
+        let count = statements_in_front(stage.speech, voice.writer(), voice.place());
+        write_until(rt, stage.log, pen, count, gate, relief);
+        stage.booth.step(rt, voice, relief);
+    }
+    write(rt, stage.log, pen, gate, relief);
+}
+
+// One writer's thread.
+fn run_one<
+    B: Books,
+    Q: Quota,
+    T: Work<Q>,
+    S: HasBook<B, L>,
+    L: Ledger,
+    C: Books,
+    P: Quota,
+    X: Work<P>,
+    V: HasBook<C, M>,
+    M: Ledger,
+    G: Gate,
+    W: Wait,
+>(
+    rt: &W,
+    stage: &Stage<'_, B, Q, T, C, P, X>,
+    pen: &mut Pen<S, L, Q>,
+    voice: &mut Pen<V, M, P>,
+    gate: &G,
+    ended: &AtomicU64,
+) {
+    talk(rt, stage, pen, voice, gate, &mut Yields);
+    ended.fetch_add(1, Ordering::SeqCst);
+}
+
+// Starts a writer's thread, which borrows the writer's pen and voice. A writer that has no steps of either has ended, and so has
+// one whose thread can't be started.
+fn start<
+    's,
+    E,
+    B: Books + Send,
+    Q: Quota + Send,
+    T: Work<Q> + Send,
+    S: HasBook<B, L> + Send,
+    L: Ledger + Send,
+    C: Books + Send,
+    P: Quota + Send,
+    X: Work<P> + Send,
+    V: HasBook<C, M> + Send,
+    M: Ledger + Send,
+    G: Gate + Sync,
+    W: Wait + Sync,
+>(
+    scope: &Scope<'s, E>,
+    rt: &'s W,
+    stage: &'s Stage<'s, B, Q, T, C, P, X>,
+    pen: &'s mut Pen<S, L, Q>,
+    voice: &'s mut Pen<V, M, P>,
+    gate: &'s G,
+    ended: &'s AtomicU64,
+) {
+    if pen.total() == 0 && voice.total() == 0 {
+        ended.fetch_add(1, Ordering::SeqCst);
+        return;
+    }
+    let thread = scope.spawn(
+        move ||
+            requires { Unit {0} }
+        { run_one(rt, stage, pen, voice, gate, ended) },
+    );
+    if thread.is_err() {
+        ended.fetch_add(1, Ordering::SeqCst);
+    }
+}
+
+// Starts the threads of all writers, and lends each its pen and its voice.
+fn start_all<
+    's,
+    E,
+    N: Names + Send,
+    Q: Quota + Send,
+    T: Work<Q> + Send,
+    F: Names + Send,
+    P: Quota + Send,
+    X: Work<P> + Send,
+    G: Gate + Sync,
+    W: Wait + Sync,
+>(
+    scope: &Scope<'s, E>,
+    rt: &'s W,
+    stage: &'s Stage<'s, Eight<Named<N>>, Q, T, Eight<Named<F>>, P, X>,
+    pens: &'s mut Pens<Named<N>, Q>,
+    voices: &'s mut Pens<Named<F>, P>,
+    gate: &'s G,
+    ended: &'s AtomicU64,
+) {
+    start(scope, rt, stage, &mut pens.p0, &mut voices.p0, gate, ended);
+    start(scope, rt, stage, &mut pens.p1, &mut voices.p1, gate, ended);
+    start(scope, rt, stage, &mut pens.p2, &mut voices.p2, gate, ended);
+    start(scope, rt, stage, &mut pens.p3, &mut voices.p3, gate, ended);
+    start(scope, rt, stage, &mut pens.p4, &mut voices.p4, gate, ended);
+    start(scope, rt, stage, &mut pens.p5, &mut voices.p5, gate, ended);
+    start(scope, rt, stage, &mut pens.p6, &mut voices.p6, gate, ended);
+    start(scope, rt, stage, &mut pens.p7, &mut voices.p7, gate, ended);
+}
+
+// Does the steps that the pens and voices have left.
+pub(crate) fn finish<
+    E: Names,
+    Q: Quota,
+    T: Work<Q>,
+    F: Names,
+    P: Quota,
+    X: Work<P>,
+    G: Gate,
+    R: Relief,
+    W: Wait,
+>(
+    rt: &W,
+    stage: &Stage<'_, Eight<Named<E>>, Q, T, Eight<Named<F>>, P, X>,
+    pens: &mut Pens<Named<E>, Q>,
+    voices: &mut Pens<Named<F>, P>,
+    gate: &G,
+    relief: &mut R,
+)
+    requires { R.kept relief.old }
+    ensures p0 { pens.new.p0.place ≡ pens.new.p0.total }
+    ensures p1 { pens.new.p1.place ≡ pens.new.p1.total }
+    ensures p2 { pens.new.p2.place ≡ pens.new.p2.total }
+    ensures p3 { pens.new.p3.place ≡ pens.new.p3.total }
+    ensures p4 { pens.new.p4.place ≡ pens.new.p4.total }
+    ensures p5 { pens.new.p5.place ≡ pens.new.p5.total }
+    ensures p6 { pens.new.p6.place ≡ pens.new.p6.total }
+    ensures p7 { pens.new.p7.place ≡ pens.new.p7.total }
+    ensures v0 { voices.new.p0.place ≡ voices.new.p0.total }
+    ensures v1 { voices.new.p1.place ≡ voices.new.p1.total }
+    ensures v2 { voices.new.p2.place ≡ voices.new.p2.total }
+    ensures v3 { voices.new.p3.place ≡ voices.new.p3.total }
+    ensures v4 { voices.new.p4.place ≡ voices.new.p4.total }
+    ensures v5 { voices.new.p5.place ≡ voices.new.p5.total }
+    ensures v6 { voices.new.p6.place ≡ voices.new.p6.total }
+    ensures v7 { voices.new.p7.place ≡ voices.new.p7.total }
+    ensures relief { R.kept relief.new }
+{
+    talk(rt, stage, &mut pens.p0, &mut voices.p0, gate, relief);
+    talk(rt, stage, &mut pens.p1, &mut voices.p1, gate, relief);
+    talk(rt, stage, &mut pens.p2, &mut voices.p2, gate, relief);
+    talk(rt, stage, &mut pens.p3, &mut voices.p3, gate, relief);
+    talk(rt, stage, &mut pens.p4, &mut voices.p4, gate, relief);
+    talk(rt, stage, &mut pens.p5, &mut voices.p5, gate, relief);
+    talk(rt, stage, &mut pens.p6, &mut voices.p6, gate, relief);
+    talk(rt, stage, &mut pens.p7, &mut voices.p7, gate, relief);
+}
+
+// Starts a thread for each writer that has steps, lends it its pen and its voice, and waits until all have ended. Meanwhile it
+// eases again and again.
+pub(crate) fn work<
+    E: Names + Send,
+    Q: Quota + Send,
+    T: Work<Q> + Send,
+    F: Names + Send,
+    P: Quota + Send,
+    X: Work<P> + Send,
+    G: Gate + Sync,
+    R: Relief + Drop,
+    W: Threads + Wait + Sync,
+>(
+    rt: &W,
+    stage: &Stage<'_, Eight<Named<E>>, Q, T, Eight<Named<F>>, P, X>,
+    pens: &mut Pens<Named<E>, Q>,
+    voices: &mut Pens<Named<F>, P>,
+    gate: &G,
+    relief: R,
+) -> R
+    requires { R.kept relief }
+    ensures { R.kept result }
+{
+    let count = AtomicU64::new(0);
+    let ended = &count;
+    thread::scope(
+        thread::scope_env(),
+        rt,
+        move |scope| -> R
+            requires { R.kept relief }
+            ensures { R.kept result }
+        {
+            start_all(scope, rt, stage, pens, voices, gate, ended);
+            ease_on(rt, ended, true, relief)
+        },
+    )
+}

@@ -1,4 +1,0 @@
-use Rattle.defmt_writers.proofs.host.Host.take_all.Given as goal
-
-abbrev pub decreases-loop : goal.decreases-loop
-decreases-loop g l = l.self.captured.room
