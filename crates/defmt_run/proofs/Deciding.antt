@@ -1,25 +1,26 @@
 -- What a session answers is what inputs as told come to.
 use Rattle.std.proofs.Common.{◌≡◌, inl, inr, ◌+◌, ◌≤◌, ℕ, List, [], ◌∷◌, Option, Some, None, Ok, Err, refl, sym, subst, ap, ◌∙◌, arith, length, lit≤}
 use Rattle.std.specs.Prelude.{Result, ◌⊎◌}
-use Rattle.std.specs.Io.KnownBytes.{Consumes, Keeps}
+use Rattle.std.specs.Io.KnownBytes.{Consumes}
 use Rattle.std.specs.Str.Lines.{lines}
 use Rattle.std.proofs.lemmas.Bool.{true≢false}
 use Rattle.std.proofs.lemmas.Option.{same_Some}
 use Rattle.defmt_generate.specs.Generated.{generated}
 use Rattle.defmt_listen.specs.Streams.{Input, IsRest, Output}
-use Rattle.defmt_run.specs.Calls.{Files, IsUnread, IsUntouched, IsUnwritten}
-use Rattle.defmt_run.specs.Decoding.{fault_of_recording}
-use Rattle.defmt_run.specs.Dumping.{fault_of_image}
+use Rattle.defmt_recording.specs.Calls.{Files, IsUnread, IsUntouched, IsUnwritten}
+use Rattle.defmt_recording.specs.Decoding.{fault_of_recording}
+use Rattle.defmt_recording.specs.Dumping.{fault_of_image}
 use Rattle.defmt_run.specs.Running.{BlockingComesTo, Comes, ComesNot, Gave, GaveWhole, IsFaultOf, Made, MayNotSteer, ReadingComesTo, RefusesMode, Runs, RunningComesTo, SteeringComesTo, Stops, StopsBlocking, TookShort, Withholds, WithholdsBlocking, Writes, fault_of_read, script_limit}
-use Rattle.defmt_run.specs.Session.{Answers, AreAsTold, ComesTo, Inputs, MayComeTo, MustComeTo, OrFails, ReadsSource}
-use Rattle.defmt_run.specs.Status.{status_of}
+use Rattle.defmt_run.specs.Session.{Answers, ComesTo, MayComeTo, MustComeTo, OrFails, ReadsSource}
+use Rattle.defmt_recording.specs.Inputs.{AreAsTold, Inputs}
+use Rattle.defmt_recording.specs.Status.{status_of}
 use Rattle.defmt_run.specs.Told.{IsUntold, Told}
-use Rattle.defmt_run.specs.declared.outcome.Fault.{Fault}
-use Rattle.defmt_run.specs.declared.outcome.Fault.TheVariants.{Fine, Memory, Words, Source, Sink, Script, Shelf, Long}
-use Rattle.defmt_run.proofs.Images.{dump_may, dump_words}
-use Rattle.defmt_run.proofs.Loading.{load_one}
-use Rattle.defmt_run.proofs.Recordings.{decode_may, decode_words}
-use Rattle.defmt_run.proofs.ToldInputs.{all_taken, any_files, any_inputs, some_text}
+use Rattle.defmt_recording.specs.declared.fault.Fault.{Fault}
+use Rattle.defmt_recording.specs.declared.fault.Fault.TheVariants.{Fine, Memory, Words, Source, Sink, Script, Shelf, Long}
+use Rattle.defmt_recording.proofs.Images.{dump_may, dump_words}
+use Rattle.defmt_recording.proofs.Loading.{load_one}
+use Rattle.defmt_recording.proofs.Recordings.{decode_may, decode_words}
+use Rattle.defmt_recording.proofs.ToldInputs.{all_taken, any_files, any_inputs, consumes, keeps, some_text}
 use Rattle.defmt_script.specs.Reads.{Reads}
 use Rattle.defmt_script.specs.Script.{Refusal, Script as Read, count_all}
 use Rattle.defmt_words.specs.declared.job.Job.{Job}
@@ -278,14 +279,6 @@ refused asked input shelf output fault told answers is =
     elim none.0 [ inl words ↦ inl (ap status_of words) | inr memory ↦ inr (ap status_of memory) ]
 
 -- ---- want of memory before the words are known
-
-pub keeps : (o : Option (List ℕ)) → Keeps o o
-keeps None = tt
-keeps (Some xs) = refl
-
-consumes : (o : Option (List ℕ)) → Consumes o o []
-consumes None = tt
-consumes (Some xs) = refl
 
 no_memory : (job : ScriptJob) (input : Input) → TookShort input → IsUnread input → ComesNot job input Memory
 no_memory (Generate count) input took unread = (refl, unread)

@@ -11,7 +11,7 @@ use Rattle.defmt_run.specs.declared.making.Making.{Making}
 use Rattle.defmt_script.specs.Script.{Script}
 use Rattle.defmt_words.specs.declared.job.ScriptJob.{ScriptJob}
 use Rattle.defmt_writers.specs.Runs.{IsRun}
-use Rattle.defmt_writers.specs.Talks.{IsTalk}
+use Rattle.defmt_talk.specs.Talks.{IsTalk}
 use Rattle.rtt_booth.specs.declared.said.Word.{Word as SaidWord}
 use Rattle.rtt_ring.specs.Account.{Account}
 use Rattle.rtt_ring.specs.declared.settled.RingKind.TheVariants.{Word}
@@ -59,11 +59,12 @@ pub so_told : (P : Told → Type 0) (line : Told → List ℕ) (given other : To
     → P given × (output ≡ line given)
 so_told P line given other output written told_is output_is is so = (subst P (sym told_is) so, output_is ∙ is ∙ ap line (sym told_is))
 
-pub make_as : {E : Type 0} (job other : ScriptJob) (s script : Script) (made : Result Making E) → job ≡ other → s ≡ script
-    → IfOk made (λ (m : Making). Makes other s (told m.outcome) m.output.items) → IfOk made (λ (m : Making). Makes job script (told m.outcome) m.output.items)
-make_as job other s script made job_is script_is makes =
-    subst (λ (j : ScriptJob). IfOk made (λ (m : Making). Makes j script (told m.outcome) m.output.items)) (sym job_is)
-    (subst (λ (x : Script). IfOk made (λ (m : Making). Makes other x (told m.outcome) m.output.items)) script_is makes)
+-- by another name of the script
+pub make_as : {E : Type 0} (job : ScriptJob) (s script : Script) (made : Result Making E) → s ≡ script
+    → IfOk made (λ (m : Making). Makes job s (told m.outcome) m.output.items) → IfOk made (λ (m : Making). Makes job script (told m.outcome) m.output.items)
+make_as job s script made is makes = subst (λ (x : Script). IfOk made (λ (m : Making). Makes job x (told m.outcome) m.output.items)) is makes
 
-pub make_so : (job other : ScriptJob) (s : Script) (made : Making) → job ≡ other → Makes other s (told made.outcome) made.output.items → Makes job s (told made.outcome) made.output.items
-make_so job other s made is makes = subst (λ (j : ScriptJob). Makes j s (told made.outcome) made.output.items) (sym is) makes
+-- and of the job
+pub make_so : {E : Type 0} (job other : ScriptJob) (s : Script) (made : Result Making E) → job ≡ other
+    → IfOk made (λ (m : Making). Makes other s (told m.outcome) m.output.items) → IfOk made (λ (m : Making). Makes job s (told m.outcome) m.output.items)
+make_so job other s made is makes = subst (λ (j : ScriptJob). IfOk made (λ (m : Making). Makes j s (told m.outcome) m.output.items)) (sym is) makes

@@ -6,7 +6,7 @@ use Rattle.defmt_print.specs.Heard.{catalog_of}
 use Rattle.defmt_run.specs.Making.{RanSteered}
 use Rattle.defmt_run.specs.Told.{steered_of}
 use Rattle.defmt_script.specs.Script.{Script}
-use Rattle.defmt_writers.specs.Steers.{IsSteeredRun}
+use Rattle.defmt_steer.specs.Steers.{IsSteeredRun}
 use Rattle.rtt_down.specs.declared.turn.Turn.{Turn}
 use Rattle.rtt_ring.specs.Account.{Account}
 use Rattle.rtt_ring.specs.declared.settled.RingKind.TheVariants.{Word}

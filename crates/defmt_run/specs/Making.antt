@@ -2,17 +2,18 @@
 use Rattle.std.specs.Prelude.{◌≡◌, List, [], ℕ}
 use Rattle.defmt_logger.specs.Tape.{stream_of}
 use Rattle.defmt_print.specs.Printed.{statement_lines, summary}
-use Rattle.defmt_run.specs.Shown.{run_lines, spoken_lines, steered_lines}
+use Rattle.defmt_print.specs.RunLines.{run_lines, steered_lines}
+use Rattle.defmt_run.specs.Shown.{spoken_lines}
 use Rattle.defmt_run.specs.Told.{IsHeard, IsUnspoken, IsUnsteered, IsUntold, Ran, Spoke, Steered, Told}
 use Rattle.defmt_script.specs.Script.{Script}
 use Rattle.defmt_words.specs.declared.job.ScriptJob.{ScriptJob}
 use Rattle.defmt_words.specs.declared.job.ScriptJob.TheVariants.{Run, Record, Terminals, Steer, Table, Print, Generate}
 use Rattle.defmt_writers.specs.Runs.{IsRun}
-use Rattle.defmt_writers.specs.Steers.{IsSteeredRun}
-use Rattle.defmt_writers.specs.Talks.{IsTalk}
+use Rattle.defmt_steer.specs.Steers.{IsSteeredRun}
+use Rattle.defmt_talk.specs.Talks.{IsTalk}
 use Rattle.defmt_writers.specs.declared.script_run.Run.{Run as ScriptRun}
-use Rattle.defmt_writers.specs.declared.steer_run.SteeredRun.{SteeredRun}
-use Rattle.defmt_writers.specs.declared.talk_run.Talk.{Talk}
+use Rattle.defmt_steer.specs.declared.steer_run.SteeredRun.{SteeredRun}
+use Rattle.defmt_talk.specs.declared.talk_run.Talk.{Talk}
 use Rattle.elf_section.specs.Written.{written}
 use Rattle.elf_table.specs.Listed.{symbols_in}
 use Rattle.rtt_ring.specs.Account.{Account}

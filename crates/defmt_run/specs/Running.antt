@@ -7,11 +7,11 @@ use Rattle.defmt_listen.specs.Streams.{Input, Output, Wrote, WroteFront}
 use Rattle.defmt_script.specs.Reads.{Reads}
 use Rattle.defmt_script.specs.Script.{Refusal, Script as Read}
 use Rattle.defmt_generate.specs.Generated.{generated}
-use Rattle.defmt_run.specs.Calls.{GaveWithin, IsUnread, IsUnwritten, TookMore, TookWithin}
+use Rattle.defmt_recording.specs.Calls.{GaveWithin, IsUnread, IsUnwritten, TookMore, TookWithin}
 use Rattle.defmt_run.specs.Making.{Makes}
 use Rattle.defmt_run.specs.Told.{IsUntold, Told}
-use Rattle.defmt_run.specs.declared.outcome.Fault.{Fault}
-use Rattle.defmt_run.specs.declared.outcome.Fault.TheVariants.{Fine, Memory, Source, Sink, Script, Long}
+use Rattle.defmt_recording.specs.declared.fault.Fault.{Fault}
+use Rattle.defmt_recording.specs.declared.fault.Fault.TheVariants.{Fine, Memory, Source, Sink, Script, Long}
 use Rattle.defmt_words.specs.declared.job.ScriptJob.{ScriptJob}
 use Rattle.defmt_words.specs.declared.job.ScriptJob.TheVariants.{Generate, Steer}
 use Rattle.rtt_down.specs.Modes.{FirstMode}

@@ -1,14 +1,14 @@
 -- What a session does, by what the words ask for and the fault that it answers.
 use Rattle.std.specs.Prelude.{◌≡◌, ◌⊎◌, ℕ, List, Option, Some, None}
-use Rattle.dl_io.specs.Outside.{Rose}
-use Rattle.defmt_listen.specs.Streams.{Input, IsRest, Output}
-use Rattle.defmt_run.specs.Calls.{Files, IsUnread, IsUntouched, IsUnwritten}
-use Rattle.defmt_run.specs.Decoding.{Decodes, DecodingComesTo}
-use Rattle.defmt_run.specs.Dumping.{Dumps, DumpingComesTo}
+use Rattle.defmt_listen.specs.Streams.{Input, Output}
+use Rattle.defmt_recording.specs.Calls.{Files, IsUnread, IsUntouched, IsUnwritten}
+use Rattle.defmt_recording.specs.Decoding.{Decodes, DecodingComesTo}
+use Rattle.defmt_recording.specs.Dumping.{Dumps, DumpingComesTo}
+use Rattle.defmt_recording.specs.Inputs.{AreAsTold, Inputs, OrFailing}
 use Rattle.defmt_run.specs.Running.{Runs, RunningComesTo, SteeringComesTo}
 use Rattle.defmt_run.specs.Told.{IsUntold, Told}
-use Rattle.defmt_run.specs.declared.outcome.Fault.{Fault}
-use Rattle.defmt_run.specs.declared.outcome.Fault.TheVariants.{Fine, Memory, Words, Source, Sink, Shelf}
+use Rattle.defmt_recording.specs.declared.fault.Fault.{Fault}
+use Rattle.defmt_recording.specs.declared.fault.Fault.TheVariants.{Fine, Memory, Words}
 use Rattle.defmt_words.specs.declared.job.Job.{Job}
 use Rattle.defmt_words.specs.declared.job.Job.TheVariants.{Script, Decode, Dump}
 use Rattle.defmt_words.specs.declared.job.ScriptJob.TheVariants.{Generate, Steer}
@@ -30,11 +30,6 @@ Answers (Some (Dump table options only)) input shelf output fault told =
 
 -- ---- what inputs come to, where nothing fails and memory is there
 
--- what the source gives, and the files of the shelf
-pub record Inputs : Type 0 where
-  pub text : List ℕ
-  pub files : List ℕ → Option (List ℕ)
-
 -- A row a job. Rules say what is printed, and change no fault.
 abbrev pub ComesTo : Job → Inputs → Fault → Type 0
 ComesTo (Script (Generate count)) inputs fault = fault ≡ Fine
@@ -42,16 +37,6 @@ ComesTo (Script Steer) inputs fault = SteeringComesTo inputs.text fault
 ComesTo (Script job) inputs fault = RunningComesTo inputs.text fault
 ComesTo (Decode table only) inputs fault = DecodingComesTo (inputs.files table) inputs.text fault
 ComesTo (Dump table options only) inputs fault = DumpingComesTo options (inputs.files table) inputs.text fault
-
--- these are the files, where they are told
-abbrev pub AreFiles : Option (List ℕ → Option (List ℕ)) → (List ℕ → Option (List ℕ)) → Type 0
-AreFiles None files = Unit {0}
-AreFiles (Some told) files = files ≡ told
-
--- the inputs are as source and shelf tell them, where they do
-pub record AreAsTold (left : Option (List ℕ)) (told : Option (List ℕ → Option (List ℕ))) (inputs : Inputs) : Type 0 where
-  pub text : IsRest left inputs.text
-  pub files : AreFiles told inputs.files
 
 -- some inputs that are as told come to this
 abbrev pub MayComeTo : Job → Option (List ℕ) → Option (List ℕ → Option (List ℕ)) → Fault → Type 0
@@ -75,8 +60,4 @@ AsksShelf job = Unit {0}
 
 -- This is so of the fault, or memory was wanting, or what the job uses of the outside failed and its count rose.
 abbrev pub OrFails : Job → Input → Files → Output → (Fault → Type 0) → Fault → Type 0
-OrFails job input shelf output Is Memory = Unit {0}
-OrFails job input shelf output Is Source = ReadsSource job × Rose input.faults input.faults_after
-OrFails job input shelf output Is Sink = Rose output.faults output.faults_after
-OrFails job input shelf output Is Shelf = (AsksShelf job × Rose shelf.faults shelf.faults_after) ⊎ Is Shelf
-OrFails job input shelf output Is fault = Is fault
+OrFails job input shelf output Is fault = OrFailing (ReadsSource job) (AsksShelf job) input shelf output Is fault

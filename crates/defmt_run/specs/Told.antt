@@ -10,7 +10,7 @@ use Rattle.defmt_print.specs.Heard.{GapsIn, LinesIn, catalog_of}
 use Rattle.defmt_run.specs.declared.outcome.Outcome.{Outcome}
 use Rattle.defmt_script.specs.Script.{Script}
 use Rattle.defmt_writers.specs.Runs.{ReachedIn}
-use Rattle.defmt_writers.specs.Steers.{due, whole_frames}
+use Rattle.defmt_steer.specs.Steers.{due, whole_frames}
 use Rattle.rtt_booth.specs.Said.{IsLawful as AreLawful, spoken_by, words_of}
 use Rattle.rtt_booth.specs.declared.said.Word.{Word as SaidWord}
 use Rattle.rtt_down.specs.Orders.{orders_joined}

@@ -9,22 +9,21 @@
 //! prints counts of them.
 #![tactic(auto)]
 
-mod decoding;
-mod dumping;
+mod hearing;
 mod logging;
 mod making;
 mod outcome;
 mod running;
-mod showing;
 mod terminals;
 mod top;
 
 pub use defmt_decode::{Event, Events};
 pub use defmt_logger::{Mark, Tape};
 pub use defmt_print::{gaps_are_told, only_lines_are_left_out};
+pub use defmt_recording::Fault;
 pub use defmt_writers::{Gate, OpenGate, serve_here};
 pub use elf_section::Part;
-pub use outcome::{Fault, Outcome};
+pub use outcome::Outcome;
 pub use rtt_booth::{Said, Word};
 pub use rtt_down::{Turn, Turns};
 pub use rtt_dump::refusals_are_checked;

@@ -1,27 +1,33 @@
 // What is made of a script, before it is written.
 ghost use Rattle.std.specs.Prelude.{◌≡◌, ◌≤◌, ◌^◌, ◌++◌, IfOk};
 ghost use Rattle.elf_table.specs.Listed.{size_of};
-ghost use Rattle.defmt_run.specs.Making.{IsWordRun, IsWordSteered, IsWordTalk, Makes, RanAlone};
+ghost use Rattle.defmt_run.specs.Making.{IsWordRun, IsWordTalk, Makes, RanAlone};
 ghost use Rattle.defmt_print.specs.Printed.{summary};
 ghost use Rattle.defmt_run.specs.Told.{IsUntold, steered_of, told, told_of};
 
+use crate::hearing::{hear, hear_steered};
 use crate::logging::{log, speak, steer};
-use crate::outcome::{Fault, Outcome};
-use crate::showing::{hear, hear_steered, run_lines, steered_lines};
-use crate::terminals::add_spoken;
+use crate::outcome::Outcome;
+use crate::terminals::with_spoken;
 use defmt_decode::Events;
-use defmt_print::{statement_lines, summary};
+use defmt_print::{run_lines, statement_lines, steered_lines, summary};
+use defmt_recording::Fault;
 use defmt_script::Script;
+use defmt_steer::SteeredRun;
+use defmt_talk::Talk;
 use defmt_words::{RunOptions, ScriptJob};
-use defmt_writers::{Gate, Run, SteeredRun, Talk};
+use defmt_writers::{Gate, Run};
 use dl_io::{Bytes, Memory};
 use elf_table::write_table;
 use rtt_booth::Said;
 use rtt_down::Turns;
 use rtt_ring::Settled;
 use std::alloc::Global;
+use std::mem::forget;
 use std::sync::Wait;
 use std::thread::Threads;
+
+// The session ends with its script, so the script isn't taken apart statement by statement: its memory is forgotten.
 
 /// What comes of a job on a script.
 #[derive(Drop)]
@@ -44,32 +50,49 @@ pub fn make<G: Gate + Sync, R: Threads + Wait + Sync>(
     ensures { IfOk result (λ made. Makes job.now script (told made.outcome) made.output.items) }
 {
     match job {
-        ScriptJob::Run(options) => lines_of_run(alloc, options, log(rt, alloc, script, gate)?),
-        ScriptJob::Record => stream_of_run(alloc, log(rt, alloc, script, gate)?),
-        ScriptJob::Terminals => {
-            let (run, talk) = speak(rt, alloc, script, gate)?;
-            lines_of_terminals(alloc, run, talk)
-        }
-        ScriptJob::Steer => lines_of_steered(alloc, steer(rt, alloc, script, gate)?),
-        ScriptJob::Table => Ok(without_run(alloc, write_table(alloc, script.table())?)),
-        ScriptJob::Print => Ok(without_run(alloc, statement_lines(alloc, &script)?)),
-        ScriptJob::Generate(_) => counts_of_run(alloc, log(rt, alloc, script, gate)?),
+        ScriptJob::Run(options) => lines_of_run(rt, alloc, options, script, gate),
+        ScriptJob::Record => stream_of_run(rt, alloc, script, gate),
+        ScriptJob::Terminals => lines_of_terminals(rt, alloc, script, gate),
+        ScriptJob::Steer => lines_of_steered(rt, alloc, script, gate),
+        ScriptJob::Table => file_of_table(alloc, script),
+        ScriptJob::Print => lines_of_statements(alloc, script),
+        ScriptJob::Generate(_) => counts_of_run(rt, alloc, script, gate),
     }
 }
 
 // The lines of what the host tells of a run, or those in groups by writer, and then what was lost.
-fn lines_of_run(alloc: Global, options: &RunOptions, run: Run) -> Result<Making, Memory>
-    requires { IsWordRun run }
-    ensures { IfOk result (λ made. Makes (ScriptJob.Run options.now) run.script (told made.outcome)
+fn lines_of_run<G: Gate + Sync, R: Threads + Wait + Sync>(
+    rt: &R,
+    alloc: Global,
+    options: &RunOptions,
+    script: Script,
+    gate: &G,
+) -> Result<Making, Memory>
+    ensures { IfOk result (λ made. Makes (ScriptJob.Run options.now) script (told made.outcome)
         made.output.items) }
 {
+    let run = log(rt, alloc, script, gate)?;
     let events = hear(alloc, &run)?;
     let output = run_lines(alloc, options, &run.script, &run.tape, &events)?;
     Ok(with_run(alloc, run, events, Said::new(alloc), None, output))
 }
 
 // The lines of what the host tells of a run, then what was lost, and then the texts of each terminal.
-fn lines_of_terminals(alloc: Global, run: Run, talk: Talk) -> Result<Making, Memory>
+fn lines_of_terminals<G: Gate + Sync, R: Threads + Wait + Sync>(
+    rt: &R,
+    alloc: Global,
+    script: Script,
+    gate: &G,
+) -> Result<Making, Memory>
+    ensures { IfOk result (λ made. Makes ScriptJob.Terminals script (told made.outcome)
+        made.output.items) }
+{
+    let (run, talk) = speak(rt, alloc, script, gate)?;
+    spoken_lines(alloc, run, talk)
+}
+
+// The same of a run whose texts were said.
+fn spoken_lines(alloc: Global, run: Run, talk: Talk) -> Result<Making, Memory>
     requires run { IsWordRun run }
     requires talk { IsWordTalk run talk }
     ensures { IfOk result (λ made. Makes ScriptJob.Terminals run.script (told made.outcome)
@@ -80,8 +103,8 @@ fn lines_of_terminals(alloc: Global, run: Run, talk: Talk) -> Result<Making, Mem
         group: false,
         only: None,
     };
-    let mut output = run_lines(alloc, &options, &run.script, &run.tape, &events)?;
-    add_spoken(alloc, &run.script, &talk, &mut output)?;
+    let lines = run_lines(alloc, &options, &run.script, &run.tape, &events)?;
+    let output = with_spoken(alloc, lines, &run.script, &talk)?;
     let Talk {
         said,
         settled,
@@ -92,22 +115,32 @@ fn lines_of_terminals(alloc: Global, run: Run, talk: Talk) -> Result<Making, Mem
 }
 
 // The lines of what the host tells of a run under orders, and then a line for each order.
-fn lines_of_steered(alloc: Global, run: SteeredRun) -> Result<Making, Memory>
-    requires { IsWordSteered run }
-    ensures { IfOk result (λ made. Makes ScriptJob.Steer run.script (told made.outcome)
+fn lines_of_steered<G: Gate + Sync, R: Threads + Wait + Sync>(
+    rt: &R,
+    alloc: Global,
+    script: Script,
+    gate: &G,
+) -> Result<Making, Memory>
+    ensures { IfOk result (λ made. Makes ScriptJob.Steer script (told made.outcome)
         made.output.items) }
 {
+    let run = steer(rt, alloc, script, gate)?;
     let events = hear_steered(alloc, &run)?;
     let output = steered_lines(alloc, &run.script, &run.turns, &events)?;
     Ok(with_steered(alloc, run, events, output))
 }
 
 // What a run sent.
-fn stream_of_run(alloc: Global, run: Run) -> Result<Making, Memory>
-    requires { IsWordRun run }
-    ensures { IfOk result (λ made. Makes ScriptJob.Record run.script (told made.outcome)
+fn stream_of_run<G: Gate + Sync, R: Threads + Wait + Sync>(
+    rt: &R,
+    alloc: Global,
+    script: Script,
+    gate: &G,
+) -> Result<Making, Memory>
+    ensures { IfOk result (λ made. Makes ScriptJob.Record script (told made.outcome)
         made.output.items) }
 {
+    let run = log(rt, alloc, script, gate)?;
     let output = joined(alloc, run.captured.as_slice(), run.rest.as_slice())?;
     Ok(with_run(
         alloc,
@@ -120,15 +153,39 @@ fn stream_of_run(alloc: Global, run: Run) -> Result<Making, Memory>
 }
 
 // Counts of the statements of a run.
-fn counts_of_run(alloc: Global, run: Run) -> Result<Making, Memory>
-    requires { IsWordRun run }
-    ensures { IfOk result (λ made. RanAlone run.script (told made.outcome)
-        × (made.output.items ≡ summary run.script made.outcome.tape.marks)) }
+fn counts_of_run<G: Gate + Sync, R: Threads + Wait + Sync>(
+    rt: &R,
+    alloc: Global,
+    script: Script,
+    gate: &G,
+) -> Result<Making, Memory>
+    ensures { IfOk result (λ made. RanAlone script (told made.outcome)
+        × (made.output.items ≡ summary script made.outcome.tape.marks)) }
 {
+    let run = log(rt, alloc, script, gate)?;
     let events = hear(alloc, &run)?;
     run.script.lawful();
     let output = summary(alloc, &run.script, &run.tape)?;
     Ok(with_run(alloc, run, events, Said::new(alloc), None, output))
+}
+
+// The file of a script's table.
+fn file_of_table(alloc: Global, script: Script) -> Result<Making, Memory>
+    requires { size_of script.table ≤ 2 ^ 26 }
+    ensures { IfOk result (λ made. Makes ScriptJob.Table script (told made.outcome)
+        made.output.items) }
+{
+    let output = write_table(alloc, script.table())?;
+    Ok(without_run(alloc, output, script))
+}
+
+// The lines of a script's statements.
+fn lines_of_statements(alloc: Global, script: Script) -> Result<Making, Memory>
+    ensures { IfOk result (λ made. Makes ScriptJob.Print script (told made.outcome)
+        made.output.items) }
+{
+    let output = statement_lines(alloc, &script)?;
+    Ok(without_run(alloc, output, script))
 }
 
 /// These bytes, one part after the other.
@@ -156,13 +213,14 @@ fn with_run(
         ≡ told_of run.tape.marks run.settled events run.looks said.words term }
 {
     let Run {
-        script: _,
+        script,
         tape,
         settled,
         captured: _,
         rest: _,
         looks,
     } = run;
+    forget(script);
     let fault = Fault::Fine;
     let outcome = Outcome {
         status: fault.status(),
@@ -185,7 +243,7 @@ fn with_steered(alloc: Global, run: SteeredRun, events: Events, output: Bytes) -
     ensures run { told result.outcome ≡ steered_of run.turns.turns run.settled events run.orders }
 {
     let SteeredRun {
-        script: _,
+        script,
         turns,
         settled,
         captured: _,
@@ -193,6 +251,7 @@ fn with_steered(alloc: Global, run: SteeredRun, events: Events, output: Bytes) -
         orders,
         unheard: _,
     } = run;
+    forget(script);
     let outcome = Outcome {
         settled: Some(settled),
         events,
@@ -204,10 +263,11 @@ fn with_steered(alloc: Global, run: SteeredRun, events: Events, output: Bytes) -
 }
 
 // What is written of a script that isn't run.
-fn without_run(alloc: Global, output: Bytes) -> Making
+fn without_run(alloc: Global, output: Bytes, script: Script) -> Making
     ensures output { result.output.items ≡ output.items }
     ensures untold { IsUntold (told result.outcome) }
 {
+    forget(script);
     Making {
         output,
         outcome: Outcome::silent(alloc, Fault::Fine),

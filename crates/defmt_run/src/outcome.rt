@@ -1,78 +1,16 @@
-ghost use Rattle.std.specs.Prelude.{[], ◌≡◌, ◌++◌, IfOk, OnOk};
-ghost use Rattle.defmt_run.specs.Status.{status_of, said};
+ghost use Rattle.std.specs.Prelude.{◌≡◌, IfOk};
+ghost use Rattle.defmt_recording.specs.Status.{status_of, said};
 ghost use Rattle.defmt_run.specs.Told.{IsUntold, told};
 
 use defmt_decode::Events;
 use defmt_grammar::Text;
 use defmt_logger::Tape;
+use defmt_recording::Fault;
 use dl_io::Memory;
-use elf_section::Part;
 use rtt_booth::Said;
 use rtt_down::Turns;
 use rtt_ring::Settled;
 use std::alloc::Global;
-
-/// What a session came to.
-#[derive(Clone, Copy, Debug, PartialEq, Eq)]
-pub enum Fault {
-    /// All was done. Status 0.
-    Fine,
-    /// Want of memory. Status 1.
-    Memory,
-    /// The words ask for nothing. Status 2.
-    Words,
-    /// The source failed. Status 3.
-    Source,
-    /// The sink failed. Status 4.
-    Sink,
-    /// A line of the script is refused: its number from 1, the cause, and the inner number of the cause or 0. Status 5.
-    Script { line: u32, cause: u8, inner: u8 },
-    /// The file of the table is refused: the cause, the part and its place, as `elf_section::read_symbols` gives them. Status 6.
-    Elf { cause: u8, part: Part, place: u32 },
-    /// A symbol of the table's file is refused: the cause and its place, as `elf_table::read_table` gives them. Status 6.
-    Names { cause: u8, symbol: u32 },
-    /// The shelf failed, or hasn't the file. Status 7.
-    Shelf,
-    /// The script has more than 4,194,304 bytes, the table's file more than 67,108,864, or the recording or the image more than
-    /// 268,435,456. Status 8.
-    Long,
-    /// All was done, and so many events of the recording, or of the bytes of the image, are no lines. Status 9.
-    Events { bad: u64 },
-    /// The image is refused: the cause and its place, as `rtt_dump::dumped` gives them. Status 10.
-    Control { cause: u8, place: u32 },
-}
-
-impl Fault {
-    /// The status of a session with this fault.
-    pub fn status(&self) -> u8
-        ensures { result ≡ status_of self.now }
-    {
-        match self {
-            Fault::Fine => 0,
-            Fault::Memory => 1,
-            Fault::Words => 2,
-            Fault::Source => 3,
-            Fault::Sink => 4,
-            Fault::Script { .. } => 5,
-            Fault::Elf { .. } | Fault::Names { .. } => 6,
-            Fault::Shelf => 7,
-            Fault::Long => 8,
-            Fault::Events { .. } => 9,
-            Fault::Control { .. } => 10,
-        }
-    }
-}
-
-impl From<Memory> for Fault {
-    ghost use Rattle.std.specs.Prelude.{◌≡◌};
-    ghost use Rattle.defmt_run.specs.declared.outcome.Fault.TheVariants.{Memory as OutOfMemory};
-
-    ghost from_gives = { λ _ fault. fault ≡ OutOfMemory };
-
-    fn from(_: Memory) -> Self {
-        Fault::Memory
-    }
-}
 
 /// What a session answers. `tape`, `settled` and `looks` tell of the run of a script by `run`, `record`, `term` and `gen`,
 /// `events` of that by `run`, `term` and `gen`, `said` and `term` of that by `term`, and `turns`, `settled`, `orders` and `events`
@@ -127,53 +65,6 @@ impl Outcome {
     pub fn say(&self, alloc: Global) -> Result<Text, Memory>
         ensures { IfOk result (λ text. text ≡ said self.now.fault) }
     {
-        let mut text = Text::new(alloc);
-        add_words(alloc, &self.fault, &mut text)?;
-        Ok(text)
-    }
-}
-
-// Puts the words that tell a fault where nothing stands yet.
-fn add_words(alloc: Global, fault: &Fault, text: &mut Text) -> Result<(), Memory>
-    requires { text.old ≡ [] }
-    ensures { OnOk result (text.new ≡ said fault.now) }
-{
-    match fault {
-        Fault::Fine => add(text, "fine"),
-        Fault::Memory => add(text, "memory"),
-        Fault::Words => add(text, "words"),
-        Fault::Source => add(text, "source"),
-        Fault::Sink => add(text, "sink"),
-        Fault::Script { line, cause, inner } => {
-            let words = format!(in alloc; "script line {line} cause {cause} inner {inner}")?;
-            add(text, words.as_str())
-        }
-        Fault::Elf { cause, place, .. } => {
-            let words = format!(in alloc; "table elf cause {cause} place {place}")?;
-            add(text, words.as_str())
-        }
-        Fault::Names { cause, symbol } => {
-            let words = format!(in alloc; "table name cause {cause} symbol {symbol}")?;
-            add(text, words.as_str())
-        }
-        Fault::Shelf => add(text, "shelf"),
-        Fault::Long => add(text, "too long"),
-        Fault::Events { bad } => {
-            let words = format!(in alloc; "events with faults {bad}")?;
-            add(text, words.as_str())
-        }
-        Fault::Control { cause, place } => {
-            let words = format!(in alloc; "control cause {cause} place {place}")?;
-            add(text, words.as_str())
-        }
-    }
-}
-
-fn add(text: &mut Text, words: &str) -> Result<(), Memory>
-    ensures { OnOk result (text.new ≡ text.old ++ words.now) }
-{
-    match text.push_str(words) {
-        Ok(()) => Ok(()),
-        Err(_) => Err(Memory),
+        self.fault.say(alloc)
     }
 }

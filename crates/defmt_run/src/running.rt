@@ -5,16 +5,18 @@ ghost use Rattle.elf_table.specs.Listed.{size_of};
 ghost use Rattle.defmt_generate.specs.Generated.{generated};
 ghost use Rattle.defmt_lines.specs.Settings.{is_block};
 ghost use Rattle.defmt_listen.specs.Streams.{input_of, output_of};
+ghost use Rattle.defmt_run.specs.Making.{Makes};
 ghost use Rattle.defmt_run.specs.Running.{Comes, ComesNot, Gave, GaveBlocking, GaveWhole, IsSpelled, Made, Runs, Stops, StopsBlocking, Withholds, WithholdsBlocking, Writes, script_limit};
-ghost use Rattle.defmt_run.specs.Status.{status_of};
+ghost use Rattle.defmt_recording.specs.Status.{status_of};
 ghost use Rattle.defmt_run.specs.Told.{told};
 ghost use Rattle.defmt_script.specs.Reads.{Reads};
 ghost use Rattle.rtt_down.specs.Modes.{FirstMode};
 
 use crate::making::{Making, make};
-use crate::outcome::{Fault, Outcome};
+use crate::outcome::Outcome;
 use defmt_generate::{generate, scripts_are_short};
 use defmt_generated::generated_reads;
+use defmt_recording::Fault;
 use defmt_script::{RingMode, Script, ScriptFault, one_reading, read, texts_are_few};
 use defmt_words::{Count, ScriptJob};
 use defmt_writers::Gate;
@@ -66,8 +68,26 @@ fn making_of<S: Source, G: Gate + Sync, R: Threads + Wait + Sync>(
     ensures later { S.faults src.old ≤ S.faults src.new }
 {
     let script = script_of(alloc, job, src)?;
-    let making = make(rt, alloc, job, script, gate)?;
-    Ok(making)
+    made_of(rt, alloc, job, script, gate)
+}
+
+// What comes of this job on a script.
+fn made_of<G: Gate + Sync, R: Threads + Wait + Sync>(
+    rt: &R,
+    alloc: Global,
+    job: &ScriptJob,
+    script: Script,
+    gate: &G,
+) -> Result<Making, Fault>
+    requires { size_of script.table ≤ 2 ^ 26 }
+    ensures makes { IfOk result (λ made.
+        Makes job.now script (told made.outcome) made.output.items) }
+    ensures memory { IfErr result (λ fault. fault ≡ Fault.Memory) }
+{
+    match make(rt, alloc, job, script, gate) {
+        Ok(making) => Ok(making),
+        Err(_) => Err(Fault::Memory),
+    }
 }
 
 // The script of this job.

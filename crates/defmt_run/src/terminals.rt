@@ -1,33 +1,43 @@
 // What is printed of terminals.
-ghost use Rattle.std.specs.Prelude.{◌≡◌, ◌++◌, IfOk, OnOk};
+ghost use Rattle.std.specs.Prelude.{◌≡◌, ◌++◌, IfOk};
 ghost use Rattle.defmt_print.specs.Terminals.{screen_lines};
-ghost use Rattle.defmt_writers.specs.Talks.{IsTalk};
+ghost use Rattle.defmt_talk.specs.Talks.{IsTalk};
 ghost use Rattle.rtt_booth.specs.Said.{IsLawful, screens_by, spoken_by};
 
 use crate::making::joined;
-use defmt_print::add_screens;
+use defmt_print::with_screens;
 use defmt_script::Script;
-use defmt_writers::Talk;
+use defmt_talk::Talk;
 use dl_io::{Bytes, Memory};
 use rtt_booth::{Said, spoken_is_short, words_are_shown};
 use rtt_terminal::{Screens, TermFault, read_terminals};
 use std::alloc::Global;
 
-/// Appends the texts of each terminal, of what was said on them.
-pub fn add_spoken(
+/// These lines, and then the texts of each terminal, of what was said on them.
+pub fn with_spoken(
     alloc: Global,
+    lines: Bytes,
     script: &Script,
     talk: &Talk,
-    out: &mut Bytes,
-) -> Result<(), Memory>
+) -> Result<Bytes, Memory>
     requires { IsTalk script.now.said talk.now.said.words talk.now.settled
         talk.now.captured.items talk.now.rest.items }
-    ensures { OnOk result (out.new.items ≡ out.old.items
+    ensures { IfOk result (λ out. out.items ≡ lines.items
         ++ screen_lines (screens_by script.now.said talk.now.said.words)) }
 {
+    let screens = spoken_screens(alloc, script, talk)?;
+    with_screens(lines, &screens)
+}
+
+// The texts of the terminals, of what was said on them.
+fn spoken_screens(alloc: Global, script: &Script, talk: &Talk) -> Result<Screens, Memory>
+    requires { IsTalk script.now.said talk.now.said.words talk.now.settled
+        talk.now.captured.items talk.now.rest.items }
+    ensures { IfOk result (λ screens.
+        screens ≡ screens_by script.now.said talk.now.said.words) }
+{
     let sent = joined(alloc, talk.captured.as_slice(), talk.rest.as_slice())?;
-    let screens = screens_of(alloc, script, &talk.said, sent.as_slice())?;
-    add_screens(&screens, out)
+    screens_of(alloc, script, &talk.said, sent.as_slice())
 }
 
 // The texts of the terminals, read from what words speak.

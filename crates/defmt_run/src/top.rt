@@ -1,18 +1,17 @@
 // The top call.
 ghost use Rattle.std.specs.Prelude.{◌≡◌, ◌⊎◌, ◌≤◌, Some, None, map, string_bytes};
 ghost use Rattle.defmt_listen.specs.Streams.{input_of, output_of};
-ghost use Rattle.defmt_run.specs.Calls.{files_of};
+ghost use Rattle.defmt_recording.specs.Calls.{files_of};
 ghost use Rattle.defmt_run.specs.Session.{Answers, MayComeTo, MustComeTo, OrFails};
-ghost use Rattle.defmt_run.specs.Status.{status_of};
+ghost use Rattle.defmt_recording.specs.Status.{status_of};
 ghost use Rattle.defmt_run.specs.Told.{told};
-ghost use Rattle.defmt_run.specs.declared.outcome.Fault.{Fault as AnyFault};
+ghost use Rattle.defmt_recording.specs.declared.fault.Fault.{Fault as AnyFault};
 ghost use Rattle.defmt_words.specs.Words.{job as job_in};
 ghost use Rattle.defmt_words.specs.declared.job.Job.{Job as AnyJob};
 
-use crate::decoding::decode;
-use crate::dumping::dump;
-use crate::outcome::{Fault, Outcome};
+use crate::outcome::Outcome;
 use crate::running::script_outcome;
+use defmt_recording::{Fault, decode, dump};
 use defmt_script::one_reading;
 use defmt_words::{Job, job_of};
 use defmt_writers::Gate;

@@ -1,11 +1,11 @@
-use Rattle.std.proofs.Common.{◌≡◌, Ok, Err, subst, sym}
+use Rattle.std.proofs.Common.{◌≡◌, inr, refl, Ok, Err, subst, sym}
 use Rattle.std.specs.Prelude.{IfOk, Result}
 use Rattle.defmt_run.specs.Making.{IsWordRun, IsWordTalk}
 use Rattle.defmt_script.specs.Script.{Script}
 use Rattle.defmt_writers.specs.Runs.{IsRun}
-use Rattle.defmt_writers.specs.Talks.{IsTalk}
+use Rattle.defmt_talk.specs.Talks.{IsTalk}
 use Rattle.defmt_writers.specs.declared.script_run.Run.{Run}
-use Rattle.defmt_writers.specs.declared.talk_run.Talk.{Talk}
+use Rattle.defmt_talk.specs.declared.talk_run.Talk.{Talk}
 use Rattle.rtt_ring.specs.declared.settled.RingKind.TheVariants.{Word}
 use Rattle.defmt_run.proofs.logging.speak.Goals as goal
 
@@ -21,8 +21,11 @@ talk_of_itself : {E : Type 0} (s : Script) (answer : Result (Run × Talk) E) →
 talk_of_itself s (Ok r) is talk rings = (subst (λ (x : Script). IsTalk x.said r.1.said.words r.1.settled r.1.captured.items r.1.rest.items) (sym is) talk, rings.1)
 talk_of_itself s (Err fault) is talk rings = tt
 
+pub run_terminals-requires-clause-fits : goal.run_terminals-requires-clause-fits
+run_terminals-requires-clause-fits g c κs within = inr refl
+
 pub returns-clause-run : goal.returns-clause-run
-returns-clause-run g c = run_of_itself c.args.script c.speak_by.result c.speak_by.ensures.script c.speak_by.ensures.run c.speak_by.ensures.rings
+returns-clause-run g c = run_of_itself c.args.script c.run_terminals.result c.run_terminals.ensures.script c.run_terminals.ensures.run c.run_terminals.ensures.rings
 
 pub returns-clause-talk : goal.returns-clause-talk
-returns-clause-talk g c = talk_of_itself c.args.script c.speak_by.result c.speak_by.ensures.script c.speak_by.ensures.talk c.speak_by.ensures.rings
+returns-clause-talk g c = talk_of_itself c.args.script c.run_terminals.result c.run_terminals.ensures.script c.run_terminals.ensures.talk c.run_terminals.ensures.rings

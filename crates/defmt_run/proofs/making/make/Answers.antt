@@ -1,37 +1,24 @@
-use Rattle.std.proofs.Common.{◌∙◌, ap}
-use Rattle.defmt_intern.specs.Table.{Map}
-use Rattle.defmt_intern.specs.declared.table.Profile.{Profile}
-use Rattle.elf_section.specs.Written.{written}
-use Rattle.elf_table.specs.Listed.{symbols_in}
-use Rattle.defmt_run.proofs.RunMade.{make_as, make_so}
+use Rattle.defmt_run.proofs.RunMade.{make_so}
 use Rattle.defmt_words.specs.declared.job.ScriptJob.TheVariants.{Run, Record, Terminals, Steer, Table, Print, Generate}
 use Rattle.defmt_run.proofs.making.make.Goals as goal
 
-pub returns-in_ok-log-in-Run : goal.returns-in_ok-log-in-Run
-returns-in_ok-log-in-Run g c = make_as c.args.job.now (Run c.in-Run.options) _ c.args.script c.lines_of_run.result c.in-Run.is c.in_ok-log-in-Run.ensures.script c.lines_of_run.ensures
+pub returns-in-Run : goal.returns-in-Run
+returns-in-Run g c = make_so c.args.job.now (Run c.in-Run.options) c.args.script c.lines_of_run.result c.in-Run.is c.lines_of_run.ensures
 
-pub returns-in_ok-log-in-Record : goal.returns-in_ok-log-in-Record
-returns-in_ok-log-in-Record g c = make_as c.args.job.now Record _ c.args.script c.stream_of_run.result c.in-Record.is c.in_ok-log-in-Record.ensures.script c.stream_of_run.ensures
+pub returns-in-Record : goal.returns-in-Record
+returns-in-Record g c = make_so c.args.job.now Record c.args.script c.stream_of_run.result c.in-Record.is c.stream_of_run.ensures
 
-pub returns-in_ok-run-in-Terminals : goal.returns-in_ok-run-in-Terminals
-returns-in_ok-run-in-Terminals g c = make_as c.args.job.now Terminals _ c.args.script c.lines_of_terminals.result c.in-Terminals.is c.in_ok-run-in-Terminals.ensures.script c.lines_of_terminals.ensures
+pub returns-in-Terminals : goal.returns-in-Terminals
+returns-in-Terminals g c = make_so c.args.job.now Terminals c.args.script c.lines_of_terminals.result c.in-Terminals.is c.lines_of_terminals.ensures
 
-pub returns-in_ok-steer-in-Steer : goal.returns-in_ok-steer-in-Steer
-returns-in_ok-steer-in-Steer g c = make_as c.args.job.now Steer _ c.args.script c.lines_of_steered.result c.in-Steer.is c.in_ok-steer-in-Steer.ensures.script c.lines_of_steered.ensures
+pub returns-in-Steer : goal.returns-in-Steer
+returns-in-Steer g c = make_so c.args.job.now Steer c.args.script c.lines_of_steered.result c.in-Steer.is c.lines_of_steered.ensures
 
-pub returns-in_ok-write_table-in-Table : goal.returns-in_ok-write_table-in-Table
-returns-in_ok-write_table-in-Table g c =
-    make_so c.args.job.now Table c.args.script c.without_run.result c.in-Table.is (
-      c.without_run.ensures.untold,
-      c.without_run.ensures.output ∙ c.in_ok-write_table-in-Table.ensures.bytes
-          ∙ ap (λ (entries : Map). written c.table.result.now.profile (symbols_in entries)) c.table.ensures.entries
-          ∙ ap (λ (profile : Profile). written profile (symbols_in c.args.script.table)) c.table.ensures.profile,
-    )
+pub returns-in-Table : goal.returns-in-Table
+returns-in-Table g c = make_so c.args.job.now Table c.args.script c.file_of_table.result c.in-Table.is c.file_of_table.ensures
 
-pub returns-in_ok-statement_lines-in-Print : goal.returns-in_ok-statement_lines-in-Print
-returns-in_ok-statement_lines-in-Print g c =
-    make_so c.args.job.now Print c.args.script c.without_run-in-Print.result c.in-Print.is
-    (c.without_run-in-Print.ensures.untold, c.without_run-in-Print.ensures.output ∙ c.in_ok-statement_lines-in-Print.ensures)
+pub returns-in-Print : goal.returns-in-Print
+returns-in-Print g c = make_so c.args.job.now Print c.args.script c.lines_of_statements.result c.in-Print.is c.lines_of_statements.ensures
 
-pub returns-in_ok-log-in-Generate : goal.returns-in_ok-log-in-Generate
-returns-in_ok-log-in-Generate g c = make_as c.args.job.now (Generate _) _ c.args.script c.counts_of_run.result c.in-Generate.is c.in_ok-log-in-Generate.ensures.script c.counts_of_run.ensures
+pub returns-in-Generate : goal.returns-in-Generate
+returns-in-Generate g c = make_so c.args.job.now (Generate _) c.args.script c.counts_of_run.result c.in-Generate.is c.counts_of_run.ensures

@@ -4,8 +4,8 @@ use Rattle.std.proofs.lemmas.Result.{IfErr-weaker}
 use Rattle.defmt_generate.specs.Generated.{generated}
 use Rattle.defmt_run.proofs.Deciding.{never_stops}
 use Rattle.defmt_run.specs.Running.{IsSpelled, Stops}
-use Rattle.defmt_run.specs.declared.outcome.Fault.{Fault}
-use Rattle.defmt_run.specs.declared.outcome.Fault.TheVariants.{Memory}
+use Rattle.defmt_recording.specs.declared.fault.Fault.{Fault}
+use Rattle.defmt_recording.specs.declared.fault.Fault.TheVariants.{Memory}
 use Rattle.defmt_script.specs.Script.{Script as Read}
 use Rattle.defmt_run.proofs.running.generated_script.Goals as goal
 

@@ -3,7 +3,7 @@ use Rattle.std.proofs.lemmas.Result.{IfErr-weaker, IfOk-weaker}
 use Rattle.defmt_listen.specs.Streams.{Input, input_of}
 use Rattle.defmt_run.proofs.Deciding.{withholds}
 use Rattle.defmt_run.specs.Running.{Gave, GaveWhole, IsSpelled, Stops, Withholds}
-use Rattle.defmt_run.specs.declared.outcome.Fault.{Fault}
+use Rattle.defmt_recording.specs.declared.fault.Fault.{Fault}
 use Rattle.defmt_script.specs.Reads.{Reads}
 use Rattle.defmt_script.specs.Script.{Script as Read}
 use Rattle.defmt_run.proofs.running.read_script.Goals as goal

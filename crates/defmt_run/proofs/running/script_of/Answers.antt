@@ -3,11 +3,12 @@ use Rattle.std.specs.Prelude.{◌≡◌, IfErr, IfOk}
 use Rattle.std.proofs.lemmas.Result.{IfOk-weaker, IfErr-weaker}
 use Rattle.defmt_generate.specs.Generated.{generated}
 use Rattle.defmt_listen.specs.Streams.{Input, input_of}
-use Rattle.defmt_run.proofs.Deciding.{from_source, keeps, not_from_source}
-use Rattle.defmt_run.specs.Calls.{IsUnread}
+use Rattle.defmt_run.proofs.Deciding.{from_source, not_from_source}
+use Rattle.defmt_recording.proofs.ToldInputs.{keeps}
+use Rattle.defmt_recording.specs.Calls.{IsUnread}
 use Rattle.defmt_run.specs.Running.{Comes, ComesNot, Gave, IsSpelled, Withholds}
-use Rattle.defmt_run.specs.declared.outcome.Fault.{Fault}
-use Rattle.defmt_run.specs.declared.outcome.Fault.TheVariants.{Memory}
+use Rattle.defmt_recording.specs.declared.fault.Fault.{Fault}
+use Rattle.defmt_recording.specs.declared.fault.Fault.TheVariants.{Memory}
 use Rattle.defmt_script.specs.Script.{Script as Read}
 use Rattle.defmt_words.specs.declared.job.ScriptJob.{ScriptJob}
 use Rattle.defmt_words.specs.declared.job.ScriptJob.TheVariants.{Generate}

@@ -1,10 +1,11 @@
 use Rattle.std.proofs.Common.{refl, subst, sym}
 use Rattle.defmt_listen.specs.Streams.{Input, Output, input_of, output_of}
-use Rattle.defmt_run.proofs.Deciding.{keeps, ran, ran_not}
-use Rattle.defmt_run.specs.Calls.{IsUnwritten}
+use Rattle.defmt_recording.proofs.ToldInputs.{keeps}
+use Rattle.defmt_run.proofs.Deciding.{ran, ran_not}
+use Rattle.defmt_recording.specs.Calls.{IsUnwritten}
 use Rattle.defmt_run.specs.Running.{Made, Runs}
 use Rattle.defmt_run.specs.Told.{Told, told}
-use Rattle.defmt_run.specs.declared.outcome.Fault.{Fault}
+use Rattle.defmt_recording.specs.declared.fault.Fault.{Fault}
 use Rattle.defmt_run.proofs.running.script_outcome.Goals as goal
 
 pub returns-in-Ok-clause-runs : goal.returns-in-Ok-clause-runs

@@ -5,7 +5,7 @@ use Rattle.defmt_lines.specs.Settings.{is_block}
 use Rattle.defmt_listen.specs.Streams.{Input, input_of}
 use Rattle.defmt_run.proofs.Deciding.{withholds_blocking}
 use Rattle.defmt_run.specs.Running.{GaveBlocking, GaveWhole, IsSpelled, StopsBlocking, WithholdsBlocking}
-use Rattle.defmt_run.specs.declared.outcome.Fault.{Fault}
+use Rattle.defmt_recording.specs.declared.fault.Fault.{Fault}
 use Rattle.defmt_script.specs.Reads.{Reads}
 use Rattle.defmt_script.specs.Script.{Script as Read}
 use Rattle.defmt_run.proofs.running.steered_script.Goals as goal

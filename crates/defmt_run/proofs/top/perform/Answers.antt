@@ -2,7 +2,7 @@ use Rattle.std.proofs.Common.{map, string_bytes, subst, sym, ◌∙◌}
 use Rattle.std.specs.Prelude.{Option}
 use Rattle.defmt_listen.specs.Streams.{input_of, output_of}
 use Rattle.defmt_run.proofs.Deciding.{wanting_all}
-use Rattle.defmt_run.specs.Calls.{files_of}
+use Rattle.defmt_recording.specs.Calls.{files_of}
 use Rattle.defmt_run.specs.Session.{Answers}
 use Rattle.defmt_run.specs.Told.{told}
 use Rattle.defmt_words.specs.Words.{job}

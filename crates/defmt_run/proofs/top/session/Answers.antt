@@ -2,7 +2,7 @@ use Rattle.std.proofs.Common.{map, string_bytes, ◌≡◌, sym, ◌∙◌, subs
 use Rattle.std.specs.Prelude.{◌⊎◌, ℕ, Option}
 use Rattle.defmt_listen.specs.Streams.{input_of, output_of}
 use Rattle.defmt_run.proofs.Deciding.{may_come, must_come, no_job, refused}
-use Rattle.defmt_run.specs.Calls.{files_of}
+use Rattle.defmt_recording.specs.Calls.{files_of}
 use Rattle.defmt_run.specs.Session.{Answers}
 use Rattle.defmt_run.specs.Told.{told}
 use Rattle.defmt_words.specs.Words.{job}

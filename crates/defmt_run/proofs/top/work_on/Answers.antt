@@ -1,12 +1,12 @@
 use Rattle.std.proofs.Common.{List, refl, subst, sym, ℕ}
 use Rattle.std.specs.Prelude.{Some}
 use Rattle.defmt_listen.specs.Streams.{Input, Output, input_of, output_of}
-use Rattle.defmt_run.specs.Calls.{Files, files_of}
-use Rattle.defmt_run.specs.Decoding.{Decodes}
-use Rattle.defmt_run.specs.Dumping.{Dumps}
+use Rattle.defmt_recording.specs.Calls.{Files, files_of}
+use Rattle.defmt_recording.specs.Decoding.{Decodes}
+use Rattle.defmt_recording.specs.Dumping.{Dumps}
 use Rattle.defmt_run.specs.Session.{Answers}
 use Rattle.defmt_run.specs.Told.{told}
-use Rattle.defmt_run.specs.declared.outcome.Fault.{Fault}
+use Rattle.defmt_recording.specs.declared.fault.Fault.{Fault}
 use Rattle.defmt_words.specs.declared.job.Job.{Job}
 use Rattle.defmt_run.proofs.top.work_on.Goals as goal
 

@@ -1,4 +1,0 @@
-use Rattle.defmt_run.proofs.decoding.fetch.Goals as goal
-
-pub returns-in-Ok-clause-refused : goal.returns-in-Ok-clause-refused
-returns-in-Ok-clause-refused g c = tt
