@@ -5,7 +5,7 @@ use defmt_run::Outcome;
 use std::alloc::Global;
 use std::fmt::Write;
 use std::test::Fail;
-use test_rows::{put_digits, put_str};
+use test_rows::{put, put_digits};
 
 // The status, and the lines or the counts.
 const LINES: &str = "\
@@ -55,13 +55,6 @@ bytes 67169
 defmtl gen 0
 =
 status 2 words";
-
-#[test]
-fn a_script_is_printed_writer_by_writer_and_a_generated_one_is_counted(
-    rt: HostRuntime,
-) -> Result<(), Fail> {
-    each_block(&rt, rt.alloc(), LINES, 4, &Kind::Lines)
-}
 
 // The lines that rules show, of a run and of one in groups. A println line and the reports don't depend on rules.
 const SHOWN: &str = "\
@@ -118,11 +111,6 @@ w 0 hi
 status 0 fine
 -- dropped writer 0 statement 3 need 4 room 3";
 
-#[test]
-fn lines_that_rules_do_not_show_are_left_out_and_nothing_else(rt: HostRuntime) -> Result<(), Fail> {
-    each_block(&rt, rt.alloc(), SHOWN, 4, &Kind::Lines)
-}
-
 // The status and the digits of the bytes.
 const RECORDINGS: &str = "\
 defmtl record
@@ -159,7 +147,7 @@ pub(crate) fn put_bytes(
     out: &mut String,
 ) -> Result<(), Fail> {
     put_status(alloc, outcome, out)?;
-    put_str(out, "\n")?;
+    put(out, "\n");
     put_digits(out, written)
 }
 
@@ -186,13 +174,16 @@ pub(crate) fn put_length(
     out: &mut String,
 ) -> Result<(), Fail> {
     put_status(alloc, outcome, out)?;
-    Ok(write!(out, ", {} bytes", written.len())?)
+    let _ = write!(out, ", {} bytes", written.len());
+    Ok(())
 }
 
 #[test]
-fn a_recording_is_the_bytes_that_were_sent_and_a_table_has_its_length(
+fn lines_that_are_shown_counts_recordings_and_tables_are_written(
     rt: HostRuntime,
 ) -> Result<(), Fail> {
+    each_block(&rt, rt.alloc(), LINES, 4, &Kind::Lines)?;
+    each_block(&rt, rt.alloc(), SHOWN, 4, &Kind::Lines)?;
     each_block(&rt, rt.alloc(), RECORDINGS, 3, &Kind::Digits)?;
     each_block(&rt, rt.alloc(), TABLES, 2, &Kind::Length)
 }

@@ -1,6 +1,6 @@
 // Recordings that are decoded. A row is the words and the digits of the recording, and the status and the lines.
 use crate::rows::{Kind, each_block};
-use crate::sessions::{Stage, Told, add_table, put_session, set_stage, written_of};
+use crate::sessions::{Stage, add_table, put_session, set_stage, written_of};
 use defmt_run::OpenGate;
 use dl_io::{Bytes, MemShelf};
 use std::alloc::Global;
@@ -139,7 +139,7 @@ pub(crate) fn put_recording<R: Threads + Wait + Sync>(
 ) -> Result<(), Fail> {
     set_stage(alloc, recording, b"", stage)?;
     add_files(rt, alloc, &mut stage.shelf)?;
-    put_session(rt, alloc, line, &Told::Lines, stage, &OpenGate, out)
+    put_session(rt, alloc, &Kind::Decoded, line, stage, &OpenGate, out)
 }
 
 /// Puts what is told of a decoding: its words and the digits of the recording.
@@ -230,7 +230,7 @@ fn put_by_changed<R: Threads + Wait + Sync>(
     let line = "defmtl decode --table changed.elf";
     set_stage(alloc, recording, b"", stage)?;
     add_changed(rt, alloc, change, script, &mut stage.shelf)?;
-    put_session(rt, alloc, line, &Told::Lines, stage, &OpenGate, out)
+    put_session(rt, alloc, &Kind::Changed, line, stage, &OpenGate, out)
 }
 
 /// Puts what is told of a decoding by a changed table: the byte's place, the byte and the digits of the recording, and the script.

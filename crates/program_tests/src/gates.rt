@@ -2,7 +2,7 @@
 // words and the script. Told are how many bytes the reader got, the status and the lines, how many statements the gate was asked for by the writers 0 and 1,
 // how many bytes it was told of at last, and how many of its calls came out of turn or waited in vain.
 use crate::rows::{Kind, each_block};
-use crate::sessions::{Stage, Told, put_session, set_stage};
+use crate::sessions::{Stage, put_session, set_stage};
 use defmt_run::Gate;
 use std::alloc::Global;
 use std::fmt::Write;
@@ -257,19 +257,19 @@ fn put_behind<R: Threads + Wait + Sync>(
     out: &mut String,
 ) -> Result<(), Fail> {
     set_stage(alloc, script.as_bytes(), b"", stage)?;
-    put_session(rt, alloc, line, &Told::Got, stage, gate, out)
+    put_session(rt, alloc, &Kind::Held, line, stage, gate, out)
 }
 
 // Puts what the gate counted.
-fn put_counted(gate: &Holding, out: &mut String) -> Result<(), Fail> {
+fn put_counted(gate: &Holding, out: &mut String) {
     let first = gate.first.load(Ordering::SeqCst);
     let second = gate.second.load(Ordering::SeqCst);
     let taken = gate.taken.load(Ordering::SeqCst);
     let stray = gate.stray.load(Ordering::SeqCst);
-    Ok(write!(
+    let _ = write!(
         out,
         "\n{first} and {second} asked, {taken} bytes told, {stray} out of turn"
-    )?)
+    );
 }
 
 /// Puts what is told behind a gate, and of it: the gate's numbers, the words and the script.
@@ -284,7 +284,8 @@ pub(crate) fn put_held<R: Threads + Wait + Sync>(
     let (numbers, line) = parted(head, '/');
     let gate = gate_of(numbers)?;
     put_behind(rt, alloc, line, script, &gate, stage, out)?;
-    put_counted(&gate, out)
+    put_counted(&gate, out);
+    Ok(())
 }
 
 #[test]

@@ -23,7 +23,11 @@ mod rows;
 #[cfg(test)]
 mod run;
 #[cfg(test)]
+mod scripts;
+#[cfg(test)]
 mod sessions;
+#[cfg(test)]
+mod shares;
 #[cfg(test)]
 mod steering;
 #[cfg(test)]

@@ -1,15 +1,15 @@
 // Calls of the outside that fail.
 use crate::decode::add_files;
 use crate::rows::{Kind, each_block};
-use crate::sessions::{Stage, outcome_of, put_lines, put_status, set_failing};
-use defmt_run::{OpenGate, Outcome};
-use dl_io::{Shelf, Sink, Source};
+use crate::sessions::{Stage, put_session, set_failing};
+use crate::shares::{put_share, put_whole};
+use defmt_run::OpenGate;
 use std::alloc::Global;
 use std::fmt::Write;
 use std::sync::Wait;
 use std::test::Fail;
 use std::thread::Threads;
-use test_rows::{parted, put_once};
+use test_rows::parted;
 
 // Calls that fail one after the other, until none does; of a sink without room for all, room for one byte more after the other. A row is who fails, the
 // words and what the source gives. Told are of the sessions with a fault what each comes to, how many marks there are and how much was written, each once;
@@ -200,63 +200,6 @@ status 4 sink, 0 marks, a front
 status 0 fine
 INFO  hello";
 
-// Whether no call of the outside failed.
-fn is_sound(stage: &Stage) -> bool {
-    stage.source.faults() == 0 && stage.shelf.faults() == 0 && stage.sink.faults() == 0
-}
-
-// How much of what is due was written.
-fn share_of(written: &[u8], due: &str) -> &'static str {
-    if written.is_empty() {
-        "nothing"
-    } else if due.as_bytes().starts_with(written) {
-        "a front"
-    } else {
-        "others"
-    }
-}
-
-// Puts what is told of a session with a fault, where without a fault this is told.
-fn put_share(
-    alloc: Global,
-    outcome: &Outcome,
-    written: &[u8],
-    whole: &str,
-    out: &mut String,
-) -> Result<(), Fail> {
-    put_status(alloc, outcome, out)?;
-    let (_, due) = parted(whole, '\n');
-    let (marks, share) = (outcome.tape.len(), share_of(written, due));
-    Ok(write!(out, ", {marks} marks, {share}")?)
-}
-
-fn put_turn_in<R: Threads + Wait + Sync>(
-    rt: &R,
-    alloc: Global,
-    line: &str,
-    stage: &mut Stage,
-    whole: &str,
-    out: &mut String,
-) -> Result<(), Fail> {
-    add_files(rt, alloc, &mut stage.shelf)?;
-    let outcome = outcome_of(
-        rt,
-        alloc,
-        line,
-        &mut stage.source,
-        &mut stage.shelf,
-        &mut stage.sink,
-        &OpenGate,
-    )?;
-    let sound = is_sound(stage);
-    let written = stage.sink.held();
-    if sound {
-        put_lines(alloc, &outcome, written, out)
-    } else {
-        put_share(alloc, &outcome, written, whole, out)
-    }
-}
-
 // Puts what a session tells in which this call of this name fails.
 fn put_turn<R: Threads + Wait + Sync>(
     rt: &R,
@@ -264,16 +207,16 @@ fn put_turn<R: Threads + Wait + Sync>(
     who: &str,
     call: u8,
     rest: &str,
-    whole: &str,
     stage: &mut Stage,
     out: &mut String,
 ) -> Result<(), Fail> {
     let (line, given) = parted(rest, '\n');
     set_failing(alloc, given.as_bytes(), b"\n", who, call, stage)?;
-    put_turn_in(rt, alloc, line, stage, whole, out)
+    add_files(rt, alloc, &mut stage.shelf)?;
+    put_session(rt, alloc, &Kind::Turns, line, stage, &OpenGate, out)
 }
 
-// Puts what the session with this failing call tells, unless it stands there already or is what the one without a fault tells, and answers whether it is that.
+// Puts what the session with this failing call tells, unless it is what the one without a fault tells, and answers whether it is that.
 fn put_call<R: Threads + Wait + Sync>(
     rt: &R,
     alloc: Global,
@@ -285,11 +228,11 @@ fn put_call<R: Threads + Wait + Sync>(
 ) -> Result<bool, Fail> {
     let (who, rest) = parted(row, ' ');
     let mut told = String::new(alloc);
-    put_turn(rt, alloc, who, call, rest, whole, stage, &mut told)?;
+    put_turn(rt, alloc, who, call, rest, stage, &mut told)?;
     if told.as_str() == whole {
         return Ok(true);
     }
-    put_once(told.as_str(), out)?;
+    put_share(alloc, told.as_str(), whole, out)?;
     Ok(false)
 }
 
@@ -304,7 +247,9 @@ fn put_calls<R: Threads + Wait + Sync>(
 ) -> Result<(), Fail> {
     for call in 0..=u8::MAX {
         if put_call(rt, alloc, row, call, whole, stage, out)? {
-            return Ok(write!(out, "{call} calls\n{whole}")?);
+            let _ = write!(out, "{call} calls\n");
+            put_whole(whole, out);
+            return Ok(());
         }
     }
     Err(Fail::new("each call fails"))
@@ -320,7 +265,7 @@ pub(crate) fn put_turns<R: Threads + Wait + Sync>(
 ) -> Result<(), Fail> {
     let (_, rest) = parted(row, ' ');
     let mut whole = String::new(alloc);
-    put_turn(rt, alloc, "nobody", 0, rest, "", stage, &mut whole)?;
+    put_turn(rt, alloc, "nobody", 0, rest, stage, &mut whole)?;
     put_calls(rt, alloc, row, whole.as_str(), stage, out)
 }
 

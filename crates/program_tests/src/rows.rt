@@ -4,34 +4,47 @@ use crate::device::put_device;
 use crate::dump::put_dumped;
 use crate::gates::put_held;
 use crate::limits::put_long;
-use crate::live::put_live;
 use crate::outside::put_turns;
-use crate::sessions::{Stage, Told, empty_stage, put_row};
-use crate::steering::put_ordered;
-use crate::terminals::put_talkers;
+use crate::scripts::{put_repeated_row, put_row};
+use crate::sessions::{Stage, empty_stage};
 use crate::words::put_words;
 use std::alloc::Global;
 use std::sync::Wait;
 use std::test::Fail;
 use std::thread::Threads;
 
-/// What is asked of an input, each as its module says.
+/// What is asked of an input, each as its module says, and what is told of a session beside its status.
 #[derive(Drop)]
 pub(crate) enum Kind {
+    /// The lines that a script's session writes.
     Lines,
+    /// The digits of what it writes.
     Digits,
-    Account,
+    /// How many bytes it writes.
     Length,
-    Decoded,
-    Changed,
-    Dumped,
-    Long,
-    Turns,
-    Held,
+    /// The marks, the rings and the events.
+    Account,
+    /// Whether the lines and reports are those that the tape asks for.
     Live,
+    /// How many lines of two writers stand in their order.
     Talkers,
+    /// How many turns there are, and how many lines of orders and of errors.
     Ordered,
+    /// The lines, writer by writer and without their stamps, of a printing and of a decoding.
     Device,
+    /// How many bytes the reader got, the lines, and what a gate counted.
+    Held,
+    /// What comes of each call of the outside that fails.
+    Turns,
+    /// The lines of a decoding.
+    Decoded,
+    /// Those by a table with another byte.
+    Changed,
+    /// The lines of the bytes of an image.
+    Dumped,
+    /// What comes of an input beyond its limit.
+    Long,
+    /// The job that words ask for.
     Job,
 }
 
@@ -44,21 +57,18 @@ fn put_answer_on<R: Threads + Wait + Sync>(
     out: &mut String,
 ) -> Result<(), Fail> {
     match kind {
-        Kind::Lines => put_row(rt, alloc, row, &Told::Lines, stage, out),
-        Kind::Digits => put_row(rt, alloc, row, &Told::Digits, stage, out),
-        Kind::Account => put_row(rt, alloc, row, &Told::Account, stage, out),
-        Kind::Length => put_row(rt, alloc, row, &Told::Length, stage, out),
+        Kind::Live | Kind::Talkers | Kind::Ordered => {
+            put_repeated_row(rt, alloc, kind, row, stage, out)
+        }
+        Kind::Device => put_device(rt, alloc, row, stage, out),
+        Kind::Held => put_held(rt, alloc, row, stage, out),
+        Kind::Turns => put_turns(rt, alloc, row, stage, out),
         Kind::Decoded => put_decoded(rt, alloc, row, stage, out),
         Kind::Changed => put_changed(rt, alloc, row, stage, out),
         Kind::Dumped => put_dumped(rt, alloc, row, stage, out),
         Kind::Long => put_long(rt, alloc, row, stage, out),
-        Kind::Turns => put_turns(rt, alloc, row, stage, out),
-        Kind::Held => put_held(rt, alloc, row, stage, out),
-        Kind::Live => put_live(rt, alloc, row, stage, out),
-        Kind::Talkers => put_talkers(rt, alloc, row, stage, out),
-        Kind::Ordered => put_ordered(rt, alloc, row, stage, out),
-        Kind::Device => put_device(rt, alloc, row, stage, out),
         Kind::Job => put_words(alloc, row, out),
+        _ => put_row(rt, alloc, kind, row, stage, out),
     }
 }
 
@@ -70,7 +80,7 @@ fn put_answer<R: Threads + Wait + Sync>(
     row: &str,
     out: &mut String,
 ) -> Result<(), Fail> {
-    let mut stage = empty_stage(alloc)?;
+    let mut stage = empty_stage(alloc);
     put_answer_on(rt, alloc, kind, row, &mut stage, out)
 }
 

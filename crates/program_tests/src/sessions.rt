@@ -1,6 +1,9 @@
 // Sessions over sources, shelves and sinks in memory.
 use crate::commands::{put_bytes, put_length};
+use crate::device::put_by_writer;
 use crate::live::put_verdict;
+use crate::rows::Kind;
+use crate::shares::put_marked;
 use crate::steering::put_heard;
 use crate::terminals::put_order;
 use crate::told::{put_account, put_got};
@@ -11,8 +14,7 @@ use std::fmt::Write;
 use std::sync::Wait;
 use std::test::Fail;
 use std::thread::Threads;
-pub(crate) use test_rows::words_of;
-use test_rows::{parted, put_str};
+use test_rows::{put, words_of};
 
 /// What a session reads, where its files stand, and what it writes into.
 #[derive(Drop)]
@@ -20,6 +22,15 @@ pub(crate) struct Stage {
     pub source: MemSource,
     pub shelf: MemShelf,
     pub sink: MemSink,
+}
+
+/// A stage without files, whose source gives nothing and whose sink has no room.
+pub(crate) fn empty_stage(alloc: Global) -> Stage {
+    Stage {
+        source: MemSource::new(Bytes::new(alloc), Bytes::new(alloc)),
+        shelf: MemShelf::new(alloc, Bytes::new(alloc)),
+        sink: MemSink::new(Bytes::new(alloc), Bytes::new(alloc)),
+    }
 }
 
 // The number of the call that fails, where it is this one of the three that fails.
@@ -56,16 +67,6 @@ fn sink_of(alloc: Global, who: &str, call: u8) -> Result<MemSink, Fail> {
     let mut held = Bytes::new(alloc);
     held.reserve(room_of(who, call))?;
     Ok(MemSink::new(held, fails_of(alloc, who, "sink", call)?))
-}
-
-/// A stage without files, whose source gives nothing.
-pub(crate) fn empty_stage(alloc: Global) -> Result<Stage, Fail> {
-    let sink = sink_of(alloc, "nobody", 0)?;
-    Ok(Stage {
-        source: MemSource::new(Bytes::new(alloc), Bytes::new(alloc)),
-        shelf: MemShelf::new(alloc, Bytes::new(alloc)),
-        sink,
-    })
 }
 
 /// Makes a stage one without files, whose source gives these bytes and those behind them. Of `source`, `shelf` and `sink` the one with this name fails at
@@ -111,25 +112,33 @@ pub(crate) fn outcome_of<S: Source, G: Gate + Sync, R: Threads + Wait + Sync>(
 /// Puts the status of an outcome and its words, as `status 0 fine`.
 pub(crate) fn put_status(alloc: Global, outcome: &Outcome, out: &mut String) -> Result<(), Fail> {
     let said = outcome.say(alloc)?;
-    Ok(write!(out, "status {} {}", outcome.status, said.as_str())?)
+    let _ = write!(out, "status {} {}", outcome.status, said.as_str());
+    Ok(())
 }
 
-fn put_text(lines: &str, out: &mut String) -> Result<(), Fail> {
-    match lines.strip_suffix("\n") {
-        Some(lines) => put_str(out, lines),
-        None => Ok(write!(out, "{lines} without a newline")?),
-    }
-}
-
-// Puts lines, which a newline ends.
-fn put_written(written: &[u8], out: &mut String) -> Result<(), Fail> {
-    if written.is_empty() {
-        return Ok(());
-    }
-    put_str(out, "\n")?;
+/// What was written, as text.
+pub(crate) fn text_of(written: &[u8]) -> &str {
     match str::from_utf8(written) {
-        Ok(lines) => put_text(lines, out),
-        Err(_) => put_str(out, "no text"),
+        Ok(text) => text,
+        Err(_) => "no text",
+    }
+}
+
+fn put_ended(lines: &str, out: &mut String) {
+    match lines.strip_suffix("\n") {
+        Some(lines) => put(out, lines),
+        None => {
+            put(out, lines);
+            put(out, " without a newline");
+        }
+    }
+}
+
+/// Puts lines, which a newline ends, each behind one.
+pub(crate) fn put_written(lines: &str, out: &mut String) {
+    if !lines.is_empty() {
+        put(out, "\n");
+        put_ended(lines, out);
     }
 }
 
@@ -141,55 +150,37 @@ pub(crate) fn put_lines(
     out: &mut String,
 ) -> Result<(), Fail> {
     put_status(alloc, outcome, out)?;
-    put_written(written, out)
-}
-
-/// What is told of a session beside its status.
-#[derive(Drop)]
-pub(crate) enum Told {
-    /// The lines that were written.
-    Lines,
-    /// The digits of what was written.
-    Digits,
-    /// How many bytes were written.
-    Length,
-    /// The marks, the ring and the events.
-    Account,
-    /// How many bytes the reader got, and the lines.
-    Got,
-    /// Whether the lines and reports are those that the tape asks for.
-    Tape,
-    /// How many lines of two writers stand in their order.
-    Order,
-    /// How many turns there are, and how many lines of orders and of errors.
-    Heard,
+    put_written(text_of(written), out);
+    Ok(())
 }
 
 fn put_told(
     alloc: Global,
-    told: &Told,
+    kind: &Kind,
     outcome: &Outcome,
     written: &[u8],
     out: &mut String,
 ) -> Result<(), Fail> {
-    match told {
-        Told::Lines => put_lines(alloc, outcome, written, out),
-        Told::Digits => put_bytes(alloc, outcome, written, out),
-        Told::Length => put_length(alloc, outcome, written, out),
-        Told::Account => put_account(alloc, outcome, out),
-        Told::Got => put_got(alloc, outcome, written, out),
-        Told::Tape => put_verdict(alloc, outcome, written, out),
-        Told::Order => put_order(alloc, outcome, written, out),
-        Told::Heard => put_heard(alloc, outcome, written, out),
+    match kind {
+        Kind::Digits => put_bytes(alloc, outcome, written, out),
+        Kind::Length => put_length(alloc, outcome, written, out),
+        Kind::Account => put_account(alloc, outcome, out),
+        Kind::Live => put_verdict(alloc, outcome, written, out),
+        Kind::Talkers => put_order(alloc, outcome, written, out),
+        Kind::Ordered => put_heard(alloc, outcome, written, out),
+        Kind::Device => put_by_writer(alloc, outcome, written, out),
+        Kind::Held => put_got(alloc, outcome, written, out),
+        Kind::Turns => put_marked(alloc, outcome, written, out),
+        _ => put_lines(alloc, outcome, written, out),
     }
 }
 
-/// Puts what is told of a session on the words of this line.
+/// Puts what rows of a kind tell of a session on the words of this line.
 pub(crate) fn put_session<G: Gate + Sync, R: Threads + Wait + Sync>(
     rt: &R,
     alloc: Global,
+    kind: &Kind,
     line: &str,
-    told: &Told,
     stage: &mut Stage,
     gate: &G,
     out: &mut String,
@@ -203,35 +194,22 @@ pub(crate) fn put_session<G: Gate + Sync, R: Threads + Wait + Sync>(
         &mut stage.sink,
         gate,
     )?;
-    put_told(alloc, told, &outcome, stage.sink.held(), out)
+    put_told(alloc, kind, &outcome, stage.sink.held(), out)
 }
 
-/// Puts what is told of a session on a script, behind whose last line a newline stands.
+/// Puts what rows of a kind tell of a session on a script, behind whose last line a newline stands.
 pub(crate) fn put_played<R: Threads + Wait + Sync>(
     rt: &R,
     alloc: Global,
+    kind: &Kind,
     line: &str,
-    told: &Told,
     script: &str,
     stage: &mut Stage,
     out: &mut String,
 ) -> Result<(), Fail> {
     let end = if script.is_empty() { "" } else { "\n" };
     set_stage(alloc, script.as_bytes(), end.as_bytes(), stage)?;
-    put_session(rt, alloc, line, told, stage, &OpenGate, out)
-}
-
-/// Puts what is told of the session of a row: its words and a script.
-pub(crate) fn put_row<R: Threads + Wait + Sync>(
-    rt: &R,
-    alloc: Global,
-    row: &str,
-    told: &Told,
-    stage: &mut Stage,
-    out: &mut String,
-) -> Result<(), Fail> {
-    let (line, script) = parted(row, '\n');
-    put_played(rt, alloc, line, told, script, stage, out)
+    put_session(rt, alloc, kind, line, stage, &OpenGate, out)
 }
 
 fn written_in<R: Threads + Wait + Sync>(
@@ -261,7 +239,7 @@ pub(crate) fn written_of<R: Threads + Wait + Sync>(
     line: &str,
     script: &str,
 ) -> Result<Bytes, Fail> {
-    let mut stage = empty_stage(alloc)?;
+    let mut stage = empty_stage(alloc);
     written_in(rt, alloc, line, script, &mut stage)
 }
 

@@ -1,13 +1,10 @@
 // Runs under orders. A row is the words and the script, and the status and the lines that are written.
 use crate::rows::{Kind, each_block};
-use crate::sessions::{Stage, Told, put_played, put_status};
+use crate::sessions::{put_status, text_of};
 use defmt_run::Outcome;
 use std::alloc::Global;
 use std::fmt::Write;
-use std::sync::Wait;
 use std::test::Fail;
-use std::thread::Threads;
-use test_rows::{number_of, put_str};
 
 // Orders that are heard at the first turn, and one that comes too late; lines that are muted, of which gaps tell; other commands.
 const STEERED: &str = "\
@@ -151,31 +148,96 @@ event 2 WARN  b";
 
 // Four writers that log so many statements each, every other an error, under 64 orders.
 const ORDERED: &str = "\
-100
+defmtl steer
+d 0 trace
+d 4 debug
+d 8 info
+d 12 warn
+d 16 error
+d 20 trace
+d 24 debug
+d 28 info
+d 32 warn
+d 36 error
+d 40 trace
+d 44 debug
+d 48 info
+d 52 warn
+d 56 error
+d 60 trace
+d 64 debug
+d 68 info
+d 72 warn
+d 76 error
+d 80 trace
+d 84 debug
+d 88 info
+d 92 warn
+d 96 error
+d 100 trace
+d 104 debug
+d 108 info
+d 112 warn
+d 116 error
+d 120 trace
+d 124 debug
+d 128 info
+d 132 warn
+d 136 error
+d 140 trace
+d 144 debug
+d 148 info
+d 152 warn
+d 156 error
+d 160 trace
+d 164 debug
+d 168 info
+d 172 warn
+d 176 error
+d 180 trace
+d 184 debug
+d 188 info
+d 192 warn
+d 196 error
+d 200 trace
+d 204 debug
+d 208 info
+d 212 warn
+d 216 error
+d 220 trace
+d 224 debug
+d 228 info
+d 232 warn
+d 236 error
+d 240 trace
+d 244 debug
+d 248 info
+d 252 warn
+s a defmt_trace a
+s e defmt_error e
+repeat 0 50
+w 0 a
+w 1 a
+w 2 a
+w 3 a
+w 0 e
+w 1 e
+w 2 e
+w 3 e
 =
 status 0 fine, 400 turns
 64 lines -- level
 200 lines ERROR e";
 
-const LEVELS: [&str; 5] = ["trace", "debug", "info", "warn", "error"];
-
 // Puts how many lines begin so.
-fn put_count(lines: &str, front: &str, out: &mut String) -> Result<(), Fail> {
+fn put_count(lines: &str, front: &str, out: &mut String) {
     let mut count = 0u64;
     for line in lines.split("\n") {
         if line.starts_with(front) {
             count = count.saturating_add(1);
         }
     }
-    Ok(write!(out, "\n{count} lines {front}")?)
-}
-
-fn put_counts(written: &[u8], out: &mut String) -> Result<(), Fail> {
-    let Ok(lines) = str::from_utf8(written) else {
-        return put_str(out, "no text");
-    };
-    put_count(lines, "-- level", out)?;
-    put_count(lines, "ERROR e", out)
+    let _ = write!(out, "\n{count} lines {front}");
 }
 
 /// Puts how many turns there are, and how many lines are of orders and how many of errors.
@@ -186,48 +248,10 @@ pub(crate) fn put_heard(
     out: &mut String,
 ) -> Result<(), Fail> {
     put_status(alloc, outcome, out)?;
-    write!(out, ", {} turns", outcome.turns.len())?;
-    put_counts(written, out)
-}
-
-// Adds 64 orders, of which each comes some frames behind the one before.
-fn add_orders(text: &mut String) -> Result<(), Fail> {
-    for order in 0..64u32 {
-        let level = LEVELS[(order % 5) as usize];
-        write!(text, "d {} {level}\n", order * 4)?;
-    }
+    let _ = write!(out, ", {} turns", outcome.turns.len());
+    put_count(text_of(written), "-- level", out);
+    put_count(text_of(written), "ERROR e", out);
     Ok(())
-}
-
-fn add_script(count: &str, text: &mut String) -> Result<(), Fail> {
-    add_orders(text)?;
-    put_str(text, "s a defmt_trace a\ns e defmt_error e")?;
-    for place in 0..number_of(count)? {
-        let name = if place % 2 == 0 { "a" } else { "e" };
-        write!(text, "\nw 0 {name}\nw 1 {name}\nw 2 {name}\nw 3 {name}")?;
-    }
-    Ok(())
-}
-
-/// Puts what came of four writers under many orders: the row is how many statements each has.
-pub(crate) fn put_ordered<R: Threads + Wait + Sync>(
-    rt: &R,
-    alloc: Global,
-    row: &str,
-    stage: &mut Stage,
-    out: &mut String,
-) -> Result<(), Fail> {
-    let mut script = String::new(alloc);
-    add_script(row, &mut script)?;
-    put_played(
-        rt,
-        alloc,
-        "defmtl steer",
-        &Told::Heard,
-        script.as_str(),
-        stage,
-        out,
-    )
 }
 
 #[test]

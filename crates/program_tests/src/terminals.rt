@@ -1,13 +1,10 @@
 // Texts for terminals beside the log. A row is the words and the script, and the status and the lines that are written.
 use crate::rows::{Kind, each_block};
-use crate::sessions::{Stage, Told, put_played, put_status};
+use crate::sessions::{put_status, text_of};
 use defmt_run::Outcome;
 use std::alloc::Global;
 use std::fmt::Write;
-use std::sync::Wait;
 use std::test::Fail;
-use std::thread::Threads;
-use test_rows::{number_of, put_str};
 
 const TERMINALS: &str = "\
 defmtl term
@@ -108,30 +105,35 @@ event 1 INFO  hello";
 
 // Two writers that log and say so many texts each on one terminal, over rings that have no room for all.
 const TALKERS: &str = "\
-100
+defmtl term
+ring 16
+s hi defmt_info hello
+repeat 0 100
+w 0 hi
+t 0 3 0 %
+w 1 hi
+t 1 3 1 %
 =
 status 0 fine, 200 marks, 200 words
 writer 0 said 100 in order
 writer 1 said 100 in order";
 
+// Whether a line names a writer and a place.
+fn is_of(alloc: Global, line: &str, writer: u8, place: u64) -> bool {
+    let mut due = String::new(alloc);
+    let _ = write!(due, "{writer} {place}");
+    line == due.as_str()
+}
+
 // Puts how many lines there are that name a writer and the places from 0 on, one after the other.
-fn put_writer(alloc: Global, lines: &str, writer: u8, out: &mut String) -> Result<(), Fail> {
+fn put_writer(alloc: Global, lines: &str, writer: u8, out: &mut String) {
     let mut place = 0u64;
     for line in lines.split("\n") {
-        let due = format!(in alloc; "{writer} {place}")?;
-        if line == due.as_str() {
+        if is_of(alloc, line, writer, place) {
             place = place.saturating_add(1);
         }
     }
-    Ok(write!(out, "\nwriter {writer} said {place} in order")?)
-}
-
-fn put_writers(alloc: Global, written: &[u8], out: &mut String) -> Result<(), Fail> {
-    let Ok(lines) = str::from_utf8(written) else {
-        return put_str(out, "no text");
-    };
-    put_writer(alloc, lines, 0, out)?;
-    put_writer(alloc, lines, 1, out)
+    let _ = write!(out, "\nwriter {writer} said {place} in order");
 }
 
 /// Puts how many marks and words there are, and how many lines of the writers 0 and 1 stand in their order.
@@ -143,37 +145,10 @@ pub(crate) fn put_order(
 ) -> Result<(), Fail> {
     put_status(alloc, outcome, out)?;
     let (marks, words) = (outcome.tape.len(), outcome.said.len());
-    write!(out, ", {marks} marks, {words} words")?;
-    put_writers(alloc, written, out)
-}
-
-fn add_script(count: &str, text: &mut String) -> Result<(), Fail> {
-    put_str(text, "ring 16\ns hi defmt_info hello")?;
-    for place in 0..number_of(count)? {
-        write!(text, "\nw 0 hi\nt 0 3 0 {place}\nw 1 hi\nt 1 3 1 {place}")?;
-    }
+    let _ = write!(out, ", {marks} marks, {words} words");
+    put_writer(alloc, text_of(written), 0, out);
+    put_writer(alloc, text_of(written), 1, out);
     Ok(())
-}
-
-/// Puts what came of two writers: the row is how many statements and texts each has.
-pub(crate) fn put_talkers<R: Threads + Wait + Sync>(
-    rt: &R,
-    alloc: Global,
-    row: &str,
-    stage: &mut Stage,
-    out: &mut String,
-) -> Result<(), Fail> {
-    let mut script = String::new(alloc);
-    add_script(row, &mut script)?;
-    put_played(
-        rt,
-        alloc,
-        "defmtl term",
-        &Told::Order,
-        script.as_str(),
-        stage,
-        out,
-    )
 }
 
 #[test]

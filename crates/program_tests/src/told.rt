@@ -5,7 +5,7 @@ use defmt_run::{Event, Outcome, RingKind, Settled};
 use std::alloc::Global;
 use std::fmt::Write;
 use std::test::Fail;
-use test_rows::put_str;
+use test_rows::put;
 
 const ACCOUNTS: &str = "\
 defmtl run
@@ -35,77 +35,73 @@ word ring, 9 bytes sent
 event 1 at 0 INFO  hello
 event 1 at 1 INFO  hello";
 
-fn put_marks(outcome: &Outcome, out: &mut String) -> Result<(), Fail> {
+fn put_marks(outcome: &Outcome, out: &mut String) {
     let marks = outcome.tape.len();
-    write!(out, "\n{marks} marks")?;
+    let _ = write!(out, "\n{marks} marks");
     if marks > 0 && outcome.looks >= marks as u64 {
-        put_str(out, ", at least as many looks")?;
+        put(out, ", at least as many looks");
     }
-    Ok(())
 }
 
-fn put_settled(settled: &Settled, done: &str, out: &mut String) -> Result<(), Fail> {
+fn put_settled(settled: &Settled, done: &str, out: &mut String) {
     let kind = match settled.ring() {
         RingKind::Word => "word",
         RingKind::Queue => "queue",
         RingKind::Plain => "plain",
     };
     let sent = settled.sent_len();
-    Ok(write!(out, "\n{kind} ring, {sent} bytes {done}")?)
+    let _ = write!(out, "\n{kind} ring, {sent} bytes {done}");
 }
 
-fn put_ring(outcome: &Outcome, out: &mut String) -> Result<(), Fail> {
+fn put_ring(outcome: &Outcome, out: &mut String) {
     match &outcome.settled {
         Some(settled) => put_settled(settled, "sent", out),
-        None => put_str(out, "\nno ring"),
+        None => put(out, "\nno ring"),
     }
 }
 
-fn put_place(place: Option<u16>, out: &mut String) -> Result<(), Fail> {
-    match place {
-        Some(place) => Ok(write!(out, "at {place} ")?),
-        None => Ok(()),
+fn put_place(place: Option<u16>, out: &mut String) {
+    if let Some(place) = place {
+        let _ = write!(out, "at {place} ");
     }
 }
 
 // What was said on terminals, nothing where there is no account of their ring.
-fn put_terminals(outcome: &Outcome, out: &mut String) -> Result<(), Fail> {
+fn put_terminals(outcome: &Outcome, out: &mut String) {
     if let Some(term) = &outcome.term {
-        put_settled(term, "spoken", out)?;
-        write!(out, ", {} words", outcome.said.len())?;
+        put_settled(term, "spoken", out);
+        let _ = write!(out, ", {} words", outcome.said.len());
     }
-    Ok(())
 }
 
 // What was sent down, nothing where there is no account of its ring.
-fn put_orders(outcome: &Outcome, out: &mut String) -> Result<(), Fail> {
+fn put_orders(outcome: &Outcome, out: &mut String) {
     if let Some(orders) = &outcome.orders {
-        put_settled(orders, "ordered", out)?;
-        write!(out, ", {} turns", outcome.turns.len())?;
+        put_settled(orders, "ordered", out);
+        let _ = write!(out, ", {} turns", outcome.turns.len());
     }
-    Ok(())
 }
 
-fn put_event(event: &Event, out: &mut String) -> Result<(), Fail> {
+fn put_event(event: &Event, out: &mut String) {
     match event {
         Event::Line { index, place, text } => {
-            write!(out, "\nevent {index} ")?;
-            put_place(*place, out)?;
-            put_str(out, text.as_str())
+            let _ = write!(out, "\nevent {index} ");
+            put_place(*place, out);
+            put(out, text.as_str());
         }
-        _ => put_str(out, "\nanother event"),
+        _ => put(out, "\nanother event"),
     }
 }
 
 /// Puts the status of an outcome, its marks, its ring, what was said on terminals and sent down, and its events.
 pub(crate) fn put_account(alloc: Global, outcome: &Outcome, out: &mut String) -> Result<(), Fail> {
     put_status(alloc, outcome, out)?;
-    put_marks(outcome, out)?;
-    put_ring(outcome, out)?;
-    put_terminals(outcome, out)?;
-    put_orders(outcome, out)?;
+    put_marks(outcome, out);
+    put_ring(outcome, out);
+    put_terminals(outcome, out);
+    put_orders(outcome, out);
     for event in outcome.events.as_slice() {
-        put_event(event, out)?;
+        put_event(event, out);
     }
     Ok(())
 }
@@ -121,7 +117,7 @@ pub(crate) fn put_got(
         Some(settled) => settled.got_len(),
         None => 0,
     };
-    write!(out, "{got} bytes got, ")?;
+    let _ = write!(out, "{got} bytes got, ");
     put_lines(alloc, outcome, written, out)
 }
 

@@ -1,11 +1,10 @@
 // What words ask for. A row is the words, which single spaces part, and the job.
 use crate::rows::{Kind, each_line};
-use crate::sessions::words_of;
 use defmt_words::{DumpOptions, Job, RunOptions, ScriptJob, job_of};
 use std::alloc::Global;
 use std::fmt::Write;
 use std::test::Fail;
-use test_rows::put_str;
+use test_rows::{put, words_of};
 
 const JOBS: &str = "\
 defmtl run = run
@@ -68,53 +67,58 @@ defmtl print --only warn = nothing
 defmtl record --only warn = nothing
 defmtl gen 4 --only warn = nothing";
 
-fn put_rules(by_rules: bool, out: &mut String) -> Result<(), Fail> {
+fn put_rules(by_rules: bool, out: &mut String) {
     if by_rules {
-        put_str(out, " by rules")?;
+        put(out, " by rules");
     }
-    Ok(())
 }
 
-fn put_run(options: &RunOptions, out: &mut String) -> Result<(), Fail> {
-    put_str(out, "run")?;
-    if options.group {
-        put_str(out, " in groups")?;
+fn put_run(options: &RunOptions, out: &mut String) {
+    put(
+        out,
+        if options.group {
+            "run in groups"
+        } else {
+            "run"
+        },
+    );
+    put_rules(options.only.is_some(), out);
+}
+
+fn put_script_job(job: &ScriptJob, out: &mut String) {
+    match job {
+        ScriptJob::Run(options) => put_run(options, out),
+        ScriptJob::Record => put(out, "record"),
+        ScriptJob::Terminals => put(out, "term"),
+        ScriptJob::Steer => put(out, "steer"),
+        ScriptJob::Table => put(out, "table"),
+        ScriptJob::Print => put(out, "print"),
+        ScriptJob::Generate(count) => {
+            let _ = write!(out, "generate {}", count.number());
+        }
     }
-    put_rules(options.only.is_some(), out)
 }
 
-fn put_script_job(job: &ScriptJob, out: &mut String) -> Result<(), Fail> {
-    let word = match job {
-        ScriptJob::Run(options) => return put_run(options, out),
-        ScriptJob::Record => "record",
-        ScriptJob::Terminals => "term",
-        ScriptJob::Steer => "steer",
-        ScriptJob::Table => "table",
-        ScriptJob::Print => "print",
-        ScriptJob::Generate(count) => return Ok(write!(out, "generate {}", count.number())?),
-    };
-    put_str(out, word)
-}
-
-fn put_dump(table: &str, options: &DumpOptions, out: &mut String) -> Result<(), Fail> {
+fn put_dump(table: &str, options: &DumpOptions, out: &mut String) {
     let what = if options.old {
         "all of"
     } else {
         "what waits in"
     };
-    Ok(write!(
+    let _ = write!(
         out,
         "{what} {} from {:x} by {table}",
         options.up, options.base
-    )?)
+    );
 }
 
-fn put_job(job: &Option<Job>, out: &mut String) -> Result<(), Fail> {
+fn put_job(job: &Option<Job>, out: &mut String) {
     match job {
         Some(Job::Script(job)) => put_script_job(job, out),
         Some(Job::Decode { table, only }) => {
-            write!(out, "decode by {}", table.as_str())?;
-            put_rules(only.is_some(), out)
+            put(out, "decode by ");
+            put(out, table.as_str());
+            put_rules(only.is_some(), out);
         }
         Some(
             Job::Dump {
@@ -123,23 +127,24 @@ fn put_job(job: &Option<Job>, out: &mut String) -> Result<(), Fail> {
                 only,
             },
         ) => {
-            put_dump(table.as_str(), options, out)?;
-            put_rules(only.is_some(), out)
+            put_dump(table.as_str(), options, out);
+            put_rules(only.is_some(), out);
         }
-        None => put_str(out, "nothing"),
+        None => put(out, "nothing"),
     }
 }
 
-fn put_asked(alloc: Global, words: &[String], out: &mut String) -> Result<(), Fail> {
+fn put_asked(alloc: Global, words: &[String], out: &mut String) {
     match job_of(alloc, words) {
         Ok(job) => put_job(&job, out),
-        Err(_) => put_str(out, "memory"),
+        Err(_) => put(out, "memory"),
     }
 }
 
 pub(crate) fn put_words(alloc: Global, row: &str, out: &mut String) -> Result<(), Fail> {
     let words = words_of(alloc, row)?;
-    put_asked(alloc, &words, out)
+    put_asked(alloc, &words, out);
+    Ok(())
 }
 
 #[test]

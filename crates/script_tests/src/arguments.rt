@@ -34,7 +34,20 @@ const KINDS: &str = r#"{=u8} <255> = <255>
 {=[u8]} <#00Ff> = <#00ff>
 {=0..8} <0xff> = <255>
 {=[?]} <[]> = <[]>
-{=[?]} <z[()  ()]> = <z[() ()]>"#;
+{=[?]} <z[()  ()]> = <z[() ()]>
+{=u64} <18446744073709551615> = <18446744073709551615>
+{=u64} <18446744073709551616> = cause 4
+{=u128} <18446744073709551616> = <18446744073709551616>
+{=u16} <007 > = <7>
+{=i64} <-9223372036854775808> = <-9223372036854775808>
+{=i16} <-> = cause 1
+{=bool} <falsey> = cause 1
+{=str} <"port7"> = <"port7">
+{=str} <"a"b> = cause 1
+{=str} <"ä\\ö"> = <"ä\\ö">
+{=[u8]} <#> = <#>
+{=[u8]} <#0g> = cause 1
+{=[u8]} <"a"> = cause 3"#;
 
 // The strings of a script, texts of arguments of the first, and how they are written or why they aren't read.
 const BY_SCRIPTS: &str = "\
@@ -228,7 +241,7 @@ pub fn put_written_of_kind(alloc: Global, row: &str, out: &mut String) -> Result
 
 #[test]
 fn each_kind_has_its_spelling_and_its_causes(rt: HostRuntime) -> Result<(), Fail> {
-    each_line(rt.alloc(), KINDS, 24, &Kind::WrittenOfKind)
+    each_line(rt.alloc(), KINDS, 37, &Kind::WrittenOfKind)
 }
 
 #[test]
