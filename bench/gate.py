@@ -6,7 +6,7 @@
     bench/gate.py [--into FILE] [--edits] --watch PID                watches an `rt ci` of this checkout that runs already
 
 The table goes to FILE, or else behind what the command writes, and with --edits the seconds of each edit behind it. --docs puts the table into
-docs/PROOFS.md where the command passed. With --docs or --reference it runs `rt selftest` before and behind the command and tells its processor
+docs/PROOFS.md where the command passed, and draws docs/gate.svg anew. With --docs or --reference it runs `rt selftest` before and behind the command and tells its processor
 seconds: the same work wherever the kit is, so two runs on machines with other work can be compared.
 
 It looks at the processes of the run twice a second, and takes each for what its words say. What a process used behind the last look at it is
@@ -329,6 +329,7 @@ def main():
         print(text + more, end="")
     if asked.docs and not status:
         put_into_docs(text, "gate")
+        subprocess.run([sys.executable, f"{TOP}/docs/pictures.py", "gate"], check=True)
     return status if status >= 0 else 128 - status
 
 

@@ -1,7 +1,7 @@
 #!/bin/bash
 # Runs the examples of the documents and compares what they print with what the documents say.
 #
-#   tests/guide.sh PROGRAM [DOCUMENT..]     without documents: README.md and those of docs/ that have examples
+#   tests/guide.sh PROGRAM [DOCUMENT..]     without documents: README.md and USER-GUIDE, SCRIPT, FORMATS and EXPLAIN of docs/
 #
 # In a document a block that begins with '```text file=NAME' is a file of that name, and a block that begins with
 # '```console' is a piece of a session: a line '$ COMMAND' is a command for bash, and the lines up to the next command are
@@ -13,7 +13,7 @@
 program=$(realpath "$1") && [ -x "$program" ] || { echo "there is no program $1"; exit 2; }
 shift
 top=$(realpath "$(dirname "$0")/..") || exit 2
-[ $# -ge 1 ] || set -- "$top/README.md" "$top/docs/USER-GUIDE.md" "$top/docs/SCRIPT.md"
+[ $# -ge 1 ] || set -- "$top/README.md" "$top"/docs/{USER-GUIDE,SCRIPT,FORMATS,EXPLAIN}.md
 work=$(mktemp -d) || exit 2
 trap 'rm -rf "$work"' EXIT
 passed=0 failed=0
