@@ -1,5 +1,5 @@
 -- One part of a message behind another.
-use Rattle.std.proofs.Common.{◌≡◌, ◌≤◌, ℕ, List, [], ◌++◌, length, drop, refl, sym, ap, ◌∙◌, append_assoc}
+use Rattle.std.proofs.Common.{◌≤◌, ℕ, List, [], ◌++◌, length, drop, refl, sym, ap, ◌∙◌, append_assoc}
 use Rattle.defmt_plan.specs.Carried.{Carried}
 
 pub carried_two : (xs : List ℕ) (at mid end : ℕ) (a b : List ℕ) → Carried xs at mid a → Carried xs mid end b → Carried xs at end (a ++ b)

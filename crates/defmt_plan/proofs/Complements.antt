@@ -1,6 +1,6 @@
 -- Signed numbers by their two's complements.
-use Rattle.std.proofs.Common.{◌≡◌, ◌<◌, ◌≤◌, ◌+◌, ◌-◌, ◌*◌, ◌^◌, ℕ, suc, ℤ, pos, negsuc, ◌-ℤ◌, Bool, true, false, nat_lt, List, [], refl, sym, ap, subst, ◌∙◌, arith}
-use Rattle.std.proofs.lemmas.Bool.{ltb-true, ltb-false, lt-ltb}
+use Rattle.std.proofs.Common.{◌≡◌, ◌<◌, ◌≤◌, ◌-◌, ◌*◌, ◌^◌, ℕ, suc, ℤ, pos, negsuc, ◌-ℤ◌, Bool, true, false, nat_lt, [], refl, sym, ap, subst, ◌∙◌, arith}
+use Rattle.std.proofs.lemmas.Bool.{lt-ltb}
 use Rattle.std.proofs.lemmas.Int.{ints}
 use Rattle.std.proofs.Math.Nat.{pow-succ'}
 use Rattle.std.specs.Int.{w128, cast_unsigned}
@@ -13,7 +13,7 @@ use Rattle.defmt_grammar.specs.declared.kind.IntSize.{IntSize}
 use Rattle.defmt_grammar.specs.declared.kind.IntSize.TheVariants.{W8, W16, W32, W64, W128, Native}
 use Rattle.defmt_grammar.specs.declared.kind.Kind.TheVariants as kinds
 use Rattle.defmt_hints.specs.Printed.{printed_int, radix_text, twos_complement as printed_complement}
-use Rattle.defmt_encode.proofs.Signed.{IsTwos, twos, same_power}
+use Rattle.defmt_encode.proofs.Signed.{twos, same_power}
 use Rattle.defmt_encode.specs.Carry.{size_bytes}
 use Rattle.defmt_eager.specs.Show.{int_text}
 use Rattle.defmt_put.specs.Signed.{signed_by, printed_by}

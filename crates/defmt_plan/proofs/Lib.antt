@@ -1,6 +1,7 @@
 pub mod Along
 pub mod Carrying
 pub mod Complements
+pub mod Fronting
 pub mod Onward
 pub mod Places
 pub mod Planning

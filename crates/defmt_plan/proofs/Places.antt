@@ -1,5 +1,5 @@
 -- Numbers and texts in bytes behind a place.
-use Rattle.std.proofs.Common.{◌≡◌, ◌<◌, ◌≤◌, ◌+◌, ◌-◌, ◌^◌, ℕ, suc, List, [], ◌∷◌, ◌++◌, length, take, drop, length-drop, Ok, refl, sym, ap, subst, ◌∙◌, arith, Fits, w8, slice_index_or}
+use Rattle.std.proofs.Common.{◌≡◌, ◌≤◌, ◌+◌, ◌-◌, ℕ, suc, List, [], ◌∷◌, ◌++◌, length, take, drop, length-drop, Ok, refl, sym, ap, subst, ◌∙◌, arith, Fits, w8, slice_index_or}
 use Rattle.std.proofs.lemmas.Bool.{le-leb}
 use Rattle.std.proofs.lemmas.List.{take-append-drop, take_all, drop-drop, length-take-le}
 use Rattle.byteorder.specs.Endian.{little_bytes, little_number}

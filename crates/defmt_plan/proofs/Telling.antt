@@ -1,7 +1,6 @@
 -- Whole messages.
-use Rattle.std.proofs.Common.{◌≡◌, ◌<◌, ◌≤◌, ◌+◌, ◌-◌, ◌^◌, inl, inr, ℕ, Bool, true, List, [], ◌∷◌, ◌++◌, length, take, drop, codes, refl, sym, ap, subst, ◌∙◌, arith, append_assoc, length-append, length-drop, Option, Some, None}
+use Rattle.std.proofs.Common.{◌≡◌, ◌≤◌, ◌+◌, ◌-◌, inl, inr, ℕ, true, List, ◌++◌, length, take, drop, refl, sym, ap, subst, ◌∙◌, arith, append_assoc, length-drop, Option, Some, None}
 use Rattle.std.proofs.lemmas.List.{take_all}
-use Rattle.std.specs.Option.{option_and_then}
 use Rattle.byteorder.specs.Endian.{little_bytes}
 use Rattle.defmt_grammar.specs.Slots.{slots_of}
 use Rattle.defmt_grammar.specs.declared.hint.Hint.TheVariants as hints
@@ -13,7 +12,7 @@ use Rattle.defmt_intern.specs.Stamp.{stamp_of}
 use Rattle.defmt_intern.specs.Table.{Map}
 use Rattle.defmt_intern.specs.declared.entry.Entry.{Entry}
 use Rattle.defmt_intern.specs.declared.parsed.Parsed.TheVariants.{One}
-use Rattle.defmt_values.specs.Entries.{look, is_logged}
+use Rattle.defmt_values.specs.Entries.{look}
 use Rattle.defmt_values.specs.Fits.{Fits, FitsStamp}
 use Rattle.defmt_values.specs.Plain.{Vals, no_vals}
 use Rattle.defmt_values.specs.Sound.{AreSound}
@@ -21,16 +20,17 @@ use Rattle.defmt_encode.specs.Carry.{bytes_vals, own_slots, stamp_slots}
 use Rattle.defmt_encode.specs.Lengths.{LengthsFit}
 use Rattle.defmt_encode.specs.Placed.{place_bytes}
 use Rattle.defmt_encode.specs.Read.{all_zero}
-use Rattle.defmt_eager.specs.Line.{eager_line, stamp_text, stamp_space, level_at, level_text, front_text, IsWide}
+use Rattle.defmt_eager.specs.Line.{stamp_text, level_at, level_text, front_text, IsWide}
 use Rattle.defmt_eager.specs.Show.{eager_text, own_pieces, pieces_text, shows}
 use Rattle.defmt_plan.proofs.Carrying.{carried_two, carried_none}
-use Rattle.defmt_put.proofs.Chains.{written_two, written_none, written_end, kept_written, kept_two}
+use Rattle.defmt_put.proofs.Chains.{written_none, written_end}
+use Rattle.defmt_plan.proofs.Fronting.{fronted, line_written}
 use Rattle.defmt_plan.specs.Carried.{Carried}
 use Rattle.defmt_plan.specs.Passed.{Passed, Passes}
 use Rattle.defmt_plan.specs.Plans.{AreStepsOf, IsPlanIn, AreStampSteps}
 use Rattle.defmt_plan.specs.Steps.{pieces_of}
-use Rattle.defmt_plan.specs.Told.{IsHead, StampPassed, StampPasses, IsTold}
-use Rattle.defmt_put.specs.Written.{Kept, Written}
+use Rattle.defmt_plan.specs.Told.{Fronts, IsHead, StampPassed, StampPasses, IsTold}
+use Rattle.defmt_put.specs.Written.{Written}
 use Rattle.defmt_plan.specs.declared.leaves.Progress.{Progress}
 use Rattle.defmt_plan.specs.declared.message.Head.{Head}
 use Rattle.defmt_plan.specs.declared.plan.Plan.{Plan}
@@ -93,36 +93,32 @@ stamp_steps (Some after) t steps bytes from old at new s k =
 
 -- ---- a message
 
-level_is : (t : Map) (index : ℕ) (e : Entry) (level : List ℕ) → look t index ≡ Some e → level_text e.tag ≡ Some level → level_at t index ≡ Some level
-level_is t index e level there is = rw there is
-
 narrow_by : (t : Map) (stamp : Vals) (index : ℕ) (vs : Vals) → length (stamp_text t (stamp_of t) stamp) ≤ 65536 → length (eager_text t index vs) ≤ 65536 → IsWide t stamp index vs → ⊥
 narrow_by t stamp index vs h k (inl long) = omega (arith, h, long)
 narrow_by t stamp index vs h k (inr long) = omega (arith, k, long)
 
-told_at : (t : Catalog) (plan : Plan) (head : Head) (bytes padding : List ℕ) (middle to : ℕ) (old mid fronted new : List ℕ) (at m k end : ℕ) → at ≤ length old → length old ≤ 65536
-    → plan.index ≡ head.index → IsPlanIn t.entries plan → IsHead t.profile bytes head → StampPassed t.entries bytes head.read middle old at mid m → Written mid m fronted k plan.front
-    → OwnPassed t.entries plan.index bytes middle to fronted k new end
+level_is : (t : Map) (index : ℕ) (e : Entry) → look t index ≡ Some e → level_at t index ≡ level_text e.tag
+level_is t index e there = rw there refl
+
+told_at : (t : Catalog) (plan : Plan) (head : Head) (bytes padding : List ℕ) (middle to : ℕ) (old mid begun new : List ℕ) (at m k end : ℕ) → at ≤ length old → length old ≤ 65536
+    → plan.index ≡ head.index → IsPlanIn t.entries plan → IsHead t.profile bytes head → StampPassed t.entries bytes head.read middle old at mid m → Fronts plan.front (Some k) mid m at begun
+    → OwnPassed t.entries plan.index bytes middle to begun k new end
     → padding ≡ take (length bytes - to) (drop to bytes) → (length padding ≤ 6) × (all_zero padding ≡ true) → IsTold t bytes head.place plan.index old at new end
-told_at t plan head bytes padding middle to old mid fronted new at m k end le room same is h s f o pad p =
+told_at t plan head bytes padding middle to old mid begun new at m k end le room same is h s f o pad p =
     let es : Map = t.entries in
     let index : List ℕ = little_bytes 2 plan.index in
     let place : List ℕ = place_bytes head.place in
     let first : List ℕ = bytes_vals es (stamp_slots es (stamp_of es)) s.stamp in
     let body : List ℕ = bytes_vals es (own_slots es plan.index) o.args in
-    let begun : Carried bytes 0 head.read (index ++ place) = subst (λ (i : ℕ). Carried bytes 0 head.read (little_bytes 2 i ++ place_bytes head.place)) (sym same) h.carried in
-    let all : Carried bytes 0 to (((index ++ place) ++ first) ++ body) = carried_two bytes 0 middle to ((index ++ place) ++ first) body (carried_two bytes 0 head.read middle (index ++ place) first begun s.carried) o.carried in
+    let front_bytes : Carried bytes 0 head.read (index ++ place) = subst (λ (i : ℕ). Carried bytes 0 head.read (little_bytes 2 i ++ place_bytes head.place)) (sym same) h.carried in
+    let all : Carried bytes 0 to (((index ++ place) ++ first) ++ body) = carried_two bytes 0 middle to ((index ++ place) ++ first) body (carried_two bytes 0 head.read middle (index ++ place) first front_bytes s.carried) o.carried in
     let rest : drop to bytes ≡ padding = sym (pad ∙ take_all (length bytes - to) (drop to bytes) (omega (arith, length-drop to bytes))) in
     let stamp : List ℕ = stamp_text es (stamp_of es) s.stamp in
-    let space : List ℕ = stamp_space (stamp_of es) in
-    let level : List ℕ = is.level ++ codes " " in
     let text : List ℕ = eager_text es plan.index o.args in
-    let m_within : m ≤ length mid = omega (arith, s.written.within, s.written.long) in
-    let k_within : k ≤ length fronted = omega (arith, f.within, f.long) in
+    let started = fronted plan.front stamp old mid begun at m k le s.written f in
     let stamp_ends : m ≡ at + length stamp = written_end old mid at m stamp le s.written in
-    let text_ends : end ≡ k + length text = written_end fronted new k end text k_within o.written in
-    let front : Written old at fronted k (stamp ++ (space ++ level)) = written_two old mid fronted at m k stamp (space ++ level) s.written (subst (λ (x : List ℕ). Written mid m fronted k x) is.front_is f) in
-    let line : Written old at new end (((stamp ++ space) ++ level) ++ text) = subst (λ (x : List ℕ). Written old at new end (x ++ text)) (sym (append_assoc stamp space level)) (written_two old fronted new at k end (stamp ++ (space ++ level)) text front o.written) in
+    let text_ends : end ≡ k + length text = written_end begun new k end text started.within o.written in
+    let line = line_written es (level_text is.own.entry.tag) plan.front s.stamp text old mid begun new at m k end le is.front_is s.written f o.written in
     record {
       stamp = s.stamp;
       args = o.args;
@@ -139,15 +135,15 @@ told_at t plan head bytes padding middle to old mid fronted new at m k end le ro
         zeros = p.1;
         message = all.parts ∙ ap (λ (x : List ℕ). (x ++ body) ++ drop to bytes) (append_assoc index place first) ∙ ap (λ (x : List ℕ). ((index ++ (place ++ first)) ++ body) ++ x) rest;
       };
-      narrow = narrow_by es s.stamp plan.index o.args (omega (arith, stamp_ends, s.written.within)) (omega (arith, text_ends, o.written.within, f.long, s.written.long));
-      written = subst (λ (l : Option (List ℕ)). Written old at new end (front_text es (stamp_of es) s.stamp l ++ text)) (sym (level_is es plan.index is.own.entry is.level is.own.there is.level_is)) line;
+      narrow = narrow_by es s.stamp plan.index o.args (omega (arith, stamp_ends, s.written.within)) (omega (arith, text_ends, o.written.within, started.kept.long));
+      written = subst (λ (l : Option (List ℕ)). Written old at new end (front_text es (stamp_of es) s.stamp l ++ text)) (sym (level_is es plan.index is.own.entry is.own.there)) line;
     }
 
-pub told_all : (t : Catalog) (plan : Plan) (head : Head) (bytes padding : List ℕ) (middle to : ℕ) (old mid fronted new : List ℕ) (at m k end : ℕ) → at ≤ length old → length old ≤ 65536
-    → plan.index ≡ head.index → IsPlanIn t.entries plan → IsHead t.profile bytes head → StampPassed t.entries bytes head.read middle old at mid m → Written mid m fronted k plan.front
-    → ((t : Map) → Passed t (pieces_of plan.steps.items) bytes middle to fronted k new end)
+pub told_all : (t : Catalog) (plan : Plan) (head : Head) (bytes padding : List ℕ) (middle to : ℕ) (old mid begun new : List ℕ) (at m k end : ℕ) → at ≤ length old → length old ≤ 65536
+    → plan.index ≡ head.index → IsPlanIn t.entries plan → IsHead t.profile bytes head → StampPassed t.entries bytes head.read middle old at mid m → Fronts plan.front (Some k) mid m at begun
+    → ((t : Map) → Passed t (pieces_of plan.steps.items) bytes middle to begun k new end)
     → padding ≡ take (length bytes - to) (drop to bytes) → (length padding ≤ 6) × (all_zero padding ≡ true) → IsTold t bytes head.place head.index old at new end
-told_all t plan head bytes padding middle to old mid fronted new at m k end le room same is h s f o pad p =
+told_all t plan head bytes padding middle to old mid begun new at m k end le room same is h s f o pad p =
     subst (λ (i : ℕ). IsTold t bytes head.place i old at new end) same
-    (told_at t plan head bytes padding middle to old mid fronted new at m k end le room same is h s f
-    (own_passed t.entries plan.index plan.steps.items bytes middle to fronted k new end is.own (o t.entries)) pad p)
+    (told_at t plan head bytes padding middle to old mid begun new at m k end le room same is h s f
+    (own_passed t.entries plan.index plan.steps.items bytes middle to begun k new end is.own (o t.entries)) pad p)

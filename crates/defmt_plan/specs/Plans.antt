@@ -24,13 +24,16 @@ abbrev pub space_if : Bool → List ℕ
 space_if true = codes " "
 space_if false = []
 
--- a statement of a level: what stands between the stamp's text and its own, and its own pieces
+-- what stands between the stamp's text and that of a statement of a level; without a level there is neither
+abbrev pub front_in : Map → Option (List ℕ) → Option (List ℕ)
+front_in t None = None
+front_in t (Some level) = Some (stamp_space (stamp_of t) ++ (level ++ codes " "))
+
+-- a statement of a level or of println: what stands in front of its text, and its own pieces
 pub record IsPlanIn (t : Map) (plan : Plan) : Type 0 where
   pub own : AreStepsOf t plan.index plan.steps.items
-  pub level : List ℕ
-  pub level_is : level_text own.entry.tag ≡ Some level
   pub logged : is_logged own.entry.tag ≡ true
-  pub front_is : plan.front ≡ stamp_space (stamp_of t) ++ (level ++ codes " ")
+  pub front_is : plan.front ≡ front_in t (level_text own.entry.tag)
 
 abbrev pub ArePlansIn : Map → List Plan → Type 0
 ArePlansIn t [] = Unit {0}

@@ -1,5 +1,5 @@
 -- What one pass over a whole message leaves.
-use Rattle.std.specs.Prelude.{◌≡◌, ℕ, List, ◌++◌, length, Option, Some, None}
+use Rattle.std.specs.Prelude.{◌≡◌, ℕ, List, ◌++◌, Option, Some, None}
 use Rattle.byteorder.specs.Endian.{little_bytes}
 use Rattle.defmt_intern.specs.Catalog.{Catalog}
 use Rattle.defmt_intern.specs.Stamp.{stamp_of}
@@ -14,7 +14,7 @@ use Rattle.defmt_encode.specs.Lengths.{LengthsFit}
 use Rattle.defmt_encode.specs.Placed.{HasPlace, place_bytes}
 use Rattle.defmt_eager.specs.Line.{eager_line, stamp_text, IsWide}
 use Rattle.defmt_plan.specs.Carried.{Carried}
-use Rattle.defmt_put.specs.Written.{Kept, Written}
+use Rattle.defmt_put.specs.Written.{Kept, Written, Writes}
 use Rattle.defmt_plan.specs.declared.leaves.Progress.{Progress}
 use Rattle.defmt_plan.specs.declared.message.Head.{Head}
 use Rattle.defmt_plan.specs.declared.message.Told.{Told}
@@ -48,3 +48,9 @@ pub record IsTold (t : Catalog) (bytes : List ℕ) (place : Option ℕ) (index :
 abbrev pub Tells : Option Told → Catalog → List ℕ → List ℕ → ℕ → List ℕ → Type 0
 Tells None t bytes old at new = Kept old at new
 Tells (Some told) t bytes old at new = IsTold t bytes told.place told.index old at new told.end
+
+-- What stands in front of a text is written behind the stamp's, where there is something; else the text begins at the place
+-- where the stamp's did.
+abbrev pub Fronts : Option (List ℕ) → Option ℕ → List ℕ → ℕ → ℕ → List ℕ → Type 0
+Fronts (Some front) r old stamped at new = Writes r old stamped new front
+Fronts None r old stamped at new = (r ≡ Some at) × (new ≡ old)

@@ -1,22 +1,22 @@
 //! Plans: what a table's strings need to be read and printed.
 
-ghost use Rattle.std.specs.Prelude.{◌≡◌, ◌++◌, true, codes, Some, IfSome, IfOk};
+ghost use Rattle.std.specs.Prelude.{◌≡◌, ◌++◌, codes, IfSome, IfOk};
+ghost use Rattle.std.specs.Option.{option_copied};
 ghost use Rattle.defmt_eager.specs.Line.{level_text};
-ghost use Rattle.defmt_values.specs.Entries.{is_logged};
-ghost use Rattle.defmt_plan.specs.Plans.{AreStepsOf, ArePlansIn, IsPlanIn, SaysStamp, space_if};
+ghost use Rattle.defmt_plan.specs.Plans.{AreStepsOf, ArePlansIn, IsPlanIn, SaysStamp, front_in, space_if};
 
 use crate::steps::{Step, steps_of};
 use defmt_grammar::{Memory, Text};
 use defmt_intern::{Parsed, Table, Tag};
-use defmt_values::look_up;
+use defmt_values::{is_logged, look_up};
 use std::alloc::Global;
 
-/// The plan of a statement of a level.
+/// The plan of a statement of a level or of println.
 #[derive(Drop)]
 pub(crate) struct Plan {
     pub index: u16,
-    /// What stands between the stamp's text and its own.
-    pub front: Text,
+    /// What stands between the stamp's text and its own; of println neither stands in front of it.
+    pub front: Option<Text>,
     pub steps: Vec<Step>,
 }
 
@@ -58,8 +58,7 @@ pub(crate) fn stamp_plan(alloc: Global, table: &Table) -> Result<StampPlan, Memo
 
 /// The name of a level, in five places.
 fn level_text(tag: &Tag) -> Option<&'static str>
-    ensures text { IfSome result (λ level. level_text tag.now ≡ Some level.now) }
-    ensures logged { IfSome result (λ level. is_logged tag.now ≡ true) }
+    ensures { option_copied result ≡ level_text tag.now }
 {
     match tag {
         Tag::Trace => Some("TRACE"),
@@ -72,7 +71,7 @@ fn level_text(tag: &Tag) -> Option<&'static str>
 }
 
 /// What stands between a stamp, where there is one, and the text of a statement of this level.
-fn front_of(alloc: Global, stamped: bool, level: &str) -> Result<Text, Memory>
+fn level_front(alloc: Global, stamped: bool, level: &str) -> Result<Text, Memory>
     ensures { IfOk result (λ front. front ≡ space_if stamped ++ (level.now ++ codes " ")) }
 {
     let mut front = Text::new(alloc);
@@ -84,23 +83,33 @@ fn front_of(alloc: Global, stamped: bool, level: &str) -> Result<Text, Memory>
     Ok(front)
 }
 
-/// The plan of the string at an index, where it is of a level and usual.
+/// What stands in front of the text of a statement of this tag.
+fn front_of(alloc: Global, table: &Table, tag: &Tag) -> Result<Option<Text>, Memory>
+    ensures { IfOk result (λ front. front ≡ front_in table.now.entries (level_text tag.now)) }
+{
+    match level_text(tag) {
+        Some(level) => Ok(Some(level_front(alloc, table.stamp().is_some(), level)?)),
+        None => Ok(None),
+    }
+}
+
+/// The plan of the string at an index, where it is of a level or of println, and usual.
 fn plan_of(alloc: Global, table: &Table, index: u16) -> Result<Option<Plan>, Memory>
     ensures { IfOk result (λ r. IfSome r (λ plan. IsPlanIn table.now.entries plan)) }
 {
     let Some((entry, body)) = look_up(table, index) else {
         return Ok(None);
     };
-    let Some(level) = level_text(&entry.tag) else {
+    if !is_logged(&entry.tag) {
         return Ok(None);
-    };
+    }
     let Parsed::One(pieces) = body else {
         return Ok(None);
     };
     let Some(steps) = steps_of(alloc, pieces.as_slice())? else {
         return Ok(None);
     };
-    let front = front_of(alloc, table.stamp().is_some(), level)?;
+    let front = front_of(alloc, table, &entry.tag)?;
     Ok(Some(Plan {
         index,
         front,
@@ -108,7 +117,7 @@ fn plan_of(alloc: Global, table: &Table, index: u16) -> Result<Option<Plan>, Mem
     }))
 }
 
-/// The plans of a table's strings that are of a level and usual, in the order of their indexes.
+/// The plans of a table's strings that are of a level or of println, and usual, in the order of their indexes.
 pub(crate) fn plans_of(alloc: Global, table: &Table) -> Result<Vec<Plan>, Memory>
     ensures { IfOk result (λ plans. ArePlansIn table.now.entries plans.items) }
 {

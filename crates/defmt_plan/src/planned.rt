@@ -2,13 +2,13 @@
 
 ghost use Rattle.std.specs.Prelude.{◌≡◌, ◌≤◌, length, IfOk, IfSome};
 ghost use Rattle.defmt_plan.specs.Plans.{IsPlanIn};
-ghost use Rattle.defmt_plan.specs.Told.{StampPasses, Tells};
+ghost use Rattle.defmt_plan.specs.Told.{Fronts, StampPasses, Tells};
 
 use crate::leaves::Progress;
 use crate::message::{Told, is_padding, read_head};
 use crate::plan::{Plan, StampPlan, plans_of, stamp_plan};
 use crate::steps::run;
-use defmt_grammar::Memory;
+use defmt_grammar::{Memory, Text};
 use defmt_intern::Table;
 use defmt_put::put;
 use std::alloc::Global;
@@ -56,6 +56,17 @@ fn numbers_of(alloc: Global, plans: &[Plan]) -> Result<Vec<u16>, Memory> {
         }
     }
     Ok(numbers)
+}
+
+/// Writes what stands between the stamp's text and the statement's, and answers where the latter begins.
+fn put_front(front: &Option<Text>, out: &mut [u8], stamped: usize, at: usize) -> Option<usize>
+    requires { stamped ≤ length out.old }
+    ensures { Fronts front.now result out.old stamped at out.new }
+{
+    match front {
+        Some(front) => put(out, stamped, front.as_str().as_bytes()),
+        None => Some(at),
+    }
 }
 
 impl PlannedTable {
@@ -124,8 +135,8 @@ impl PlannedTable {
         let head = read_head(self.table.profile(), bytes)?;
         let plan = self.plan(head.index)?;
         let stamped = self.stamp(bytes, head.read, out, at)?;
-        let fronted = put(out, stamped.written, plan.front.as_str().as_bytes())?;
-        let said = run(&plan.steps, bytes, stamped.read, out, fronted)?;
+        let start = put_front(&plan.front, out, stamped.written, at)?;
+        let said = run(&plan.steps, bytes, stamped.read, out, start)?;
         if !is_padding(&bytes[said.read..]) {
             return None;
         }

@@ -84,14 +84,35 @@ fn prefix_text(base: Base, alt: bool) -> &'static str
     }
 }
 
+/// Writes a byte in two hexadecimal digits.
+fn put_pair(out: &mut [u8], at: usize, byte: u8, upper: bool) -> Option<usize>
+    requires { at ≤ length out.old }
+    ensures { Writes result out.old at out.new (zero_filled 2 (number_text 16 upper byte)) }
+{
+    let pair = [glyph(byte / 16, upper), glyph(byte % 16, upper)];
+    put(out, at, &pair)
+}
+
+/// Writes the digits in base 16, with zeros in front up to a width.
+fn put_hex(out: &mut [u8], at: usize, number: u64, upper: bool, width: u8) -> Option<usize>
+    requires { at ≤ length out.old }
+    ensures { Writes result out.old at out.new (zero_filled width (number_text 16 upper number)) }
+{
+    if width == 2 && number < 256 {
+        put_pair(out, at, number as u8, upper)
+    } else {
+        put_digits(out, at, number, 16, upper, width)
+    }
+}
+
 /// Writes the digits in a hint's base, with zeros in front up to a width.
 fn put_in_base(out: &mut [u8], at: usize, number: u64, base: Base, width: u8) -> Option<usize>
     requires { at ≤ length out.old }
     ensures { Writes result out.old at out.new (zero_filled width (number_text (base_number base) (is_upper base) number)) }
 {
     match base {
-        Base::Hex => put_digits(out, at, number, 16, false, width),
-        Base::HexUpper => put_digits(out, at, number, 16, true, width),
+        Base::Hex => put_hex(out, at, number, false, width),
+        Base::HexUpper => put_hex(out, at, number, true, width),
         Base::Binary => put_digits(out, at, number, 2, false, width),
         Base::Octal => put_digits(out, at, number, 8, false, width),
     }

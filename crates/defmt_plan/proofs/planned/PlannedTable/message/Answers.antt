@@ -1,25 +1,30 @@
 use Rattle.std.proofs.Common.{refl, arith, subst, ap, ◌∙◌}
 use Rattle.defmt_intern.specs.Catalog.{Catalog}
 use Rattle.defmt_intern.specs.declared.table.Profile.{Profile}
-use Rattle.defmt_plan.specs.Told.{IsHead}
-use Rattle.defmt_put.proofs.Chains.{written_two, kept_written, kept_behind}
+use Rattle.defmt_put.proofs.Chains.{kept_two, kept_written}
+use Rattle.defmt_plan.proofs.Fronting.{fronted, front_fails}
 use Rattle.defmt_plan.proofs.Telling.{told_all}
+use Rattle.defmt_plan.specs.Told.{IsHead}
 use Rattle.defmt_plan.proofs.planned.PlannedTable.message.Goals as goal
 
-pub returns-in_err-fronted : goal.returns-in_err-fronted
-returns-in_err-fronted c = rw c.from_residual-in_err-fronted.ensures (kept_behind c.args.out.now c.stamp.new.out c.put.new.out c.args.at c.in_ok-stamped.stamped.written _ c.requires c.in_ok-stamped.ensures.written c.in_err-fronted.ensures)
+pub returns-in_err-start : goal.returns-in_err-start
+returns-in_err-start c = rw c.from_residual-in_err-start.ensures (front_fails c.in_ok-plan.plan.now.front _ c.args.out.now c.stamp.new.out c.put_front.new.out c.args.at c.in_ok-stamped.stamped.written c.requires c.in_ok-stamped.ensures.written c.in_err-start.ensures)
 
 pub returns-in_err-said : goal.returns-in_err-said
-returns-in_err-said c = rw c.from_residual-in_err-said.ensures (kept_behind c.args.out.now c.put.new.out c.run.new.out c.args.at c.in_ok-fronted.fronted _ c.requires (written_two c.args.out.now c.stamp.new.out c.put.new.out c.args.at c.in_ok-stamped.stamped.written c.in_ok-fronted.fronted _ _ c.in_ok-stamped.ensures.written c.in_ok-fronted.ensures) (c.in_err-said.ensures c.args.self.now.entries))
+returns-in_err-said c =
+    let f = fronted c.in_ok-plan.plan.now.front _ c.args.out.now c.stamp.new.out c.put_front.new.out c.args.at c.in_ok-stamped.stamped.written c.in_ok-start.start c.requires c.in_ok-stamped.ensures.written c.in_ok-start.ensures in
+    rw c.from_residual-in_err-said.ensures (kept_two c.args.out.now c.put_front.new.out c.run.new.out c.args.at c.in_ok-start.start f.behind f.kept (c.in_err-said.ensures c.args.self.now.entries))
 
 pub returns-then-not-is_padding : goal.returns-then-not-is_padding
 returns-then-not-is_padding c =
-    kept_written c.args.out.now c.run.new.out c.args.at c.in_ok-said.said.written _ c.requires (written_two c.args.out.now c.put.new.out c.run.new.out c.args.at c.in_ok-fronted.fronted c.in_ok-said.said.written _ _ (written_two c.args.out.now c.stamp.new.out c.put.new.out c.args.at c.in_ok-stamped.stamped.written c.in_ok-fronted.fronted _ _ c.in_ok-stamped.ensures.written c.in_ok-fronted.ensures) (c.in_ok-said.ensures c.args.self.now.entries).written)
+    let f = fronted c.in_ok-plan.plan.now.front _ c.args.out.now c.stamp.new.out c.put_front.new.out c.args.at c.in_ok-stamped.stamped.written c.in_ok-start.start c.requires c.in_ok-stamped.ensures.written c.in_ok-start.ensures in
+    kept_two c.args.out.now c.put_front.new.out c.run.new.out c.args.at c.in_ok-start.start f.behind f.kept
+    (kept_written c.put_front.new.out c.run.new.out c.in_ok-start.start c.in_ok-said.said.written _ f.within (c.in_ok-said.ensures c.args.self.now.entries).written)
 
 pub returns : goal.returns
-returns c = told_all c.args.self.now c.in_ok-plan.plan.now c.in_ok-head.head c.args.bytes.now _ c.in_ok-stamped.stamped.read c.in_ok-said.said.read c.args.out.now c.stamp.new.out c.put.new.out c.run.new.out c.args.at c.in_ok-stamped.stamped.written c.in_ok-fronted.fronted c.in_ok-said.said.written c.requires (omega arith) c.in_ok-plan.ensures.at c.in_ok-plan.ensures.is
+returns c = told_all c.args.self.now c.in_ok-plan.plan.now c.in_ok-head.head c.args.bytes.now _ c.in_ok-stamped.stamped.read c.in_ok-said.said.read c.args.out.now c.stamp.new.out c.put_front.new.out c.run.new.out c.args.at c.in_ok-stamped.stamped.written c.in_ok-start.start c.in_ok-said.said.written c.requires (omega arith) c.in_ok-plan.ensures.at c.in_ok-plan.ensures.is
     (subst (λ (p : Profile). IsHead p c.args.bytes.now c.in_ok-head.head) (c.profile.ensures ∙ ap (λ (t : Catalog). t.profile) c.self.view_is) c.in_ok-head.ensures)
-    c.in_ok-stamped.ensures (rw (c.as_bytes.ensures.value, c.as_str.ensures.text) at c.in_ok-fronted.ensures) (rw c.deref.ensures.value at c.in_ok-said.ensures) refl (c.is_padding.ensures c.if-not-is_padding.false)
+    c.in_ok-stamped.ensures c.in_ok-start.ensures (rw c.deref.ensures.value at c.in_ok-said.ensures) refl (c.is_padding.ensures c.if-not-is_padding.false)
 
 pub slice_bounds-is_padding-count : goal.slice_bounds-is_padding-count
 slice_bounds-is_padding-count c = let h = c.in_ok-said.ensures c.args.self.now.entries in omega (arith, h.carried.within)

@@ -1,0 +1,61 @@
+-- What stands in front of a statement's text.
+use Rattle.std.proofs.Common.{◌≡◌, ◌≤◌, ℕ, List, ◌++◌, length, codes, sym, ap, subst, ◌∙◌, arith, append_assoc, Option, Some, None}
+use Rattle.defmt_intern.specs.Stamp.{stamp_of}
+use Rattle.defmt_intern.specs.Table.{Map}
+use Rattle.defmt_values.specs.Plain.{Vals}
+use Rattle.defmt_eager.specs.Line.{front_text, stamp_text, stamp_space}
+use Rattle.defmt_put.proofs.Chains.{written_two, written_end, kept_written, kept_two}
+use Rattle.defmt_put.specs.Written.{Kept, Written}
+use Rattle.defmt_plan.specs.Plans.{front_in}
+use Rattle.defmt_plan.specs.Told.{Fronts}
+
+-- what a front that is written leaves: where the text begins, and what stood in front of the stamp
+pub record IsFronted (old fronted : List ℕ) (at k : ℕ) : Type 0 where
+  pub within : k ≤ length fronted
+  pub behind : at ≤ k
+  pub kept : Kept old at fronted
+
+some_is : {A : Type 0} (x y : A) → Some x ≡ Some y → x ≡ y
+some_is x y e = cc
+
+pub fronted : (front : Option (List ℕ)) (stamp : List ℕ) (old mid new : List ℕ) (at m k : ℕ) → at ≤ length old → Written old at mid m stamp → Fronts front (Some k) mid m at new → IsFronted old new at k
+fronted (Some front) stamp old mid new at m k le v w =
+    let within : m ≤ length mid = omega (arith, v.within, v.long) in
+    record {
+      within = omega (arith, w.within, w.long);
+      behind = omega (arith, written_end old mid at m stamp le v, written_end mid new m k front within w);
+      kept = kept_two old mid new at m (omega (arith, written_end old mid at m stamp le v)) (kept_written old mid at m stamp le v) (kept_written mid new m k front within w);
+    }
+fronted None stamp old mid new at m k le v w =
+    let same : k ≡ at = some_is k at w.0 in
+    let kept : Kept old at mid = kept_written old mid at m stamp le v in
+    record {
+      within = omega (arith, same, le, ap length w.1, kept.long);
+      behind = omega (arith, same);
+      kept = subst (λ (x : List ℕ). Kept old at x) (sym w.1) kept;
+    }
+
+-- a front that isn't written
+pub front_fails : (front : Option (List ℕ)) (stamp : List ℕ) (old mid new : List ℕ) (at m : ℕ) → at ≤ length old → Written old at mid m stamp → Fronts front None mid m at new → Kept old at new
+front_fails (Some front) stamp old mid new at m le v k = kept_two old mid new at m (omega (arith, written_end old mid at m stamp le v)) (kept_written old mid at m stamp le v) k
+front_fails None stamp old mid new at m le v k = absurd (cc k.0)
+
+-- the line behind the stamp's text
+pub line_written : (t : Map) (level front : Option (List ℕ)) (stamp : Vals) (text old mid begun new : List ℕ) (at m k end : ℕ) → at ≤ length old → front ≡ front_in t level → Written old at mid m (stamp_text t (stamp_of t) stamp) → Fronts front (Some k) mid m at begun → Written begun k new end text → Written old at new end (front_text t (stamp_of t) stamp level ++ text)
+line_written t (Some level) front stamp text old mid begun new at m k end le e v f w =
+    let s : List ℕ = stamp_text t (stamp_of t) stamp in
+    let space : List ℕ = stamp_space (stamp_of t) in
+    let behind : List ℕ = level ++ codes " " in
+    let written : Written mid m begun k (space ++ behind) = subst (λ (x : Option (List ℕ)). Fronts x (Some k) mid m at begun) e f in
+    let whole : Written old at begun k (s ++ (space ++ behind)) = written_two old mid begun at m k s (space ++ behind) v written in
+    subst (λ (x : List ℕ). Written old at new end (x ++ text)) (sym (append_assoc s space behind)) (written_two old begun new at k end (s ++ (space ++ behind)) text whole w)
+line_written t None front stamp text old mid begun new at m k end le e v f w =
+    let g : (Some k ≡ Some at) × (begun ≡ mid) = subst (λ (x : Option (List ℕ)). Fronts x (Some k) mid m at begun) e f in
+    let same : k ≡ at = some_is k at g.0 in
+    let here : Written mid at new end text = subst (λ (x : List ℕ). Written x at new end text) g.1 (subst (λ (n : ℕ). Written begun n new end text) same w) in
+    let kept : Kept old at mid = kept_written old mid at m (stamp_text t (stamp_of t) stamp) le v in
+    record {
+      long = here.long ∙ kept.long;
+      within = omega (arith, here.within, kept.long);
+      written = here.written ∙ ap (λ (x : List ℕ). x ++ text) kept.front;
+    }
