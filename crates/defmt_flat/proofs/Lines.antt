@@ -1,10 +1,13 @@
 -- Lines and their parts.
 use Rattle.std.proofs.Common.{◌≡◌, ℕ, List, ◌++◌, Option, None, Some, unwrap_or, refl, sym, ap, ◌∙◌, append_assoc}
-use Rattle.std.specs.Prelude.{codes}
+use Rattle.std.specs.Prelude.{codes, Bool, ℤ}
+use Rattle.defmt_grammar.specs.Sizes.{size_bits}
+use Rattle.defmt_grammar.specs.declared.hint.Base.{Base}
 use Rattle.defmt_grammar.specs.declared.hint.Hint.{Hint}
 use Rattle.defmt_grammar.specs.declared.hint.Hint.TheVariants as hints
+use Rattle.defmt_grammar.specs.declared.kind.IntSize.{IntSize}
 use Rattle.defmt_grammar.specs.declared.kind.Kind.{Kind}
-use Rattle.defmt_hints.specs.Printed.{printed_uint}
+use Rattle.defmt_hints.specs.Printed.{printed_int, printed_uint, twos_complement}
 use Rattle.defmt_intern.specs.Body.{body_of}
 use Rattle.defmt_intern.specs.Stamp.{stamp_of}
 use Rattle.defmt_intern.specs.Table.{Map}
@@ -31,6 +34,18 @@ line_is t stamp index vs e body level there is named =
     let whole : (front ++ (level ++ codes " ")) ++ text ≡ eager_line t stamp index vs = rw (there, named) refl in
     ap (λ (x : List ℕ). front ++ (level ++ (codes " " ++ x))) (text_is t index vs e body there is)
     ∙ ap (λ (x : List ℕ). front ++ x) (sym (append_assoc level (codes " ") text)) ∙ sym (append_assoc front (level ++ codes " ") text) ∙ whole
+
+-- a line without a level has no stamp
+pub line_alone : (t : Map) (stamp : Vals) (index : ℕ) (vs : Vals) (e : Entry) (body : Parsed) → look t index ≡ Some e → body ≡ body_of e → level_text e.tag ≡ None
+    → pieces_text hints.Plain (pieces_in (own_in body)) (shows t vs) ≡ eager_line t stamp index vs
+line_alone t stamp index vs e body there is none =
+    let whole : eager_text t index vs ≡ eager_line t stamp index vs = rw (there, none) refl in
+    text_is t index vs e body there is ∙ whole
+
+-- a signed number in a base is its two's complement
+pub signed_in_base : (z : ℤ) (size : IntSize) (n : ℕ) (base : Base) (alt : Bool) (width : ℕ) (hint : Hint) → hint ≡ hints.Radix base alt width → n ≡ twos_complement (size_bits size) z → printed_uint n hint ≡ printed_int z size hint
+unfolding printed_uint printed_int
+signed_in_base z size n base alt width hint is e = rw (is, e) refl
 
 -- what stands for the number of a stamp
 pub stamp_param : (t : Map) (n position : ℕ) (kind : Kind) (hint : Hint) → position ≡ 0 → printed_uint n (acting hints.Plain hint) ≡ param_text hints.Plain (shows t (stamp_args (Some n))) position kind hint

@@ -1,8 +1,9 @@
 //! Single values.
 
-ghost use Rattle.std.specs.Prelude.{◌≤◌, length};
-ghost use Rattle.defmt_eager.specs.Show.{int_text};
-ghost use Rattle.defmt_hints.specs.Printed.{printed_int, printed_uint, signed_text};
+ghost use Rattle.std.specs.Prelude.{◌≡◌, ◌≤◌, ◌+◌, ◌-◌, ◌/◌, ◌%◌, ◌^◌, length};
+ghost use Rattle.defmt_eager.specs.Show.{bits_text, int_text};
+ghost use Rattle.defmt_grammar.specs.Sizes.{IsSigned, size_bits};
+ghost use Rattle.defmt_hints.specs.Printed.{printed_int, printed_uint, signed_text, twos_complement};
 ghost use Rattle.defmt_put.specs.Written.{Writes};
 
 use defmt_grammar::{Hint, IntSize, Kind};
@@ -37,13 +38,14 @@ pub fn put_sized(out: &mut [u8], at: usize, number: i128, kind: Kind, hint: Hint
     }
 }
 
-// Writes a signed number under a hint, where that is no base.
+// Writes a signed number under a hint.
 fn put_int(out: &mut [u8], at: usize, number: i128, size: IntSize, hint: Hint) -> Option<usize>
-    requires { at ≤ length out.old }
+    requires place { at ≤ length out.old }
+    requires sized { IsSigned (size_bits size) number }
     ensures { Writes result out.old at out.new (printed_int number size hint) }
 {
     match hint {
-        Hint::Radix { .. } => None,
+        Hint::Radix { .. } => put_number(out, at, twos_complement(number, size), hint),
         Hint::Plain | Hint::Debug | Hint::Ascii | Hint::Micros | Hint::Millis => {
             put_signed(out, at, number)
         }
@@ -64,4 +66,62 @@ fn put_signed(out: &mut [u8], at: usize, number: i128) -> Option<usize>
         return put_decimal(out, digits, magnitude as u64);
     }
     put_decimal(out, at, magnitude as u64)
+}
+
+// The greatest number of as many bits as the size has.
+fn greatest(size: IntSize) -> u128
+    ensures { result + 1 ≡ 2 ^ size_bits size }
+{
+    match size {
+        IntSize::W8 => 0xff,
+        IntSize::W16 => 0xffff,
+        IntSize::W32 | IntSize::Native => 0xffff_ffff,
+        IntSize::W64 => 0xffff_ffff_ffff_ffff,
+        IntSize::W128 => 0xffff_ffff_ffff_ffff_ffff_ffff_ffff_ffff,
+    }
+}
+
+// The two's complement of a number in its own size.
+fn twos_complement(number: i128, size: IntSize) -> u128
+    requires { IsSigned (size_bits size) number }
+    ensures { result ≡ twos_complement (size_bits size) number }
+{
+    let magnitude = number.unsigned_abs();
+    if number < 0 {
+        greatest(size) - (magnitude - 1)
+    } else {
+        magnitude
+    }
+}
+
+// A number without its lowest bits.
+fn without_low(number: u128, bits: u8) -> u128
+    ensures { result ≡ number / 2 ^ bits }
+{
+    if bits < 128 { number >> bits } else { 0 }
+}
+
+// The lowest bits of a number.
+fn low(number: u128, bits: u8) -> u128
+    ensures { result ≡ number % 2 ^ bits }
+{
+    if bits < 128 {
+        number % (1u128 << bits)
+    } else {
+        number
+    }
+}
+
+// Writes the bit field that the kind names.
+pub fn put_bits(out: &mut [u8], at: usize, number: u128, kind: Kind, hint: Hint) -> Option<usize>
+    requires { at ≤ length out.old }
+    ensures { Writes result out.old at out.new (bits_text kind number hint) }
+{
+    match kind {
+        Kind::Bits { lo, hi } => {
+            let field = low(without_low(number, lo), hi.saturating_sub(lo));
+            put_number(out, at, field, hint)
+        }
+        _ => None,
+    }
 }

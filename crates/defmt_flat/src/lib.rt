@@ -6,4 +6,4 @@ mod leaves;
 mod line;
 mod values;
 
-pub use line::put_line;
+pub use line::{put_line, put_text};

@@ -1,8 +1,8 @@
 //! The line of a statement.
 
-ghost use Rattle.std.specs.Prelude.{◌≡◌, ◌≤◌, ◌++◌, length, Some, IfSome};
+ghost use Rattle.std.specs.Prelude.{◌≡◌, ◌≤◌, ◌++◌, length, Some, option_map};
 ghost use Rattle.defmt_eager.specs.Line.{eager_line, level_text, stamp_space, stamp_text};
-ghost use Rattle.defmt_eager.specs.Show.{piece_text, pieces_text, shows};
+ghost use Rattle.defmt_eager.specs.Show.{eager_text, piece_text, pieces_text, shows};
 ghost use Rattle.defmt_encode.specs.Carry.{stamp_args};
 ghost use Rattle.defmt_intern.specs.Stamp.{stamp_of};
 ghost use Rattle.defmt_intern.specs.Table.{Map};
@@ -16,7 +16,7 @@ use defmt_values::{Statement, cut, look_up};
 
 // The name of a level, in five places.
 fn level_text(tag: &Tag) -> Option<&'static str>
-    ensures { IfSome result (λ level. level_text tag.now ≡ Some level.now) }
+    ensures { option_map (λ level. level.now) result ≡ level_text tag.now }
 {
     match tag {
         Tag::Trace => Some("TRACE"),
@@ -106,9 +106,22 @@ pub fn put_line(
         (eager_line table.now.entries (stamp_args stamp) stm.now.index stm.now.args) }
 {
     let (entry, body) = look_up(table, stm.index)?;
-    let level = level_text(&entry.tag)?;
+    let pieces = pieces_of(body);
+    let Some(level) = level_text(&entry.tag) else {
+        return put_pieces(table, out, at, Hint::Plain, pieces, &stm.args);
+    };
     let stamped = put_stamp(table, stamp, out, at)?;
     let named = put(out, stamped, level.as_bytes())?;
     let front = put(out, named, b" ")?;
-    put_pieces(table, out, front, Hint::Plain, pieces_of(body), &stm.args)
+    put_pieces(table, out, front, Hint::Plain, pieces, &stm.args)
+}
+
+/// Writes the text of a statement, without stamp and level, as `text_of` of defmt_eager gives it.
+pub fn put_text(table: &Table, stm: &Statement, out: &mut [u8], at: usize) -> Option<usize>
+    requires { at ≤ length out.old }
+    ensures { Writes result out.old at out.new
+        (eager_text table.now.entries stm.now.index stm.now.args) }
+{
+    let pieces = own_pieces(table, stm.index);
+    put_pieces(table, out, at, Hint::Plain, pieces, &stm.args)
 }

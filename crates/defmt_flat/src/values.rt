@@ -9,10 +9,10 @@ ghost use Rattle.defmt_values.specs.Entries.{look};
 ghost use Rattle.defmt_values.specs.Scan.{own_in};
 ghost use Rattle.defmt_values.specs.View.{plain};
 
-use crate::leaves::{put_number, put_sized};
+use crate::leaves::{put_bits, put_number, put_sized};
 use defmt_grammar::{Hint, Kind, Param, Piece};
 use defmt_intern::{Parsed, Table};
-use defmt_put::{put, put_bool, put_bytes, put_str};
+use defmt_put::{put, put_bool, put_bytes, put_char, put_str};
 use defmt_values::{Args, Item, Items, Value, cut, form_of, look_up, pick};
 
 // The text of an interned string.
@@ -92,7 +92,8 @@ fn put_value(
         Value::Uint(number) => put_number(out, at, *number, hint),
         Value::Int(number) => put_sized(out, at, *number, kind, hint),
         Value::Bool(value) => put_bool(out, at, *value),
-        Value::Char(_) | Value::Bits(_) => None,
+        Value::Char(character) => put_char(out, at, *character, hint),
+        Value::Bits(number) => put_bits(out, at, *number, kind, hint),
         Value::Str(text) => put_str(out, at, text.as_str(), hint),
         Value::Istr(index) => put_str(out, at, interned_text(table, *index), hint),
         Value::Bytes(bytes) => put_bytes(out, at, bytes.as_slice(), hint),

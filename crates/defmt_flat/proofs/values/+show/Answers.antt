@@ -23,6 +23,14 @@ pub put_value-returns-in-Bool : goal.put_value-returns-in-Bool
 unfolding show_val
 put_value-returns-in-Bool t c = rw c.in-Bool.is c.put_bool.ensures
 
+pub put_value-returns-in-Char : goal.put_value-returns-in-Char
+unfolding show_val
+put_value-returns-in-Char t c = rw c.in-Char.is c.put_char.ensures
+
+pub put_value-returns-in-Bits : goal.put_value-returns-in-Bits
+unfolding show_val
+put_value-returns-in-Bits t c = rw c.in-Bits.is c.put_bits.ensures
+
 pub put_value-returns-in-Str : goal.put_value-returns-in-Str
 unfolding show_val
 put_value-returns-in-Str t c = rw c.in-Str.is (rw c.as_str.ensures.text at c.put_str.ensures)
