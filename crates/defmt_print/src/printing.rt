@@ -6,7 +6,7 @@ ghost use Rattle.defmt_print.specs.Shown.{group_lines, writer_line, writer_lines
 
 use crate::losses::add_loss;
 use crate::shown::shows_mark;
-use crate::statements::add_mark_line;
+use crate::statements::{LINE_ROOM, add_mark_line};
 use defmt_hooks::Rules;
 use defmt_logger::Mark;
 use defmt_script::Script;
@@ -38,8 +38,9 @@ pub fn group_lines(
     ensures { IfOk result (λ out. out.items ≡ group_lines only.now script.now tape.now) }
 {
     let mut out = Bytes::new(alloc);
+    let mut room = [0u8; LINE_ROOM];
     for writer in &EACH_WRITER {
-        add_writer(alloc, only, script, tape, *writer, &mut out)?;
+        add_writer(alloc, only, script, tape, *writer, &mut room, &mut out)?;
     }
     Ok(out)
 }
@@ -50,6 +51,7 @@ fn add_writer(
     script: &Script,
     tape: &[Mark],
     writer: u8,
+    room: &mut [u8],
     out: &mut Bytes,
 ) -> Result<(), Memory>
     requires { ArePlaced script.now tape.now }
@@ -57,7 +59,7 @@ fn add_writer(
         ++ writer_lines only.now script.now tape.now writer) }
 {
     for mark in tape {
-        add_of_writer(alloc, only, script, writer, mark, out)?;
+        add_of_writer(alloc, only, script, writer, mark, room, out)?;
     }
     Ok(())
 }
@@ -69,6 +71,7 @@ fn add_of_writer(
     script: &Script,
     writer: u8,
     mark: &Mark,
+    room: &mut [u8],
     out: &mut Bytes,
 ) -> Result<(), Memory>
     requires { IsPlaced script.now mark.now }
@@ -82,7 +85,7 @@ fn add_of_writer(
         return Ok(());
     }
     match mark.fate {
-        Fate::Whole => add_mark_line(alloc, script, mark, out),
+        Fate::Whole => add_mark_line(alloc, script, mark, room, out),
         Fate::Dropped { .. } | Fate::Cut { .. } => Ok(()),
     }
 }

@@ -19,8 +19,8 @@ use std::alloc::Global;
 
 const WRITERS: u8 = 8;
 
-// More bytes than most lines have.
-const LINE_ROOM: usize = 512;
+/// More bytes than most lines have.
+pub const LINE_ROOM: usize = 4_096;
 
 /// The lines of all statements, writer by writer, with the stamps of their numbers.
 pub fn statement_lines(alloc: Global, script: &Script) -> Result<Bytes, Memory>
@@ -29,22 +29,26 @@ pub fn statement_lines(alloc: Global, script: &Script) -> Result<Bytes, Memory>
     script.lawful();
     let mut out = Bytes::new(alloc);
     let mut args = Args::new(alloc);
+    let mut room = [0u8; LINE_ROOM];
     let mut number = 0u32;
     for writer in 0..WRITERS {
-        let after = add_writer(alloc, script, writer, number, &mut args, &mut out)?;
+        let after = add_writer(
+            alloc, script, writer, number, &mut args, &mut room, &mut out,
+        )?;
         number = after;
     }
     Ok(out)
 }
 
 // Appends the lines of a writer's statements, of which the first has this number. Answers the number behind them. The list takes
-// the arguments of one stamp after the other.
+// the arguments of one stamp after the other, and the room one line after the other.
 fn add_writer(
     alloc: Global,
     script: &Script,
     writer: u8,
     number: u32,
     args: &mut Args,
+    room: &mut [u8],
     out: &mut Bytes,
 ) -> Result<u32, Memory>
     requires writer { writer < length script.now.writers }
@@ -61,7 +65,7 @@ fn add_writer(
         let Some(statement) = script.statement(writer, place) else {
             unreachable!();
         };
-        add_statement(alloc, script, statement, number + place, args, out)?;
+        add_statement(alloc, script, statement, number + place, args, room, out)?;
     }
     Ok(number + count)
 }
@@ -73,6 +77,7 @@ fn add_statement(
     statement: &Statement,
     number: u32,
     args: &mut Args,
+    room: &mut [u8],
     out: &mut Bytes,
 ) -> Result<(), Memory>
     requires sound { IsSound script.now.table script.now.settings statement.now }
@@ -85,7 +90,7 @@ fn add_statement(
     let table = script.table();
     let stamp = stamp_number(script, number);
     let carried = stamp_in(script, stamp);
-    add_line(alloc, table, carried, statement, args, out)
+    add_line(alloc, table, carried, statement, args, room, out)
 }
 
 // The stamp of a number, 0 without stamps.
@@ -97,11 +102,12 @@ fn stamp_number(script: &Script, number: u32) -> u64
     base + step * u64::from(number)
 }
 
-/// Appends the line of a mark's statement and a newline.
+/// Appends the line of a mark's statement and a newline. The room takes the line, where it isn't longer.
 pub fn add_mark_line(
     alloc: Global,
     script: &Script,
     mark: &Mark,
+    room: &mut [u8],
     out: &mut Bytes,
 ) -> Result<(), Memory>
     requires { IsPlaced script.now mark.now }
@@ -115,10 +121,10 @@ pub fn add_mark_line(
     };
     let carried = stamp_in(script, mark.stamp);
     let mut args = Args::new(alloc);
-    add_line(alloc, table, carried, statement, &mut args, out)
+    add_line(alloc, table, carried, statement, &mut args, room, out)
 }
 
-// Appends the line of a statement with a stamp or none, and a newline. Where it isn't one that a buffer takes, the list takes the stamp's
+// Appends the line of a statement with a stamp or none, and a newline. The room takes the line; where it can't, the list takes the stamp's
 // arguments.
 fn add_line(
     alloc: Global,
@@ -126,6 +132,7 @@ fn add_line(
     stamp: Option<u64>,
     statement: &Statement,
     args: &mut Args,
+    room: &mut [u8],
     out: &mut Bytes,
 ) -> Result<(), Memory>
     requires { Prints table.now.entries stamp statement.now }
@@ -133,8 +140,7 @@ fn add_line(
         ++ ended (eager_line table.now.entries (stamp_args stamp)
         statement.now.index statement.now.args)) }
 {
-    let mut room = [0u8; LINE_ROOM];
-    let Some(end) = put_line(table, stamp, statement, &mut room, 0) else {
+    let Some(end) = put_line(table, stamp, statement, room, 0) else {
         return add_any_line(alloc, table, stamp, statement, args, out);
     };
     out.extend_from_slice(&room[..end])?;
