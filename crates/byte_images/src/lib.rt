@@ -1,5 +1,8 @@
 //! What readers of files and memory images share: the numbers at places of their bytes, and checks in an
 //! order, of which the first that doesn't hold is told.
+//!
+//! Numbers are those of little-endian targets (ELF gABI, "Data Representation"; SEGGER RTT, targets of 32 bits). So the bytes
+//! `30 00 00 20` are 0x20000030, where the buffer of the block begins (ring_tests, `blocks`).
 #![tactic(auto)]
 
 mod fields;

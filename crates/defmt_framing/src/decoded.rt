@@ -1,3 +1,4 @@
+//! What a piece stands for.
 ghost use Rattle.std.specs.Prelude.{◌≡◌, ◌≤◌, ◌*◌, List, ℕ, Some, None, length, take, option_map, IfSome};
 ghost use Rattle.rzcobs_core.specs.Blocks.{Blocks, IsNoCode};
 ghost use Rattle.defmt_framing.specs.Decoded.{decoded};

@@ -1,3 +1,4 @@
+//! A stream that is fed in parts, cut at its zeros.
 ghost use Rattle.std.specs.Prelude.{◌≡◌, ◌≢◌, ◌+◌, ◌-◌, ◌^◌, ◌≤◌, ◌<◌, ◌++◌, ◌∷◌, [], List, ℕ, length, take, replicate, IfOk, OnOk, OnErr, option_to_list, slice_index, true, false};
 ghost use Rattle.defmt_framing.specs.Cut.{has_zero};
 ghost use Rattle.defmt_framing.specs.Told.{events, begun, of_piece};

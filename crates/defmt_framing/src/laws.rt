@@ -1,3 +1,4 @@
+//! Laws of streams of frames, whole and cut.
 ghost use Rattle.std.specs.Prelude.{◌≡◌, ◌<◌, ◌≤◌, ◌+◌, ◌++◌, ◌∷◌, [], List, ℕ, length, map, take, drop, true, false};
 ghost use Rattle.rzcobs_core.specs.Canon.{canon};
 ghost use Rattle.defmt_framing.specs.Cut.{has_zero, front, gaps, pieces, tail, nonempty};

@@ -4,6 +4,9 @@
 //! zero. So what comes before the first zero of a stream is its front, what lies between two
 //! zeros that follow one another is a piece, and what comes after the last zero is its tail. A
 //! stream without a zero is all front, and an empty part is none.
+//!
+//! Of `07 08 00 01 00 00 02 03 04 00 09` the front has two bytes, the pieces one and three, and the tail one (wire_tests,
+//! `parts`).
 #![tactic(auto)]
 
 mod decoded;

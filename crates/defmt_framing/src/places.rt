@@ -1,3 +1,4 @@
+//! Where the zeros of bytes stand.
 ghost use Rattle.std.specs.Prelude.{◌≡◌, ◌≢◌, ◌≤◌, ◌<◌, length, take, replicate, slice_index, false};
 ghost use Rattle.defmt_framing.specs.Cut.{has_zero};
 

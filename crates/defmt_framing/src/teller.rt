@@ -1,3 +1,4 @@
+//! What tells the parts of a stream.
 ghost use Rattle.std.specs.Prelude.{◌≡◌, ◌≤◌, length, IfOk};
 ghost use Rattle.defmt_framing.specs.Told.{Tells};
 

@@ -36,7 +36,7 @@ pub enum Hint {
     Millis,
 }
 
-/// The hint of a text that is a word of its own.
+// The hint of a text that is a word of its own.
 fn named_hint(text: &str) -> Option<Hint>
     ensures { result ≡ named_hint text.now }
 {
@@ -50,7 +50,7 @@ fn named_hint(text: &str) -> Option<Hint>
     }
 }
 
-/// The width that stands before a radix letter.
+// The width that stands before a radix letter.
 #[tactic(auto, unfolding(crate::specs::Hint::width_of))]
 fn width_of(text: &str) -> Option<u8>
     ensures { result ≡ width_of text.now }
@@ -70,7 +70,7 @@ fn width_of(text: &str) -> Option<u8>
     }
 }
 
-/// What stands before the radix letter, and its base.
+// What stands before the radix letter, and its base.
 #[tactic(auto, unfolding(crate::specs::Hint::base_of))]
 fn base_of(text: &str) -> Option<(&str, Base)>
     ensures { before_base result ≡ base_of text.now }
@@ -88,7 +88,7 @@ fn base_of(text: &str) -> Option<(&str, Base)>
     }
 }
 
-/// The hint of an optional `#`, an optional width and a radix letter.
+// The hint of an optional `#`, an optional width and a radix letter.
 #[tactic(auto, unfolding(crate::specs::Hint::radix_of))]
 fn radix_of(text: &str) -> Option<Hint>
     ensures { result ≡ radix_of text.now }

@@ -54,7 +54,7 @@ pub enum Kind {
     Bits { lo: u8, hi: u8 },
 }
 
-/// The kind of a text that is a word of its own.
+// The kind of a text that is a word of its own.
 fn named_kind(text: &str) -> Option<Kind>
     ensures { result ≡ named_kind text.now }
 {
@@ -82,7 +82,7 @@ fn named_kind(text: &str) -> Option<Kind>
     }
 }
 
-/// The number between `front` and `]`, with spaces before it.
+// The number between `front` and `]`, with spaces before it.
 #[tactic(auto, unfolding(crate::specs::Kind::count_of))]
 fn count_of(text: &str, front: &str) -> Option<u32>
     ensures { result ≡ count_of front.now text.now }
@@ -95,7 +95,7 @@ fn count_of(text: &str, front: &str) -> Option<u32>
     }
 }
 
-/// The numbers round `..`.
+// The numbers round `..`.
 #[tactic(auto, unfolding(crate::specs::Kind::bits_of))]
 fn bits_of(text: &str) -> Option<(u32, u32)>
     ensures { result ≡ bits_of text.now }
@@ -106,7 +106,7 @@ fn bits_of(text: &str) -> Option<(u32, u32)>
     Some((lo, hi))
 }
 
-/// The length of an array, which is at most 65,535.
+// The length of an array, which is at most 65,535.
 fn array_of(count: u32) -> Result<u16, KindFault>
     ensures { result ≡ array_len count }
 {

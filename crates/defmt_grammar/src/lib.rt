@@ -1,4 +1,7 @@
-//! The grammar of format strings, after defmt.
+//! The grammar of format strings, after defmt (the defmt book, "Hints" and "Bitfields"; the crate defmt-parser).
+//!
+//! So `x{{y{=u16:#06X}{0=u16}}}` is the text `x{y`, two uses of one argument of 16 bits, the first in upper hexadecimal digits,
+//! six wide, and the text `}`; `{=u8:q}` is refused strictly with cause 3 at byte 5 (text_tests, `grammar`).
 #![tactic(auto)]
 
 mod fault;

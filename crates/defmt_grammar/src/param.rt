@@ -22,7 +22,7 @@ pub struct Param {
     pub hint: Hint,
 }
 
-/// The parts of a parameter as they are written.
+// The parts of a parameter as they are written.
 #[derive(Clone, Copy)]
 struct Written<'a> {
     digits: &'a str,
@@ -30,7 +30,7 @@ struct Written<'a> {
     hint: Option<&'a str>,
 }
 
-/// The digits that a text begins with, and what follows them.
+// The digits that a text begins with, and what follows them.
 fn split_digits(text: &str) -> (&str, &str)
     ensures { both_now result ≡ lead text.now }
 {
@@ -42,14 +42,14 @@ fn split_digits(text: &str) -> (&str, &str)
     text.split_at(text.len())
 }
 
-/// Whether a position is written with a zero in front.
+// Whether a position is written with a zero in front.
 fn has_leading_zero(digits: &str) -> bool
     ensures { result ≡ has_leading_zero digits.now }
 {
     digits.len() > 1 && behind(digits, '0').is_some()
 }
 
-/// The parts of what stands between braces. Places count from the brace.
+// The parts of what stands between braces. Places count from the brace.
 #[tactic(auto, unfolding(crate::specs::Param::written_of, crate::specs::Param::parts_after))]
 fn written_of(inside: &str) -> Result<Written<'_>, Fault>
     requires { length inside.now < 2 ^ 32 }
@@ -95,7 +95,7 @@ fn written_of(inside: &str) -> Result<Written<'_>, Fault>
     }
 }
 
-/// The position, of which `next` is the first that isn't written.
+// The position, of which `next` is the first that isn't written.
 #[tactic(auto, unfolding(crate::specs::Param::position_of))]
 fn position_of(digits: &str, next: u8) -> Result<u8, Fault>
     ensures { result ≡ position_of next digits.now }
@@ -115,7 +115,7 @@ fn position_of(digits: &str, next: u8) -> Result<u8, Fault>
     }
 }
 
-/// The cause of a kind's fault.
+// The cause of a kind's fault.
 fn cause_of(fault: KindFault) -> Cause
     ensures { result ≡ cause_of fault }
 {
@@ -126,7 +126,7 @@ fn cause_of(fault: KindFault) -> Cause
     }
 }
 
-/// The kind that is written, which begins at this place, or `Kind::Format`.
+// The kind that is written, which begins at this place, or `Kind::Format`.
 fn kind_part_of(text: Option<&str>, at: usize) -> Result<Kind, Fault>
     ensures { result ≡ kind_part_of (option_copied text.entry) at }
 {
@@ -142,7 +142,7 @@ fn kind_part_of(text: Option<&str>, at: usize) -> Result<Kind, Fault>
     }
 }
 
-/// The hint that is written, which begins at this place, or `Hint::Plain`.
+// The hint that is written, which begins at this place, or `Hint::Plain`.
 fn hint_part_of(text: Option<&str>, mode: Mode, at: usize) -> Result<Hint, Fault>
     ensures { result ≡ hint_part_of mode (option_copied text.entry) at }
 {
@@ -159,7 +159,7 @@ fn hint_part_of(text: Option<&str>, mode: Mode, at: usize) -> Result<Hint, Fault
     }
 }
 
-/// How many bytes the text of a hint has.
+// How many bytes the text of a hint has.
 fn hint_len(text: Option<&str>) -> usize
     ensures { result ≡ hint_len (option_copied text.entry) }
 {

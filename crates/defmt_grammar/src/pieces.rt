@@ -78,7 +78,7 @@ impl Pieces {
     }
 }
 
-/// The count of a position, or 0 where there is none.
+// The count of a position, or 0 where there is none.
 fn count_at(counts: &[usize], position: usize) -> usize
     ensures { result ≡ slice_index counts.now position }
 {
@@ -88,7 +88,7 @@ fn count_at(counts: &[usize], position: usize) -> usize
     }
 }
 
-/// The same pieces again.
+// The same pieces again.
 fn copied(alloc: Global, pieces: &[Piece]) -> Result<Vec<Piece>, Memory>
     ensures { IfOk result (λ copies. copies.items ≡ pieces.now) }
 {
@@ -99,7 +99,7 @@ fn copied(alloc: Global, pieces: &[Piece]) -> Result<Vec<Piece>, Memory>
     Ok(copies)
 }
 
-/// As `parse`.
+// As `parse`.
 fn pieces_of(alloc: Global, text: &str, mode: Mode) -> Result<Pieces, GrammarFault>
     requires { length text.now < 2 ^ 32 }
     ensures { Parses text.now mode result }

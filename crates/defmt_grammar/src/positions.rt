@@ -18,7 +18,7 @@ pub struct Held {
     pub uses: usize,
 }
 
-/// From the lower start of two bit fields to the higher end.
+// From the lower start of two bit fields to the higher end.
 fn span_of(first: Kind, second: Kind) -> Option<Kind>
     ensures { result ≡ span_of first second }
 {
@@ -33,7 +33,7 @@ fn span_of(first: Kind, second: Kind) -> Option<Kind>
     }
 }
 
-/// The kind of a position that is used for both, or none where they don't go together.
+// The kind of a position that is used for both, or none where they don't go together.
 fn joined(first: Kind, second: Kind) -> Option<Kind>
     ensures { MatchOption result (Apart first second) (λ kind. IsJoined first second kind) }
 {
@@ -44,7 +44,7 @@ fn joined(first: Kind, second: Kind) -> Option<Kind>
     }
 }
 
-/// What is known of a position after one use more, or none where the kinds don't go together.
+// What is known of a position after one use more, or none where the kinds don't go together.
 fn with_use(held: Option<Held>, kind: Kind) -> Option<Held>
     requires { CountFits held }
     ensures { MatchOption result (ClashesWith held kind) (λ more. HoldsMore held kind more) }

@@ -18,7 +18,7 @@ use crate::step::split_plain;
 use crate::text::Text;
 use std::alloc::Global;
 
-/// The word of a kind, or nothing where it has none.
+// The word of a kind, or nothing where it has none.
 fn kind_name(kind: Kind) -> &'static str
     ensures { result.now ≡ kind_name kind }
 {
@@ -46,7 +46,7 @@ fn kind_name(kind: Kind) -> &'static str
     }
 }
 
-/// Appends a kind, with one space after a semicolon.
+// Appends a kind, with one space after a semicolon.
 fn print_kind(out: &mut Text, kind: Kind) -> Result<(), Memory>
     ensures { OnOk result (out.new ≡ out.old ++ kind_text kind) }
 {
@@ -70,7 +70,7 @@ fn print_kind(out: &mut Text, kind: Kind) -> Result<(), Memory>
     }
 }
 
-/// The letter of a base.
+// The letter of a base.
 fn base_letter(base: Base) -> &'static str
     ensures { result.now ≡ letter_of base ∷ [] }
 {
@@ -82,7 +82,7 @@ fn base_letter(base: Base) -> &'static str
     }
 }
 
-/// Appends the hint of a radix.
+// Appends the hint of a radix.
 fn print_radix(out: &mut Text, base: Base, alt: bool, width: u8) -> Result<(), Memory>
     ensures { OnOk result (out.new ≡ out.old ++ radix_text base alt width) }
 {
@@ -96,7 +96,7 @@ fn print_radix(out: &mut Text, base: Base, alt: bool, width: u8) -> Result<(), M
     out.push_str(base_letter(base))
 }
 
-/// Appends a hint with its colon, or nothing where it is plain.
+// Appends a hint with its colon, or nothing where it is plain.
 fn print_hint(out: &mut Text, hint: Hint) -> Result<(), Memory>
     ensures { OnOk result (out.new ≡ out.old ++ hint_text hint) }
 {
@@ -113,7 +113,7 @@ fn print_hint(out: &mut Text, hint: Hint) -> Result<(), Memory>
     }
 }
 
-/// Appends a parameter with all of its parts.
+// Appends a parameter with all of its parts.
 fn print_param(out: &mut Text, param: &Param) -> Result<(), Memory>
     ensures { OnOk result (out.new ≡ out.old ++ param_text param.now) }
 {
@@ -125,7 +125,7 @@ fn print_param(out: &mut Text, param: &Param) -> Result<(), Memory>
     out.push_str("}")
 }
 
-/// Appends a text with its braces doubled.
+// Appends a text with its braces doubled.
 fn print_literal(out: &mut Text, text: &str) -> Result<(), Memory>
     ensures { OnOk result (out.new ≡ out.old ++ doubled text.now) }
 {
@@ -145,7 +145,7 @@ fn print_literal(out: &mut Text, text: &str) -> Result<(), Memory>
     }
 }
 
-/// Appends a piece.
+// Appends a piece.
 fn print_piece(out: &mut Text, piece: &Piece) -> Result<(), Memory>
     ensures { OnOk result (out.new ≡ out.old ++ piece_text piece.now) }
 {

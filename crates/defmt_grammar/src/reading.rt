@@ -10,7 +10,7 @@ use crate::text::Text;
 use std::alloc::Global;
 use std::mem;
 
-/// Makes a piece of the characters so far, where there are any.
+// Makes a piece of the characters so far, where there are any.
 fn flush(alloc: Global, pieces: &mut Vec<Piece>, literal: &mut Text) -> Result<(), Memory>
     ensures pieces { OnOk result (pieces.new.items ≡ pieces.old.items ++ flushed literal.old) }
     ensures literal { OnOk result (literal.new ≡ []) }

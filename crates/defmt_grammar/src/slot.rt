@@ -16,7 +16,7 @@ pub enum Slot {
     Bits { first: u8, width: u8 },
 }
 
-/// A number of bytes, raised to the next of 1, 2, 4, 8, 16.
+// A number of bytes, raised to the next of 1, 2, 4, 8, 16.
 fn raised(count: u8) -> u8
     ensures { result ≡ raised count }
 {
@@ -29,7 +29,7 @@ fn raised(count: u8) -> u8
     }
 }
 
-/// The window that holds the bits `lo` to `hi - 1`.
+// The window that holds the bits `lo` to `hi - 1`.
 fn window(lo: u8, hi: u8) -> Slot
     requires ordered { lo < hi }
     requires within { hi ≤ 128 }

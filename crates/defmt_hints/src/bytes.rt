@@ -9,7 +9,7 @@ use crate::escapes::push_byte_text;
 use crate::numbers::{push_decimal, push_radix};
 use defmt_grammar::{Hint, Memory, Text};
 
-/// Appends an element of a list of bytes.
+// Appends an element of a list of bytes.
 fn push_byte(out: &mut Text, byte: u8, hint: &Hint) -> Result<(), Memory>
     ensures { Appends result out.old out.new (printed_byte hint.now byte) }
 {
@@ -21,7 +21,7 @@ fn push_byte(out: &mut Text, byte: u8, hint: &Hint) -> Result<(), Memory>
     }
 }
 
-/// Appends a list of bytes.
+// Appends a list of bytes.
 fn push_list(out: &mut Text, bytes: &[u8], hint: &Hint) -> Result<(), Memory>
     ensures { Appends result out.old out.new (list_text (map (printed_byte hint.now) bytes.now)) }
 {

@@ -9,7 +9,7 @@ ghost use Rattle.defmt_hints.specs.Digits.{AreDigits, digits, number_text, zero_
 use defmt_grammar::{Memory, Text};
 use std::str;
 
-/// The greatest width, which is more than the 128 digits of the greatest number in base 2.
+// The greatest width, which is more than the 128 digits of the greatest number in base 2.
 const ROOM: usize = 255;
 
 /// Appends a text.
@@ -40,7 +40,7 @@ pub fn push_bytes(out: &mut Text, bytes: &[u8]) -> Result<(), Memory>
     }
 }
 
-/// Appends bytes that are characters of one byte each.
+// Appends bytes that are characters of one byte each.
 fn push_ascii(out: &mut Text, bytes: &[u8]) -> Result<(), Memory>
     requires { IsAscii bytes.now }
     ensures { Appends result out.old out.new bytes.now }
@@ -51,7 +51,7 @@ fn push_ascii(out: &mut Text, bytes: &[u8]) -> Result<(), Memory>
     Ok(())
 }
 
-/// The character of a digit below 16.
+// The character of a digit below 16.
 fn glyph(digit: u8, upper: bool) -> u8
     requires { digit < 16 }
     ensures { result ≡ digit_glyph upper digit }
@@ -65,7 +65,7 @@ fn glyph(digit: u8, upper: bool) -> u8
     }
 }
 
-/// Appends the character of a digit below 16.
+// Appends the character of a digit below 16.
 fn push_glyph(out: &mut Text, digit: u8, upper: bool) -> Result<(), Memory>
     requires { digit < 16 }
     ensures { Appends result out.old out.new (digit_glyph upper digit ∷ []) }
@@ -73,7 +73,7 @@ fn push_glyph(out: &mut Text, digit: u8, upper: bool) -> Result<(), Memory>
     out.push(char::from(glyph(digit, upper)))
 }
 
-/// Appends a byte in two hexadecimal digits.
+// Appends a byte in two hexadecimal digits.
 fn push_hex_pair(out: &mut Text, byte: u8, upper: bool) -> Result<(), Memory>
     ensures { Appends result out.old out.new (zero_filled 2 (number_text 16 upper byte)) }
 {

@@ -25,7 +25,7 @@ fn quote_mark(quote: Quote) -> &'static str
     }
 }
 
-/// The escape of a byte between two of these quotes.
+// The escape of a byte between two of these quotes.
 #[tactic(auto, unfolding(crate::specs::Escapes::escape_of))]
 fn escape_of(quote: Quote, byte: u8) -> Option<&'static str>
     ensures { option_copied result ≡ escape_of (quote_code quote) byte }
@@ -41,7 +41,7 @@ fn escape_of(quote: Quote, byte: u8) -> Option<&'static str>
     }
 }
 
-/// Appends a text with its escapes.
+// Appends a text with its escapes.
 fn push_escaped(out: &mut Text, text: &str, quote: Quote) -> Result<(), Memory>
     ensures { Appends result out.old out.new (flat_map (escaped (quote_code quote)) text.now) }
 {
@@ -65,7 +65,7 @@ pub fn push_quoted(out: &mut Text, text: &str, quote: Quote) -> Result<(), Memor
     push(out, quote_mark(quote))
 }
 
-/// Whether a byte stands for itself in a byte text.
+// Whether a byte stands for itself in a byte text.
 #[tactic(auto, unfolding(crate::specs::Escapes::byte_escape_of))]
 fn is_bare(byte: u8) -> bool
     ensures { IsTrue result ↔ (byte_escape_of byte ≡ None) }
@@ -73,7 +73,7 @@ fn is_bare(byte: u8) -> bool
     escape_of(Quote::Double, byte).is_none() && matches!(byte, 0x20..=0x7e)
 }
 
-/// Appends the escape of a byte of a byte text.
+// Appends the escape of a byte of a byte text.
 #[tactic(auto, unfolding(crate::specs::Escapes::byte_escape_of))]
 fn push_byte_escape(out: &mut Text, byte: u8) -> Result<(), Memory>
     requires { byte_escape_of byte ≢ None }
@@ -86,7 +86,7 @@ fn push_byte_escape(out: &mut Text, byte: u8) -> Result<(), Memory>
     push_digits(out, u128::from(byte), 16, false, 2)
 }
 
-/// Appends bytes with their escapes.
+// Appends bytes with their escapes.
 fn push_escaped_bytes(out: &mut Text, bytes: &[u8]) -> Result<(), Memory>
     ensures { Appends result out.old out.new (flat_map byte_escaped bytes.now) }
 {

@@ -3,6 +3,8 @@
 //! Each `show_` function appends the printed text of a value to a `Text`. The texts are those of Rust's formatting
 //! wherever a hint is one of Rust's too. Under `Memory`, want of memory, the `Text` holds what it held, followed by a
 //! front of that text.
+//!
+//! So `{=u128:#04x}` prints 10 as `0x0a`, and `{=char:?}` a quote as `'\''` (text_tests, `hints`).
 #![tactic(auto)]
 
 mod bytes;

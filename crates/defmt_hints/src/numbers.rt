@@ -66,7 +66,7 @@ pub fn push_radix(
     )
 }
 
-/// Appends a value divided by a unit, with as many digits after the point as the unit has zeros.
+// Appends a value divided by a unit, with as many digits after the point as the unit has zeros.
 fn push_fraction(out: &mut Text, value: u128, unit: u64, places: u8) -> Result<(), Memory>
     requires some { 0 < places }
     requires unit { unit ≡ 10 ^ places }
@@ -98,7 +98,7 @@ pub fn show_uint(value: u128, hint: &Hint, out: &mut Text) -> Result<(), Memory>
     }
 }
 
-/// The greatest number of as many bits as the size has.
+// The greatest number of as many bits as the size has.
 fn greatest(size: IntSize) -> u128
     ensures { result + 1 ≡ 2 ^ size_bits size }
 {
@@ -111,7 +111,7 @@ fn greatest(size: IntSize) -> u128
     }
 }
 
-/// The two's complement of a value in its own width.
+// The two's complement of a value in its own width.
 fn twos_complement(value: i128, size: IntSize) -> u128
     requires { IsSigned (size_bits size) value }
     ensures { result ≡ twos_complement (size_bits size) value }
@@ -124,7 +124,7 @@ fn twos_complement(value: i128, size: IntSize) -> u128
     }
 }
 
-/// Appends a signed value in decimal.
+// Appends a signed value in decimal.
 fn push_signed(out: &mut Text, value: i128) -> Result<(), Memory>
     ensures { Appends result out.old out.new (signed_text value) }
 {

@@ -1,4 +1,4 @@
-// The real outside. What a reader gives, a writer takes and a file holds is trusted.
+//! The real outside. What a reader gives, a writer takes and a file holds is trusted.
 ghost use Rattle.std.specs.Prelude.{◌≡◌, ◌≤◌, ◌<◌, ◌⊎◌, length, Ok, IfOk, OnErr, None, if◌then◌else◌};
 ghost use Rattle.std.specs.Result.{is_err};
 ghost use Rattle.std.specs.Io.{ReadsAtMost, WritesAtMost};

@@ -1,3 +1,4 @@
+//! Lists of bytes with a reserved room.
 ghost use Rattle.std.specs.Prelude.{◌≡◌, ◌↔◌, ◌+◌, ◌-◌, ◌<◌, ◌≤◌, [], ◌∷◌, ◌++◌, length, take, max, IsTrue, IsOk, IfOk, OnOk, OnErr};
 
 use crate::Memory;

@@ -1,3 +1,4 @@
+//! Why a call to the outside, or for memory, gives nothing.
 use std::alloc::{AllocError, AllocFailed};
 
 /// A fault of the outside: a read, write or fetch didn't work.

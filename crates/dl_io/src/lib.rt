@@ -1,5 +1,8 @@
 //! The outside as traits: a source of bytes, a sink and a shelf of files, each with a count of its
 //! faults, with forms in memory for tests and with adapters over std.
+//!
+//! They stand for std's `Read`, `Write` and files. So a `MemSource` of `hello` whose read 0 fails refuses the first `read_all`
+//! with one fault counted, and gives `hello` to the next (ring_tests, `streams`).
 #![tactic(auto)]
 
 mod adapters;

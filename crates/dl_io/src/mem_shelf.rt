@@ -1,3 +1,4 @@
+//! Files in memory, for tests.
 ghost use Rattle.std.specs.Prelude.{◌≡◌, ◌⊎◌, ◌↔◌, ◌-◌, ◌≤◌, ℕ, List, length, min, take, drop, Some, None, IsErr, IfOk, OnErr, OnOk};
 ghost use Rattle.std.specs.Option.{option_copied};
 ghost use Rattle.std.specs.Io.{ReadsAtMost};

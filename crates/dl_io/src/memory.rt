@@ -1,4 +1,4 @@
-// Sources, a sink and a shelf in memory, whose failing calls are listed.
+//! Sources, a sink and a shelf in memory, whose failing calls are listed.
 ghost use Rattle.std.specs.Prelude.{◌≡◌, ◌⊎◌, ◌↔◌, ◌+◌, ◌-◌, ◌<◌, ◌≤◌, [], length, min, replicate, Some, Ok, IsErr, IfOk, OnErr};
 ghost use Rattle.std.specs.Result.{is_err};
 ghost use Rattle.std.specs.Io.{ReadsAtMost, WritesAtMost};

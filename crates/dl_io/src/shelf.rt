@@ -1,3 +1,4 @@
+//! Files by their names.
 ghost use Rattle.std.specs.Prelude.{◌≡◌, ◌≤◌, ◌⊎◌, ℕ, List, Option, OnErr};
 ghost use Rattle.std.specs.Io.{ReadsAtMost};
 ghost use Rattle.dl_io.specs.Outside.{Rose, Fetches, Lacks};

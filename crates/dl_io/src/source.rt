@@ -1,3 +1,4 @@
+//! What bytes come from.
 ghost use Rattle.std.specs.Prelude.{◌≡◌, ℕ, List, Option, OnErr};
 ghost use Rattle.std.specs.Io.{ReadsAtMost};
 ghost use Rattle.std.specs.Io.KnownBytes.{ReadConsumes};

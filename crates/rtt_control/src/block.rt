@@ -1,3 +1,4 @@
+//! Control blocks and their descriptors.
 ghost use Rattle.std.specs.Prelude.{◌≡◌, ◌↔◌, [], ◌∷◌, ◌++◌, length, IsTrue, OnOk, OnErr};
 
 use dl_io::Memory;

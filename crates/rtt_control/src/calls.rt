@@ -1,3 +1,4 @@
+//! A control block found, read and written, and the bytes that wait in a buffer.
 ghost use Rattle.std.specs.Prelude.{◌≡◌, ◌+◌, ◌*◌, ◌-◌, ◌<◌, ◌≤◌, ◌^◌, ◌%◌, ◌++◌, length, Ok, Err, IfOk, OnOk, OnErr, IfErr, All};
 ghost use Rattle.rtt_control.specs.Layout.{IsWords, block_bytes, block_len, block_of, descriptors_at, round, waiting, with_bytes};
 ghost use Rattle.rtt_control.specs.Checks.{HasBlock, HasId, HasSpace, IsFirstRefusal, IsRefusal, Passes, read_subject, unread_subject, write_subject};

@@ -1,3 +1,4 @@
+//! Why an image or a block is refused.
 use dl_io::Memory as NoMemory;
 
 /// Why a call refuses.

@@ -3,6 +3,9 @@
 //!
 //! An image is a slice of bytes with a base address, the address of its first byte. The place of an
 //! address in the image is the address less the base.
+//!
+//! The layout is that of `SEGGER_RTT_CB`. A block with one up-buffer of 16 bytes at 0x20000030, WrOff 2 and RdOff 14, whose
+//! buffer begins `7e 00` and ends `00 01`, has the bytes `00 01 7e 00` waiting (ring_tests, `blocks`).
 #![tactic(auto)]
 
 mod block;

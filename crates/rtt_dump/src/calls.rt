@@ -1,3 +1,4 @@
+//! The segments of an image, and the bytes of a buffer in it.
 ghost use Rattle.std.specs.Prelude.{◌≡◌, ◌≤◌, ◌<◌, ◌^◌, length, map, None, IfOk, IfErr, OnOk, All};
 ghost use Rattle.rtt_dump.specs.Answers.{refusal};
 ghost use Rattle.rtt_dump.specs.Checks.{FilePasses, IsDumpFault, IsFileFault, Passes};

@@ -1,3 +1,4 @@
+//! Why an image gives no segments, or no bytes.
 use dl_io::Memory as NoMemory;
 use rtt_control::ControlFault;
 use std::alloc::AllocFailed;

@@ -1,3 +1,4 @@
+//! A part of a target's memory.
 use dl_io::Bytes;
 
 /// A part of a target's memory.

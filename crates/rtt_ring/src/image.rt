@@ -9,7 +9,7 @@ use std::alloc::{AllocError, Global};
 /// The target address of the image.
 pub const IMAGE_BASE: u32 = 0x2000_0000;
 
-// Where the buffer begins.
+/// Where the buffer begins.
 pub const BUFFER: usize = 48;
 
 /// An image with the block of an empty ring.

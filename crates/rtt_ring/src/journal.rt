@@ -25,7 +25,7 @@ pub struct Traffic {
     pub down_looks: u64,
 }
 
-// The word may hold any number, since nothing is read off it.
+/// The word may hold any number, since nothing is read off it.
 pub struct AnyWord;
 
 impl<S> TableRule<S, Traffic, ()> for AnyWord {

@@ -6,6 +6,9 @@
 //!
 //! [`PlainRing`] is a ring of one owner whose bytes lie in a memory image, behind an RTT control block. [`QueueRing`] and
 //! [`WordRing`] are rings whose ends go to two threads, over a queue and over a table of atomic words.
+//!
+//! The offsets are those of an up-buffer (SEGGER RTT): equal ones mean that nothing waits, so a ring of 16 has room for 15
+//! bytes, whatever it is made of (ring_tests, `rings`).
 #![tactic(auto)]
 
 mod ends;

@@ -1,4 +1,4 @@
-// The digits of terminals.
+//! The digits of terminals.
 ghost use Rattle.std.specs.Prelude.{◌≡◌, ◌<◌, IfSome};
 ghost use Rattle.rtt_terminal.specs.Stream.{digit};
 ghost use Rattle.rtt_terminal.specs.Reading.{terminal_named, terminal_of};

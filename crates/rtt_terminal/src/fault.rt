@@ -1,4 +1,4 @@
-// Why bytes weren't read.
+//! Why bytes weren't read.
 ghost use Rattle.std.specs.Prelude.{◌≡◌};
 ghost use Rattle.rtt_terminal.specs.Cause.{number_of};
 ghost use Rattle.rtt_terminal.specs.declared.fault.TermFault.TheVariants.{Memory as OutOfMemory};

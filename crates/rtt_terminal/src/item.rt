@@ -1,4 +1,4 @@
-// What a stream is made of.
+//! What a stream is made of.
 ghost use Rattle.std.specs.Prelude.{◌≡◌, ◌<◌, ◌∷◌, length};
 ghost use Rattle.rtt_terminal.specs.Stream.{LacksMark};
 ghost use Rattle.rtt_terminal.specs.Reading.{Takes, up_to_newline, from_newline};

@@ -5,6 +5,8 @@
 //! line may begin. [`speak`] writes one line, with a switch in front where the terminal changes, and [`read_terminals`]
 //! gives each terminal its lines. [`is_sayable`] tells which texts may be written. A [`Speech`] has what eight writers are
 //! to say.
+//!
+//! So `ff 41 74 69 63 6b 0a` switches to the terminal 10 and gives it the line `tick` (terminal_tests, `terminals`).
 #![tactic(auto)]
 
 mod digit;

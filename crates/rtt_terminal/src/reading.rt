@@ -1,4 +1,4 @@
-// A stream as lines for terminals.
+//! A stream as lines for terminals.
 ghost use Rattle.std.specs.Prelude.{◌<◌, ◌^◌, ℕ, List, length};
 ghost use Rattle.rtt_terminal.specs.declared.fault.Cause.{Cause as AnyCause};
 ghost use Rattle.rtt_terminal.specs.Stream.{Shows, HasFault};

@@ -1,4 +1,4 @@
-// Which texts may be spoken.
+//! Which texts may be spoken.
 ghost use Rattle.std.specs.Prelude.{◌≡◌, ◌↔◌, IsTrue};
 ghost use Rattle.std.specs.List.{list_all};
 ghost use Rattle.rtt_terminal.specs.Sayable.{is_plain, is_sayable};

@@ -1,4 +1,4 @@
-// A text that a writer has to say, and all that one writer has to say.
+//! A text that a writer has to say, and all that one writer has to say.
 ghost use Rattle.std.specs.Prelude.{◌≡◌, ◌∷◌, ◌++◌, [], IfOk, OnErr, OnOk};
 ghost use Rattle.rtt_terminal.specs.Speech.{saying};
 

@@ -1,4 +1,4 @@
-// The texts of one terminal.
+//! The texts of one terminal.
 ghost use Rattle.std.specs.Prelude.{◌≡◌, ◌<◌, [], ◌∷◌, ◌++◌, length, OnOk, OnErr, slice_get, Some};
 
 use dl_io::Memory;

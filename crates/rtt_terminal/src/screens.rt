@@ -1,4 +1,4 @@
-// The texts of all terminals.
+//! The texts of all terminals.
 ghost use Rattle.std.specs.Prelude.{◌≡◌, ◌<◌, ◌+◌, ◌^◌, [], length, IfOk, OnOk, slice_get, Some};
 ghost use Rattle.rtt_terminal.specs.Stream.{screens, screen_at, with_text};
 

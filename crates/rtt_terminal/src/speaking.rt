@@ -1,4 +1,4 @@
-// One line for a terminal.
+//! One line for a terminal.
 ghost use Rattle.std.specs.Prelude.{◌≡◌, ◌<◌, ◌≤◌, ◌+◌, ◌++◌, length, drop};
 ghost use Rattle.rtt_terminal.specs.Stream.{switch, line_bytes, IsSayable};
 ghost use Rattle.rtt_terminal.specs.Writing.{with_bytes};

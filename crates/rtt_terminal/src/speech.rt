@@ -1,4 +1,4 @@
-// What eight writers have to say.
+//! What eight writers have to say.
 ghost use Rattle.std.specs.Prelude.{◌≡◌, ◌<◌, IfOk, OnErr, OnOk, Some, slice_get};
 ghost use Rattle.std.specs.Option.{option_copied};
 ghost use Rattle.rtt_terminal.specs.Speech.{CanBeSaid, IsSpeech, count_said, count_texts, said_by, saying, silence, texts_limit, with_saying};

@@ -1,3 +1,4 @@
+//! A piece read as a code, from its end.
 ghost use Rattle.std.specs.Prelude.{◌≡◌, ◌≢◌, ◌+◌, ◌*◌, ◌-◌, ◌<◌, ◌≤◌, ℕ, length, take, drop, All, IfOk, IsErr, MatchOption, MatchBool, slice_index, ◌++◌, ◌∷◌, []};
 ghost use Rattle.rzcobs_core.specs.Blocks.{Blocks, IsNoCode, zero_bits, nonzero};
 ghost use Rattle.rzcobs_core.specs.Reading.{clear_bits, ReadsRun, ReadsLast, EndsInNoBlock, EndsInZero};

@@ -1,3 +1,4 @@
+//! A code written byte by byte.
 ghost use Rattle.std.specs.Prelude.{◌≡◌, ◌+◌, ◌<◌, ◌≤◌, [], ◌∷◌, ◌++◌, ℕ, List, length, take};
 ghost use Rattle.rzcobs_core.specs.Canon.{canon, bound_of};
 ghost use Rattle.rzcobs_core.specs.Encodes.{Gathers};

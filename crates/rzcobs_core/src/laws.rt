@@ -1,3 +1,4 @@
+//! Laws of codes.
 ghost use Rattle.std.specs.Prelude.{◌≡◌, ◌≢◌, ◌*◌, ◌<◌, ◌≤◌, ℕ, List, length, ◌++◌, replicate, All};
 ghost use Rattle.rzcobs_core.specs.Blocks.{Blocks};
 ghost use Rattle.rzcobs_core.specs.Canon.{canon, bound_of};

@@ -9,6 +9,8 @@
 //! | `01` to `7f` | one for each clear bit of its lowest seven | seven bytes, the byte `i` zero where the bit `i` is set |
 //! | `80` to `fe` | 7 to 133, as many as its lowest seven bits and 7 | these, then one zero |
 //! | `ff` | 134 | these |
+//!
+//! The message `01 00` has the code `01 7e`, which stands for `01 00` and five zeros (wire_tests, `codes`).
 #![tactic(auto)]
 
 mod decoder;

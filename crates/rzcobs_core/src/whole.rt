@@ -1,3 +1,4 @@
+//! The code of a whole message.
 ghost use Rattle.std.specs.Prelude.{◌≡◌, ◌≤◌, [], length, take, drop};
 ghost use Rattle.rzcobs_core.specs.Canon.{canon, bound_of};
 ghost use Rattle.rzcobs_core.specs.Encoder.{Holds, GoesOn, SameBuffer, buffer_of};
