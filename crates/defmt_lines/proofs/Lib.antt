@@ -1,6 +1,7 @@
 pub mod FormLaws
 mod LineCuts
 pub mod LineLaws
+mod FrontLaws
 mod Marks
 mod NumberLaws
 mod Numbers

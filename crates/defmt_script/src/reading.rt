@@ -1,7 +1,8 @@
 //! A script of which some lines are read.
 ghost use Rattle.std.specs.Prelude.{◌≡◌, Ok, OnOk, IfOk, true};
 ghost use Rattle.defmt_lines.specs.Form.{in_order};
-ghost use Rattle.defmt_lines.specs.LineView.{line_view};
+ghost use Rattle.defmt_lines.specs.Line.{head};
+ghost use Rattle.defmt_lines.specs.LineView.{line_view, words_view};
 ghost use Rattle.defmt_lines.specs.declared.settings.Settings.{Settings as AnySettings};
 ghost use Rattle.defmt_script.specs.Answers.{Becomes, TakesLine};
 ghost use Rattle.defmt_script.specs.Reads.{sets};
@@ -13,7 +14,7 @@ use crate::fault::LineFault;
 use crate::parts::{entry_of, no_statements, no_texts, put_entry};
 use crate::script::{Script, Statements};
 use defmt_intern::{Table, Tag};
-use defmt_lines::{Cause, Form, Line, Settings};
+use defmt_lines::{Cause, Form, Line, Settings, Words};
 use defmt_spelling::Names;
 use dl_io::Memory;
 use rtt_terminal::Speech;
@@ -97,14 +98,20 @@ impl Reading {
     {
         match line {
             Line::Blank => Ok(()),
-            Line::Head(form, words) => {
-                let settings = self.settings.with_words(form, words);
-                self.set(form, settings)
-            }
+            Line::Head(form, words) => self.take_setting(form, words),
             Line::Entry(line) => self.take_string(line),
             Line::Act(form, line) => self.take_action(form, line),
             Line::Other => Err(LineFault::Refused(Cause::Line)),
         }
+    }
+
+    // Takes a line that sets something. It isn't inlined, since settings are large and few lines set something.
+    #[inline(never)]
+    fn take_setting(&mut self, form: Form, words: Words<'_>) -> Result<(), LineFault>
+        ensures { TakesLine self.old (head form (words_view words.entry)) result self.new }
+    {
+        let settings = self.settings.with_words(form, words);
+        self.set(form, settings)
     }
 
     // Takes the settings of a line of this form.

@@ -1,6 +1,9 @@
 -- Quick values, and the front of a text that has one.
-use Rattle.std.proofs.Common.{◌≡◌, ◌<◌, ◌^◌, ℕ, Bool, List, Ok, Some, refl, sym, ap, subst, ◌∙◌, length}
+use Rattle.std.proofs.lemmas.Bool.{lt-ltb}
+use Rattle.std.proofs.Common.{◌≡◌, ◌<◌, ◌%◌, ◌^◌, ◌+◌, arith, ℕ, Bool, List, Ok, refl, sym, ap, subst, ◌∙◌}
 use Rattle.defmt_grammar.specs.Cut.{skip_spaces}
+use Rattle.defmt_grammar.specs.Sizes.{size_bits}
+use Rattle.defmt_grammar.specs.declared.kind.IntSize.{IntSize}
 use Rattle.defmt_grammar.specs.declared.kind.Kind.TheVariants as kinds
 use Rattle.defmt_grammar.specs.declared.slot.Slot.{Slot}
 use Rattle.defmt_grammar.specs.declared.slot.Slot.TheVariants as slots
@@ -11,9 +14,9 @@ use Rattle.defmt_spelling.proofs.Arms.{decimal_scan}
 use Rattle.defmt_spelling.specs.Leaves.{decimal_cause, sum_or}
 use Rattle.defmt_spelling.specs.Meaning.{decimal_at, negated, meant_val}
 use Rattle.defmt_spelling.specs.Names.{NameMap}
-use Rattle.defmt_spelling.specs.Quick.{IsQuick}
+use Rattle.defmt_spelling.specs.Quick.{Appended, IsQuick}
 use Rattle.defmt_spelling.specs.Reading.{Front}
-use Rattle.defmt_values.specs.Plain.{Val, int, flag, str, bytes}
+use Rattle.defmt_values.specs.Plain.{Val, Vals, snoc, bits, uint, int, flag, str, bytes}
 use Rattle.defmt_values.specs.Scan.{int_cause, scan_val}
 
 pub decimal_quick : (slot : Slot) (text rest : List ℕ) (n : ℕ) (v : Val) → HeadShape text (shapes.decimal n) rest → v ≡ decimal_at slot n → decimal_cause slot n ≡ Ok tt → IsQuick slot text v rest
@@ -25,6 +28,24 @@ decimal_quick slot text rest n v head is fits = record {
   fits = λ t left weight sum.
       ap (λ (x : Val). scan_val t left slot weight sum x) is ∙ decimal_scan t left weight sum slot n ∙ ap (λ cause. sum_or cause sum) fits;
 }
+
+pub uint_quick : (size : IntSize) (text rest : List ℕ) (n : ℕ) → HeadShape text (shapes.decimal n) rest → n < 2 ^ size_bits size → IsQuick (slots.One (kinds.Uint size)) text (uint n) rest
+uint_quick size text rest n head small =
+    decimal_quick (slots.One (kinds.Uint size)) text rest n (uint n) head refl (rw (lt-ltb n (2 ^ size_bits size) small) refl)
+
+pub uint_appended : (size : IntSize) (text rest : List ℕ) (n m : ℕ) (old new : Vals) → HeadShape text (shapes.decimal n) rest → n < 2 ^ size_bits size → m ≡ n → new ≡ snoc old (uint m)
+    → Appended (slots.One (kinds.Uint size)) text old new rest
+uint_appended size text rest n m old new head small e is = record { value = uint n; is = is ∙ ap (λ (k : ℕ). snoc old (uint k)) e; quick = uint_quick size text rest n head small }
+
+pub bits_quick : (width : ℕ) (text rest : List ℕ) (n : ℕ) → HeadShape text (shapes.decimal n) rest → n < 256 ^ width → IsQuick (slots.Bits 0 width) text (bits n) rest
+bits_quick width text rest n head small =
+    let none : n % 1 ≡ 0 = omega arith in
+    let same : width ≡ 0 + width = omega arith in
+    let within : n < 256 ^ (0 + width) = subst (λ (k : ℕ). n < 256 ^ k) same small in
+    decimal_quick (slots.Bits 0 width) text rest n (bits n) head refl (rw (lt-ltb n (256 ^ (0 + width)) within, none) refl)
+
+pub bits_appended : (width : ℕ) (text rest : List ℕ) (n m : ℕ) (old new : Vals) → HeadShape text (shapes.decimal n) rest → n < 256 ^ width → m ≡ n → new ≡ snoc old (bits m) → Appended (slots.Bits 0 width) text old new rest
+bits_appended width text rest n m old new head small e is = record { value = bits n; is = is ∙ ap (λ (k : ℕ). snoc old (bits k)) e; quick = bits_quick width text rest n head small }
 
 pub negative_quick : (slot : Slot) (text rest : List ℕ) (n : ℕ) (v : Val) → HeadShape text (shapes.negative n) rest → v ≡ int (negated n) → int_cause slot (negated n) ≡ Ok tt → IsQuick slot text v rest
 unfolding meant_val scan_val

@@ -1,15 +1,17 @@
 //! The values that scripts mostly have, read by their slot. Where no value is answered, the general reader is asked.
-ghost use Rattle.std.specs.Prelude.{◌≡◌, IfOk, IfSome};
+ghost use Rattle.std.specs.Prelude.{◌≡◌, ◌<◌, ◌^◌, IfOk, IfSome};
+ghost use Rattle.std.specs.Bool.{OnTrue};
 ghost use Rattle.std.specs.Str.{IsUtf8};
+ghost use Rattle.defmt_grammar.specs.Sizes.{size_bits};
 ghost use Rattle.defmt_grammar.specs.Slots.{IsSound};
-ghost use Rattle.defmt_spelling.specs.Quick.{IsQuick};
+ghost use Rattle.defmt_spelling.specs.Quick.{Appends, IsQuick};
 ghost use Rattle.defmt_values.specs.View.{plain};
 
 use crate::leaves::{decimal_value, negative_value};
-use defmt_grammar::{Kind, Slot, Text};
+use defmt_grammar::{IntSize, Kind, Slot, Text};
 use defmt_quick::{quick_bytes, quick_decimal, quick_flag, quick_negative, quick_quoted};
 use defmt_shapes::Number;
-use defmt_values::Value;
+use defmt_values::{Args, Value};
 use dl_io::Memory;
 use std::alloc::Global;
 
@@ -75,11 +77,8 @@ fn bytes(alloc: Global, text: &str) -> Result<Option<(Value, &str)>, Memory>
     Ok(Some((Value::Bytes(bytes), rest)))
 }
 
-/// The value of a slot that the text begins with, and what follows it, where it is one that most scripts have.
-///
-/// # Errors
-/// `Memory` where memory runs out.
-pub fn quick_value(alloc: Global, slot: Slot, text: &str) -> Result<Option<(Value, &str)>, Memory>
+// The value of a slot that the text begins with, and what follows it, where it is one that most scripts have.
+fn quick_value(alloc: Global, slot: Slot, text: &str) -> Result<Option<(Value, &str)>, Memory>
     requires { IsSound slot }
     ensures value { IfOk result
         (λ o. IfSome o (λ p. IsQuick slot text.now (plain p.0) p.1.now)) }
@@ -92,4 +91,92 @@ pub fn quick_value(alloc: Global, slot: Slot, text: &str) -> Result<Option<(Valu
         Slot::One(Kind::Bytes) => bytes(alloc, text),
         _ => Ok(None),
     }
+}
+
+/// Appends the value of a slot that the text begins with, where it is one that most scripts have, and answers what follows it.
+///
+/// # Errors
+/// `Memory` where memory runs out.
+pub fn push_quick<'a>(
+    alloc: Global,
+    slot: Slot,
+    text: &'a str,
+    args: &mut Args,
+) -> Result<Option<&'a str>, Memory>
+    requires { IsSound slot }
+    ensures value { IfOk result (λ o. Appends slot text.now args.old args.new o) }
+    ensures utf8 { IfOk result (λ o. IfSome o (λ rest. IsUtf8 rest.now)) }
+{
+    if let Slot::One(Kind::Uint(size)) = slot {
+        return push_uint(size, text, args);
+    }
+    if let Slot::Bits { first: 0, width } = slot {
+        return push_bits(width, text, args);
+    }
+    let Some((value, rest)) = quick_value(alloc, slot, text)? else {
+        return Ok(None);
+    };
+    args.push(value)?;
+    Ok(Some(rest))
+}
+
+// Whether a number is one of an unsigned kind of this size.
+fn is_of_size(number: u64, size: IntSize) -> bool
+    ensures { OnTrue result (number < 2 ^ size_bits size) }
+{
+    match size {
+        IntSize::W8 => number <= 0xff,
+        IntSize::W16 => number <= 0xffff,
+        IntSize::W32 | IntSize::Native => number <= 0xffff_ffff,
+        IntSize::W64 | IntSize::W128 => true,
+    }
+}
+
+// The same of an unsigned number of this size.
+fn push_uint<'a>(
+    size: IntSize,
+    text: &'a str,
+    args: &mut Args,
+) -> Result<Option<&'a str>, Memory>
+    ensures value { IfOk result
+        (λ o. Appends (Slot.One (Kind.Uint size)) text.now args.old args.new o) }
+    ensures utf8 { IfOk result (λ o. IfSome o (λ rest. IsUtf8 rest.now)) }
+{
+    let Some((number, rest)) = quick_decimal(text) else {
+        return Ok(None);
+    };
+    if !is_of_size(number, size) {
+        return Ok(None);
+    }
+    args.push(Value::Uint(u128::from(number)))?;
+    Ok(Some(rest))
+}
+
+// Whether a number has at most so many bytes. It isn't said of some numbers.
+fn is_of_bytes(number: u64, bytes: u8) -> bool
+    ensures { OnTrue result (number < 256 ^ bytes) }
+{
+    match bytes {
+        1 => number <= 0xff,
+        2 => number <= 0xffff,
+        4 => number <= 0xffff_ffff,
+        8 => true,
+        _ => false,
+    }
+}
+
+// The same of a number of bit fields, whose lowest byte is sent.
+fn push_bits<'a>(width: u8, text: &'a str, args: &mut Args) -> Result<Option<&'a str>, Memory>
+    ensures value { IfOk result
+        (λ o. Appends (Slot.Bits 0 width) text.now args.old args.new o) }
+    ensures utf8 { IfOk result (λ o. IfSome o (λ rest. IsUtf8 rest.now)) }
+{
+    let Some((number, rest)) = quick_decimal(text) else {
+        return Ok(None);
+    };
+    if !is_of_bytes(number, width) {
+        return Ok(None);
+    }
+    args.push(Value::Bits(u128::from(number)))?;
+    Ok(Some(rest))
 }

@@ -21,7 +21,7 @@ use crate::leaves::{
     istr_value, negative_value, str_value,
 };
 use crate::names::Names;
-use crate::quick::quick_value;
+use crate::quick::push_quick;
 use defmt_grammar::{Kind, Pieces, Slot};
 use defmt_intern::{Parsed, Table};
 use defmt_shapes::{Number, Spelling, first_item, first_value, skip_spaces};
@@ -319,12 +319,18 @@ fn read_values(
     ensures value { ReadsValues names.now table.now.entries left weight (places_of pieces.now) sum text.now result }
     ensures small { SmallValue result }
 {
-    let mut args = Args::new(alloc);
     let mut slots = pieces.slots();
+    let mut args = Args::with_room(alloc, slots.len())?;
     let mut position = 0u8;
     let mut total = sum;
     let mut rest = text;
     'each: while let Some((slot, others)) = cut(slots) {
+        if let Some(after) = push_quick(alloc, *slot, skip_spaces(rest), &mut args)? {
+            slots = others;
+            position += 1;
+            rest = after;
+            continue 'each;
+        }
         let weight_there = pieces.uses(position).saturating_mul(weight);
         let (value, next, after) = read_front(
             alloc,
@@ -370,9 +376,6 @@ fn read_front<'a>(
     let text = skip_spaces(text);
     if text.is_empty() {
         return Err(Cause::Count.into());
-    }
-    if let Some((value, rest)) = quick_value(alloc, slot, text)? {
-        return Ok((value, sum, rest));
     }
     let Some((spelling, rest)) = first_value(alloc, text)? else {
         return Err(Cause::Syntax.into());

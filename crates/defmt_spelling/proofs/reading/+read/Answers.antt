@@ -5,10 +5,11 @@ use Rattle.defmt_spelling.proofs.Exits as exits
 use Rattle.defmt_spelling.proofs.Loops as loops
 use Rattle.std.specs.Prelude.{IfSome}
 use Rattle.std.specs.Str.{IsUtf8}
-use Rattle.std.proofs.Common.{Ok, Err, subst, Option, List, ℕ, Bor}
+use Rattle.std.proofs.Common.{◌≡◌, ◌*◌, ◌^◌, ◌-◌, Ok, Err, subst, ap, min, refl, arith, Option, List, ℕ, Bor}
 use Rattle.defmt_spelling.proofs.QuickLaws.{quick_front}
-use Rattle.defmt_spelling.specs.Quick.{IsQuick}
-use Rattle.defmt_values.specs.declared.value.Value.{Value}
+use Rattle.defmt_grammar.specs.Slots.{uses_at}
+use Rattle.defmt_spelling.specs.Quick.{Appends}
+use Rattle.defmt_values.specs.Plain.{Vals, snoc}
 use Rattle.defmt_shapes.specs.Spelling.{IsValue}
 use Rattle.defmt_spelling.proofs.Firsts.{one_head, one_item}
 use Rattle.defmt_spelling.specs.Meaning.{index_of}
@@ -63,15 +64,10 @@ read_list-returns-clause-value t c = λ items n s.
     exits.list_end c.args.names.now c.args.table.now.entries c.args.left c.args.weight c.args.sum c.args.slot c.args.name.now c.args.inside.now items n s c.in_ok-index.index c.in_ok-index.form.now c.in_ok-items.items c.in_ok-items.sum c.len.result c.in_ok-check_list.ensures c.in_ok-index.ensures.form
     (c.in_ok-items.ensures.value (index_of c.args.names.now c.args.name.now) items (arms.form_there c.args.table.now.entries c.args.left _ c.in_ok-index.form.now c.in_ok-index.ensures.form.1) s) c.len.ensures c.in_ok-check_count.ensures
 
-pub read_front-returns-in-Some-clause-value : goal.read_front-returns-in-Some-clause-value
-read_front-returns-in-Some-clause-value t c =
-    quick_front c.args.names.now c.args.table.now.entries c.args.left c.args.slot c.args.weight c.args.sum c.args.text.now c.skip_spaces-text.result.now (plain c.in-Some.value) c.in-Some.rest.now c.skip_spaces-text.ensures.rest
-    (subst (λ (o : Option (Value × Bor (List ℕ))). IfSome o (λ p. IsQuick c.args.slot c.skip_spaces-text.result.now (plain p.0) p.1.now)) c.in-Some.is c.in_ok-value.ensures.value)
-
-pub read_front-returns-in_default-2-clause-value : goal.read_front-returns-in_default-2-clause-value
-read_front-returns-in_default-2-clause-value t c =
-    rw c.into-in_default-2.ensures (loops.front_unspelled c.args.names.now c.args.table.now.entries c.args.left c.args.slot c.args.weight c.args.sum c.args.text.now c.skip_spaces-text.result.now c.skip_spaces-text.ensures.rest c.if-is_empty.ensures
-    (subst (λ o. IsValue c.skip_spaces-text.result.now o) c.in_default-2.is c.in_ok-spelling.ensures.value))
+pub read_front-returns-in_default-clause-value : goal.read_front-returns-in_default-clause-value
+read_front-returns-in_default-clause-value t c =
+    rw c.into-in_default.ensures (loops.front_unspelled c.args.names.now c.args.table.now.entries c.args.left c.args.slot c.args.weight c.args.sum c.args.text.now c.skip_spaces-text.result.now c.skip_spaces-text.ensures.rest c.if-is_empty.ensures
+    (subst (λ o. IsValue c.skip_spaces-text.result.now o) c.in_default.is c.in_ok-spelling.ensures.value))
 
 pub read_item-returns-in_err-args-clause-value : goal.read_item-returns-in_err-args-clause-value
 read_item-returns-in_err-args-clause-value t c = λ v ss m s.
@@ -113,26 +109,46 @@ read_items-returns-clause-value t c = λ index items there s.
 
 pub read_values-returns-in_err-value-clause-value : goal.read_values-returns-in_err-value-clause-value
 read_values-returns-in_err-value-clause-value t c =
-    let p = err_from_is_err_and c.from_residual.result c.from_residual.ensures.1 in
+    let p = err_from_is_err_and c.from_residual-in_err-value.result c.from_residual-in_err-value.ensures.1 in
     rw (p.1, p.2) (loops.one_exit c.args.names.now c.args.table.now.entries c.args.left c.args.weight c.args.pieces.now (places_of c.args.pieces.now) c.args.sum c.args.text.now c.each.args c.each.position c.each.slots.now c.each.total c.each.rest.now c.each.invariant.follows
     c.in-Some.slot.now c.in-Some.others.now c.saturating_mul-weight_there.result _ c.in-Some.ensures (rw (← c.uses.ensures) c.saturating_mul-weight_there.ensures) c.in_err-value.ensures.value)
 
+pub read_values-read_front-requires : goal.read_values-read_front-requires
+read_values-read_front-requires t c = (
+  omega arith,
+  (c.each.invariant.small, loops.sound_first c.each.slots.now c.in-Some.others.now c.in-Some.slot.now c.in-Some.ensures c.each.invariant.sound),
+)
+
+pub read_values-each-preserved-in-Some-2 : goal.read_values-each-preserved-in-Some-2
+read_values-each-preserved-in-Some-2 t c =
+    let q = subst (λ (o : Option (Bor (List ℕ))). Appends c.in-Some.slot.now c.skip_spaces.result.now c.each.args c.push_quick.new.args o) c.in-Some-2.is c.in_ok-after.ensures.value in
+    let cap : ℕ = min (uses_at c.each.position c.args.pieces.now * c.args.weight) (2 ^ 64 - 1) in record {
+      small = c.each.invariant.small;
+      few = scans.few_left c.each.position c.each.slots.now c.in-Some.slot.now c.in-Some.others.now c.in-Some.ensures c.each.invariant.few;
+      utf8 = subst (λ (o : Option (Bor (List ℕ))). IfSome o (λ rest. IsUtf8 rest.now)) c.in-Some-2.is c.in_ok-after.ensures.utf8;
+      sound = loops.sound_others c.each.slots.now c.in-Some.others.now c.in-Some.slot.now c.in-Some.ensures c.each.invariant.sound;
+      follows = loops.one_done c.args.names.now c.args.table.now.entries c.args.left c.args.weight c.args.pieces.now (places_of c.args.pieces.now) c.args.sum c.args.text.now c.each.args c.each.position c.each.slots.now c.each.total c.each.rest.now c.each.invariant.follows
+          c.in-Some.slot.now c.in-Some.others.now cap q.value c.each.total c.in-Some-2.after.now c.push_quick.new.args c.in-Some.ensures refl
+          (quick_front c.args.names.now c.args.table.now.entries c.args.left c.in-Some.slot.now cap c.each.total c.each.rest.now c.skip_spaces.result.now q.value c.in-Some-2.after.now c.skip_spaces.ensures.rest q.quick) q.is;
+    }
+
 pub read_values-each-preserved : goal.read_values-each-preserved
-read_values-each-preserved t c = record {
+read_values-each-preserved t c =
+    let same : c.push_quick.new.args ≡ c.each.args = subst (λ (o : Option (Bor (List ℕ))). Appends c.in-Some.slot.now c.skip_spaces.result.now c.each.args c.push_quick.new.args o) c.in_default-2.is c.in_ok-after.ensures.value in record {
   small = c.in_ok-value.ensures.small;
   few = scans.few_left c.each.position c.each.slots.now c.in-Some.slot.now c.in-Some.others.now c.in-Some.ensures c.each.invariant.few;
   utf8 = c.in_ok-value.ensures.utf8;
   sound = loops.sound_others c.each.slots.now c.in-Some.others.now c.in-Some.slot.now c.in-Some.ensures c.each.invariant.sound;
   follows = loops.one_done c.args.names.now c.args.table.now.entries c.args.left c.args.weight c.args.pieces.now (places_of c.args.pieces.now) c.args.sum c.args.text.now c.each.args c.each.position c.each.slots.now c.each.total c.each.rest.now c.each.invariant.follows
-      c.in-Some.slot.now c.in-Some.others.now c.saturating_mul-weight_there.result (plain c.in_ok-value.value) c.in_ok-value.next c.in_ok-value.after.now c.push.new.self c.in-Some.ensures (rw (← c.uses.ensures) c.saturating_mul-weight_there.ensures) c.in_ok-value.ensures.value c.in_ok-push.ensures.ok;
+      c.in-Some.slot.now c.in-Some.others.now c.saturating_mul-weight_there.result (plain c.in_ok-value.value) c.in_ok-value.next c.in_ok-value.after.now c.push.new.self c.in-Some.ensures (rw (← c.uses.ensures) c.saturating_mul-weight_there.ensures) c.in_ok-value.ensures.value (c.in_ok-push.ensures.ok ∙ ap (λ (vs : Vals). snoc vs (plain c.in_ok-value.value)) same);
 }
 
 pub read_values-returns-then-is_empty-clause-value : goal.read_values-returns-then-is_empty-clause-value
 read_values-returns-then-is_empty-clause-value t c =
     loops.all_done c.args.names.now c.args.table.now.entries c.args.left c.args.weight c.args.pieces.now (places_of c.args.pieces.now) c.args.sum c.args.text.now c.each.args c.each.position c.each.slots.now c.each.total c.each.rest.now c.each.invariant.follows
-    c.in_default.ensures (sym c.skip_spaces.ensures.rest ∙ loops.empty_is c.skip_spaces.result.now (sym c.if-is_empty.ensures))
+    c.in_default.ensures (sym c.skip_spaces-2.ensures.rest ∙ loops.empty_is c.skip_spaces-2.result.now (sym c.if-is_empty.ensures))
 
 pub read_values-returns-else-is_empty-clause-value : goal.read_values-returns-else-is_empty-clause-value
 read_values-returns-else-is_empty-clause-value t c =
     rw c.into.ensures (loops.one_too_many c.args.names.now c.args.table.now.entries c.args.left c.args.weight c.args.pieces.now (places_of c.args.pieces.now) c.args.sum c.args.text.now c.each.args c.each.position c.each.slots.now c.each.total c.each.rest.now c.each.invariant.follows
-    c.in_default.ensures (loops.starts_is c.each.rest.now (rw (← c.skip_spaces.ensures.rest) (sym c.if-is_empty.ensures))))
+    c.in_default.ensures (loops.starts_is c.each.rest.now (rw (← c.skip_spaces-2.ensures.rest) (sym c.if-is_empty.ensures))))

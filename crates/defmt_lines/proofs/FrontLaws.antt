@@ -1,0 +1,38 @@
+-- What stands in front of most statements.
+use Rattle.std.proofs.Common.{◌≡◌, ◌<◌, ◌≤◌, ◌+◌, ℕ, zero, suc, List, [], ◌∷◌, length, get_or, drop, Option, Some, refl, arith}
+use Rattle.defmt_grammar.specs.Cut.{cut}
+use Rattle.defmt_lines.specs.Line.{Line, act, act_of, field_and_rest, worded}
+use Rattle.defmt_lines.specs.Number.{is_digits, within, writer_of}
+use Rattle.defmt_lines.specs.declared.form.Form.TheVariants as forms
+
+abbrev Text : Type 0
+Text = List ℕ
+
+-- four characters and what follows them
+pub four_parts : (text behind : Text) (a b c d : ℕ) → 4 ≤ length text → behind ≡ drop 4 text → get_or text 0 0 ≡ a → get_or text 1 0 ≡ b → get_or text 2 0 ≡ c → get_or text 3 0 ≡ d → text ≡ a ∷ b ∷ c ∷ d ∷ behind
+four_parts [] behind a b c d le is p q r s = absurd (omega (arith, le))
+four_parts (x ∷ []) behind a b c d le is p q r s = absurd (omega (arith, le))
+four_parts (x ∷ y ∷ []) behind a b c d le is p q r s = absurd (omega (arith, le))
+four_parts (x ∷ y ∷ z ∷ []) behind a b c d le is p q r s = absurd (omega (arith, le))
+four_parts (x ∷ y ∷ z ∷ u ∷ more) behind a b c d le is p q r s = rw (is, ← p, ← q, ← r, ← s) refl
+
+-- a statement of a writer of one digit
+pub said : ℕ → Text → Option Line
+said n behind = Some (act forms.Statement (Some n) (field_and_rest behind).0 (field_and_rest behind).1)
+
+by_digit : (n : ℕ) (behind : Text) → n < 8 → said n behind ≡ worded (119 ∷ 32 ∷ (48 + n) ∷ 32 ∷ behind)
+unfolding said worded cut act_of writer_of is_digits within
+by_digit zero behind lt = refl
+by_digit (suc zero) behind lt = refl
+by_digit (suc (suc zero)) behind lt = refl
+by_digit (suc (suc (suc zero))) behind lt = refl
+by_digit (suc (suc (suc (suc zero)))) behind lt = refl
+by_digit (suc (suc (suc (suc (suc zero))))) behind lt = refl
+by_digit (suc (suc (suc (suc (suc (suc zero)))))) behind lt = refl
+by_digit (suc (suc (suc (suc (suc (suc (suc zero))))))) behind lt = refl
+by_digit (suc (suc (suc (suc (suc (suc (suc (suc n)))))))) behind lt = absurd (omega (arith, lt))
+
+pub statement_said : (text behind field rest : Text) (n : ℕ) → text ≡ 119 ∷ 32 ∷ (48 + n) ∷ 32 ∷ behind → n < 8 → field ≡ (field_and_rest behind).0 → rest ≡ (field_and_rest behind).1
+    → (let o : Option Line = Some (act forms.Statement (Some n) field rest) in o ≡ worded text)
+unfolding said
+statement_said text behind field rest n is lt f r = rw (is, f, r) (by_digit n behind lt)
