@@ -1,4 +1,6 @@
-//! The spelling of a statement's arguments as text: how it is read, and how it is written.
+//! The spelling of a statement's arguments as text: how it is read, and how it is written (docs/SCRIPT.md, "Arguments").
+//!
+//! For `{=u8}` the text ` 0x1f  ` reads as 31, and nothing is refused with cause 2 (script_tests, `arguments`).
 #![tactic(auto)]
 
 mod fault;

@@ -133,11 +133,7 @@ fn is_of_size(number: u64, size: IntSize) -> bool
 }
 
 // The same of an unsigned number of this size.
-fn push_uint<'a>(
-    size: IntSize,
-    text: &'a str,
-    args: &mut Args,
-) -> Result<Option<&'a str>, Memory>
+fn push_uint<'a>(size: IntSize, text: &'a str, args: &mut Args) -> Result<Option<&'a str>, Memory>
     ensures value { IfOk result
         (λ o. Appends (Slot.One (Kind.Uint size)) text.now args.old args.new o) }
     ensures utf8 { IfOk result (λ o. IfSome o (λ rest. IsUtf8 rest.now)) }

@@ -135,13 +135,13 @@ read_values-each-preserved-in-Some-2 t c =
 pub read_values-each-preserved : goal.read_values-each-preserved
 read_values-each-preserved t c =
     let same : c.push_quick.new.args ≡ c.each.args = subst (λ (o : Option (Bor (List ℕ))). Appends c.in-Some.slot.now c.skip_spaces.result.now c.each.args c.push_quick.new.args o) c.in_default-2.is c.in_ok-after.ensures.value in record {
-  small = c.in_ok-value.ensures.small;
-  few = scans.few_left c.each.position c.each.slots.now c.in-Some.slot.now c.in-Some.others.now c.in-Some.ensures c.each.invariant.few;
-  utf8 = c.in_ok-value.ensures.utf8;
-  sound = loops.sound_others c.each.slots.now c.in-Some.others.now c.in-Some.slot.now c.in-Some.ensures c.each.invariant.sound;
-  follows = loops.one_done c.args.names.now c.args.table.now.entries c.args.left c.args.weight c.args.pieces.now (places_of c.args.pieces.now) c.args.sum c.args.text.now c.each.args c.each.position c.each.slots.now c.each.total c.each.rest.now c.each.invariant.follows
-      c.in-Some.slot.now c.in-Some.others.now c.saturating_mul-weight_there.result (plain c.in_ok-value.value) c.in_ok-value.next c.in_ok-value.after.now c.push.new.self c.in-Some.ensures (rw (← c.uses.ensures) c.saturating_mul-weight_there.ensures) c.in_ok-value.ensures.value (c.in_ok-push.ensures.ok ∙ ap (λ (vs : Vals). snoc vs (plain c.in_ok-value.value)) same);
-}
+      small = c.in_ok-value.ensures.small;
+      few = scans.few_left c.each.position c.each.slots.now c.in-Some.slot.now c.in-Some.others.now c.in-Some.ensures c.each.invariant.few;
+      utf8 = c.in_ok-value.ensures.utf8;
+      sound = loops.sound_others c.each.slots.now c.in-Some.others.now c.in-Some.slot.now c.in-Some.ensures c.each.invariant.sound;
+      follows = loops.one_done c.args.names.now c.args.table.now.entries c.args.left c.args.weight c.args.pieces.now (places_of c.args.pieces.now) c.args.sum c.args.text.now c.each.args c.each.position c.each.slots.now c.each.total c.each.rest.now c.each.invariant.follows
+          c.in-Some.slot.now c.in-Some.others.now c.saturating_mul-weight_there.result (plain c.in_ok-value.value) c.in_ok-value.next c.in_ok-value.after.now c.push.new.self c.in-Some.ensures (rw (← c.uses.ensures) c.saturating_mul-weight_there.ensures) c.in_ok-value.ensures.value (c.in_ok-push.ensures.ok ∙ ap (λ (vs : Vals). snoc vs (plain c.in_ok-value.value)) same);
+    }
 
 pub read_values-returns-then-is_empty-clause-value : goal.read_values-returns-then-is_empty-clause-value
 read_values-returns-then-is_empty-clause-value t c =
