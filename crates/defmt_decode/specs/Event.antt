@@ -17,6 +17,7 @@ use Rattle.defmt_encode.specs.Placed.{HasPlace}
 use Rattle.defmt_encode.specs.Read.{Read, message_at}
 use Rattle.defmt_decode.specs.declared.event.Event.{Event}
 use Rattle.defmt_decode.specs.declared.event.Event.TheVariants.{Line, Bad, CutFront, CutTail}
+use Rattle.defmt_decode.specs.declared.event.Mark.{Mark}
 
 -- ---- the event of a piece
 
@@ -78,6 +79,10 @@ tells t = record {
 
 abbrev pub event_of : Catalog → List ℕ → Event
 event_of t piece = of_piece (tells t) piece
+
+-- the line with this text
+abbrev pub line_with : Mark → List ℕ → Event
+line_with mark text = Line mark.index mark.place text
 
 -- ---- the events of a stream
 

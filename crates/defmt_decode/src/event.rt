@@ -42,6 +42,15 @@ pub enum Event {
     },
 }
 
+/// What a line has beside its text.
+#[derive(Clone, Copy, Debug, PartialEq, Eq)]
+pub struct Mark {
+    /// The index of its entry in the table.
+    pub index: u16,
+    /// The place of its frame: there is one exactly in profile Two.
+    pub place: Option<u16>,
+}
+
 /// A list of events.
 #[derive(Debug, Drop)]
 pub struct Events {

@@ -1,11 +1,12 @@
 //! The host.
 
 ghost use Rattle.std.specs.Prelude.{◌≡◌, ◌≤◌, ◌<◌, ◌++◌, [], None, List, ℕ, length, take, IfOk, OnErr, option_to_list};
-ghost use Rattle.defmt_decode.specs.Event.{tells, events_of, begun_of};
+ghost use Rattle.defmt_decode.specs.Event.{tells, events_of, begun_of, line_with};
+ghost use Rattle.defmt_framing.specs.Notices.{HasText, told_by};
 
-use crate::event::Event;
+use crate::event::{Event, Mark};
 use crate::reader::Reader;
-use defmt_framing::Framer;
+use defmt_framing::{Framer, Notice};
 use defmt_intern::Table;
 use dl_io::Memory;
 use std::alloc::Global;
@@ -71,6 +72,32 @@ impl Host {
         self.framer.feed(&mut self.reader, bytes)
     }
 
+    /// Does what `feed` does, but the text of a usual line is written to the front of the buffer, which grows as it has to. It
+    /// takes no memory for one, once the buffers are large enough.
+    pub fn hear(
+        &mut self,
+        bytes: &[u8],
+        text: &mut Vec<u8>,
+    ) -> Result<(usize, Notice<Event, Mark>), Memory>
+        ensures within { IfOk result (λ r. r.0 ≤ length bytes.now) }
+        // As of `feed`, with the event that the notice tells.
+        ensures hears { IfOk result (λ r. (stream : List ℕ) → Stands self.old.framing stream
+            → Hears (tells self.old.table) self.new.framing stream (take r.0 bytes.now)
+            (told_by line_with text.new.items r.1)) }
+        ensures text { IfOk result (λ r. HasText text.new.items r.1) }
+        ensures some { IfOk result (λ r. 0 < length bytes.now → 0 < r.0) }
+        ensures table { self.new.table ≡ self.old.table }
+        ensures err { OnErr result (self.new ≡ self.old) }
+    {
+        let Some((start, size)) = self.framer.whole_piece(bytes) else {
+            let (taken, event) = self.feed(bytes)?;
+            return Ok((taken, notice_of(event)));
+        };
+        let notice = self.reader.notice(&bytes[start..start + size], text)?;
+        self.framer.pass_piece::<Event>(bytes, start, size);
+        Ok((start + size + 1, notice))
+    }
+
     /// The event that the end of the stream brings: a cut front where no zero was heard and
     /// something was, a cut tail where bytes follow the last zero, else none. Takes no memory.
     pub fn finish(self) -> Option<Event>
@@ -93,5 +120,16 @@ impl Host {
         ensures { result ≡ self.now.framing.heard }
     {
         self.framer.heard_len()
+    }
+}
+
+// A notice of what was told, if something was.
+fn notice_of(event: Option<Event>) -> Notice<Event, Mark>
+    ensures told { (buffer : List ℕ) → told_by line_with buffer result ≡ event }
+    ensures text { (buffer : List ℕ) → HasText buffer result }
+{
+    match event {
+        Some(event) => Notice::Event(event),
+        None => Notice::Nothing,
     }
 }

@@ -8,6 +8,9 @@
 //!
 //! In profile Two a line has the place of its frame, and [`gap`] says how many frames are missing between two lines. [`shows`]
 //! says which of the events rules for levels and packages show, and [`Screen`] does so by a judge that is handed in.
+//!
+//! With the entry 1 `hello`, `7e 00 00 01 7e 00 09` gives a front of one byte, the line `INFO  hello` and a tail of one byte
+//! (wire_tests, `events`).
 #![tactic(auto)]
 
 mod event;
@@ -17,7 +20,7 @@ mod places;
 mod reader;
 mod screen;
 
-pub use event::{Event, Events};
+pub use event::{Event, Events, Mark};
 pub use host::Host;
 pub use laws::{
     any_cutting, cut_between_frames, cut_within_a_frame, events_by_parts, frames_read_back,

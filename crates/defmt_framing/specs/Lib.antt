@@ -5,3 +5,5 @@ pub mod Frames
 pub mod Framing
 pub mod Calls
 pub mod Decoded
+pub mod Notices
+pub mod Wholes

@@ -1,9 +1,9 @@
 //! What a piece stands for.
-ghost use Rattle.std.specs.Prelude.{◌≡◌, ◌≤◌, ◌*◌, List, ℕ, Some, None, length, take, option_map, IfSome};
+ghost use Rattle.std.specs.Prelude.{◌≡◌, ◌≤◌, ◌*◌, List, ℕ, Some, None, length, take, drop, option_map, IfSome};
 ghost use Rattle.rzcobs_core.specs.Blocks.{Blocks, IsNoCode};
 ghost use Rattle.defmt_framing.specs.Decoded.{decoded};
 
-use rzcobs_core::{Malformed, decode};
+use rzcobs_core::{Malformed, decode, decode_to_end};
 
 /// What a piece stands for as a function of it, and as a sequence of blocks, agree.
 pub fn decoded_is()
@@ -26,6 +26,20 @@ pub fn decode_piece(piece: &[u8], out: &mut [u8]) -> Option<usize>
 {
     match decode(piece, out) {
         Ok(count) => Some(count),
+        Err(Malformed) => None,
+    }
+}
+
+/// The same, but what the piece stands for is written to the end of the buffer, and where it begins
+/// is answered. The buffer may hold anything in front of that.
+#[inline(never)]
+pub fn decode_piece_to_end(piece: &[u8], out: &mut [u8]) -> Option<usize>
+    requires { 7 * length piece.now ≤ length out.old }
+    ensures decoded { decoded piece.now ≡ option_map (λ begin. drop begin out.new) result }
+    ensures within { IfSome result (λ begin. begin ≤ length out.new) }
+{
+    match decode_to_end(piece, out) {
+        Ok(begin) => Some(begin),
         Err(Malformed) => None,
     }
 }

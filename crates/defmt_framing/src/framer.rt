@@ -1,7 +1,7 @@
 //! A stream that is fed in parts, cut at its zeros.
-ghost use Rattle.std.specs.Prelude.{◌≡◌, ◌≢◌, ◌+◌, ◌-◌, ◌^◌, ◌≤◌, ◌<◌, ◌++◌, ◌∷◌, [], List, ℕ, length, take, replicate, IfOk, OnOk, OnErr, option_to_list, slice_index, true, false};
+ghost use Rattle.std.specs.Prelude.{◌≡◌, ◌≢◌, ◌+◌, ◌-◌, ◌^◌, ◌≤◌, ◌<◌, ◌++◌, ◌∷◌, [], List, ℕ, length, take, drop, replicate, IfOk, IfSome, OnOk, OnErr, option_to_list, slice_index, true, false};
 ghost use Rattle.defmt_framing.specs.Cut.{has_zero};
-ghost use Rattle.defmt_framing.specs.Told.{events, begun, of_piece};
+ghost use Rattle.defmt_framing.specs.Told.{Tells, events, begun, of_piece};
 
 use crate::places::{until_zero, zeros_in_front};
 use crate::teller::Teller;
@@ -34,6 +34,7 @@ impl Model for Framer {
 
 impl Framer {
     ghost use Rattle.defmt_framing.specs.Framing.{Stands, Hears, GoesOn};
+    ghost use Rattle.defmt_framing.specs.Wholes.{IsWhole};
 
     /// A framer that has heard nothing. Takes no memory.
     pub fn new(alloc: Global) -> Self
@@ -82,6 +83,35 @@ impl Framer {
         }
         let told = self.close(teller, skipped, run)?;
         Ok((skipped + size + 1, Some(told)))
+    }
+
+    /// Where the next piece stands in the bytes and how long it is, where nothing was heard of it yet, and the bytes have it
+    /// whole, with the zero behind it, and it has at most 65,536 bytes. Takes no memory.
+    pub fn whole_piece(&self, bytes: &[u8]) -> Option<(usize, usize)>
+        ensures { IfSome result (λ piece. IsWhole self.now bytes.now piece.0 piece.1) }
+    {
+        if self.since != 0 || !self.kept.is_empty() {
+            return None;
+        }
+        let start = zeros_in_front(bytes);
+        let (_, rest) = bytes.split_at(start);
+        let size = until_zero(rest);
+        if size == 0 || size > LONGEST || size == rest.len() || !(self.zeros | (start > 0)) {
+            return None;
+        }
+        Some((start, size))
+    }
+
+    /// Takes bytes up to and with the zero behind such a piece: that is told which the piece tells. Takes no memory.
+    pub fn pass_piece<E>(&mut self, bytes: &[u8], start: usize, size: usize)
+        requires { IsWhole self.old bytes.now start size }
+        ensures { (tells : Tells E) (stream : List ℕ) → Stands self.old stream
+            → Hears tells self.new stream (take (start + size + 1) bytes.now)
+            (Some (tells.piece (take size (drop start bytes.now)))) }
+    {
+        let (taken, _) = bytes.split_at(start + size + 1);
+        self.heard = self.heard.saturating_add(taken.len() as u64);
+        self.zeros = true;
     }
 
     /// What the end of the stream tells beyond what was answered: something of the front where no

@@ -12,13 +12,15 @@
 mod decoded;
 mod framer;
 mod laws;
+mod notice;
 mod places;
 mod teller;
 
-pub use decoded::{decode_piece, decoded_is};
+pub use decoded::{decode_piece, decode_piece_to_end, decoded_is};
 pub use framer::Framer;
 pub use laws::{
     always_laid_out, any_cutting, cut_between_frames, cut_by_places, cut_within_a_frame,
     intact_frames, messages_have_codes, without_end, without_front,
 };
+pub use notice::Notice;
 pub use teller::Teller;

@@ -1,4 +1,4 @@
-// Bytes at hand are heard.
+//! Bytes at hand are heard.
 ghost use Rattle.std.specs.Prelude.{◌≡◌, ◌≤◌, ℕ, [], Some, None, List, length, IfOk, IfErr};
 ghost use Rattle.defmt_framing.specs.Framing.{Stands};
 ghost use Rattle.defmt_listen.specs.Heard.{Reported, ToldAll, ToldFront, recording_limit};
@@ -14,7 +14,7 @@ use std::alloc::Global;
 
 /// Hears the bytes as a whole recording, and writes what the reporter prints of each event to the sink, as [`listen`] does.
 /// Answers how many events are faults. No fault comes but of the sink and for want of memory.
-pub fn listen_bytes<K: Sink, L: Listener + Drop, R: Reporter<L::Event> + Drop>(
+pub fn listen_bytes<K: Sink, L: Listener + Drop, R: Reporter<L> + Drop>(
     alloc: Global,
     bytes: &[u8],
     out: &mut K,
@@ -61,7 +61,7 @@ impl<'a> Source for AtHand<'a> {
 
 /// Hears all the bytes, gives the reporter each event, and answers both as they are behind them. What is printed is written
 /// nowhere.
-pub fn hear_bytes<L: Listener + Drop, R: Reporter<L::Event> + Drop>(
+pub fn hear_bytes<L: Listener + Drop, R: Reporter<L> + Drop>(
     alloc: Global,
     listener: L,
     reporter: R,
@@ -77,6 +77,7 @@ pub fn hear_bytes<L: Listener + Drop, R: Reporter<L::Event> + Drop>(
     let mut reporter = reporter;
     let mut told = Report {
         alloc,
+        text: Vec::new(alloc),
         lines: Bytes::new(alloc),
         faults: 0,
     };

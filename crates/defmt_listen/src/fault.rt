@@ -1,3 +1,5 @@
+//! Why a recording is not heard to its end.
+
 use dl_io::Memory;
 
 /// Why a recording wasn't heard to its end.

@@ -4,6 +4,9 @@
 //! sink. A listener cuts the stream of frames at its zeros, as a `Framer` of defmt_framing does, and knows what each part tells.
 //! A reporter knows what is printed of an event, which may depend on the events before it. `listen_bytes` does the same with a
 //! recording that is at hand, and `hear_bytes` with bytes of one, of which nothing is written.
+//!
+//! So of `07 00 01 02 00 00 03 00 09`, whose second write fails, the lines of the front and the first piece stand (wire_tests,
+//! `hearing`).
 #![tactic(auto)]
 
 mod bytes;

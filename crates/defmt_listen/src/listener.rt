@@ -1,7 +1,11 @@
+//! Who hears a stream of frames.
+
 ghost use Rattle.std.specs.Prelude.{◌≡◌, ◌≤◌, ◌<◌, ◌++◌, ℕ, List, length, take, IfOk, OnErr, option_to_list};
 ghost use Rattle.defmt_framing.specs.Told.{Tells, events, begun};
 ghost use Rattle.defmt_framing.specs.Framing.{Framing, Stands, Hears};
+ghost use Rattle.defmt_framing.specs.Notices.{HasText, told_by};
 
+use defmt_framing::Notice;
 use dl_io::Memory;
 
 /// Hears a stream of frames, and tells an event of each of its parts.
@@ -11,6 +15,12 @@ pub trait Listener {
     /// Something that a part tells.
     type Event: Drop;
 
+    /// What a line has beside its text.
+    type Mark: Drop;
+
+    /// The line with this text.
+    ghost line: { Self.Mark → List ℕ → Self.Event };
+
     /// What each part tells.
     ghost tells: { Self → Tells Self.Event };
 
@@ -18,12 +28,18 @@ pub trait Listener {
     ghost framing: { Self → Framing };
 
     /// Takes bytes up to and with the zero that ends the first part which tells something, and answers how many it took with
-    /// that event. Some byte is taken where there is one. On want of memory nothing was taken, and the listener goes on from
-    /// there.
-    fn feed(&mut self, bytes: &[u8]) -> Result<(usize, Option<Self::Event>), Memory>
+    /// a notice of that event, which may be a line whose text it wrote to the front of the buffer. Some byte is taken where there
+    /// is one. On want of memory nothing was taken, and the listener goes on from there.
+    fn hear(
+        &mut self,
+        bytes: &[u8],
+        text: &mut Vec<u8>,
+    ) -> Result<(usize, Notice<Self::Event, Self::Mark>), Memory>
         ensures within { IfOk result (λ r. r.0 ≤ length bytes.now) }
         ensures hears { IfOk result (λ r. (stream : List ℕ) → Stands (framing self.old) stream
-            → Hears (tells self.old) (framing self.new) stream (take r.0 bytes.now) r.1) }
+            → Hears (tells self.old) (framing self.new) stream (take r.0 bytes.now)
+            (told_by line text.new.items r.1)) }
+        ensures text { IfOk result (λ r. HasText text.new.items r.1) }
         ensures some { IfOk result (λ r. 0 < length bytes.now → 0 < r.0) }
         ensures same { tells self.new ≡ tells self.old }
         ensures err { OnErr result (framing self.new ≡ framing self.old) };

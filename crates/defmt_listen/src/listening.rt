@@ -1,4 +1,4 @@
-// A whole recording is heard.
+//! A whole recording is heard.
 ghost use Rattle.std.specs.Prelude.{◌≡◌, ◌≤◌, ◌<◌, ◌+◌, [], length, take, IfOk, IfErr};
 ghost use Rattle.std.specs.Io.KnownBytes.{Consumes, IsAtEnd};
 ghost use Rattle.defmt_framing.specs.Framing.{Stands};
@@ -23,7 +23,7 @@ const RECORDING_LIMIT: usize = 268_435_456;
 /// At most 65,536 bytes are read at a time, and the lines that they tell are written before the next ones are read. A
 /// recording has at most 268,435,456 bytes. The source, this limit and the sink take turns, and the first fault that is
 /// met is answered.
-pub fn listen<S: Source, K: Sink, L: Listener + Drop, R: Reporter<L::Event> + Drop>(
+pub fn listen<S: Source, K: Sink, L: Listener + Drop, R: Reporter<L> + Drop>(
     alloc: Global,
     src: &mut S,
     out: &mut K,
@@ -46,6 +46,7 @@ pub fn listen<S: Source, K: Sink, L: Listener + Drop, R: Reporter<L::Event> + Dr
     let mut reporter = reporter;
     let mut report = Report {
         alloc,
+        text: Vec::new(alloc),
         lines: Bytes::new(alloc),
         faults: 0,
     };
@@ -73,7 +74,10 @@ pub fn listen<S: Source, K: Sink, L: Listener + Drop, R: Reporter<L::Event> + Dr
 fn part_buffer(alloc: Global) -> Result<Vec<u8>, Memory>
     ensures { IfOk result (λ buf. length buf.items ≡ 65536) }
 {
-    Ok(vec![in alloc; 0u8; PART]?)
+    let mut buf = Vec::new(alloc);
+    // This fills whole words, which `vec!` doesn't.
+    buf.resize(PART, 0)?;
+    Ok(buf)
 }
 
 // Reads the next bytes, behind so many that were taken.

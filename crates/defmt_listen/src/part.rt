@@ -1,30 +1,33 @@
-// One part of a recording is heard.
+//! One part of a recording is heard.
 ghost use Rattle.std.specs.Prelude.{◌≡◌, ◌≤◌, ◌<◌, ◌+◌, ◌^◌, ◌++◌, [], ℕ, List, length, take, IfErr, OnOk, OnErr, option_to_list};
 ghost use Rattle.std.specs.Io.KnownBytes.{Appends};
 ghost use Rattle.dl_io.specs.Outside.{Rose};
 ghost use Rattle.defmt_framing.specs.Framing.{Stands};
+ghost use Rattle.defmt_framing.specs.Notices.{HasText, told_by};
 ghost use Rattle.defmt_listen.specs.Heard.{HeardPart, HeardSome, BreaksPart, faults_among, lines_from, state_behind};
 ghost use Rattle.defmt_listen.specs.Streams.{output_of};
 
 use crate::fault::ListenFault;
 use crate::listener::Listener;
 use crate::reporter::Reporter;
+use defmt_framing::Notice;
 use dl_io::{Bytes, Failed, Sink, write_all};
 use std::alloc::Global;
 
 // So many bytes of lines are gathered before they are written, unless the part ends before.
 const GATHERED: usize = 65_536;
 
-/// What is told and not yet written, and how many faults were told.
+/// What is told and not yet written, and how many faults were told. The text of a line is written before it is reported.
 #[derive(Drop)]
 pub struct Report {
     pub alloc: Global,
+    pub text: Vec<u8>,
     pub lines: Bytes,
     pub faults: u64,
 }
 
 /// Hears all the bytes, and writes what is printed of what they tell.
-pub fn hear_part<K: Sink, L: Listener, R: Reporter<L::Event>>(
+pub fn hear_part<K: Sink, L: Listener, R: Reporter<L>>(
     listener: &mut L,
     reporter: &mut R,
     out: &mut K,
@@ -51,8 +54,8 @@ pub fn hear_part<K: Sink, L: Listener, R: Reporter<L::Event>>(
 {
     let mut rest = bytes;
     'parts: while !rest.is_empty() {
-        let (taken, told) = listener.feed(rest)?;
-        add_told::<L, R>(reporter, report, told)?;
+        let (taken, notice) = listener.hear(rest, &mut report.text)?;
+        add_noticed::<L, R>(reporter, report, notice)?;
         let (_, behind) = rest.split_at(taken);
         rest = behind;
         write_gathered(out, &mut report.lines)?;
@@ -62,7 +65,7 @@ pub fn hear_part<K: Sink, L: Listener, R: Reporter<L::Event>>(
 }
 
 /// Adds what is printed of what was told, if something was.
-pub fn add_told<L: Listener, R: Reporter<L::Event>>(
+pub fn add_told<L: Listener, R: Reporter<L>>(
     reporter: &mut R,
     report: &mut Report,
     told: Option<L::Event>,
@@ -84,6 +87,35 @@ pub fn add_told<L: Listener, R: Reporter<L::Event>>(
         }
     }
     Ok(())
+}
+
+// Adds what is printed of what was noticed, if something was.
+fn add_noticed<L: Listener, R: Reporter<L>>(
+    reporter: &mut R,
+    report: &mut Report,
+    notice: Notice<L::Event, L::Mark>,
+) -> Result<(), ListenFault>
+    requires room { report.old.faults + 1 < 2 ^ 64 }
+    requires text { HasText report.old.text.items notice }
+    ensures lines { OnOk result (report.new.lines.items ≡ report.old.lines.items
+        ++ lines_from R.reporting reporter.old
+        (option_to_list (told_by L.line report.old.text.items notice))) }
+    ensures moved { OnOk result (reporter.new ≡ state_behind R.reporting reporter.old
+        (option_to_list (told_by L.line report.old.text.items notice))) }
+    ensures faults { OnOk result (report.new.faults ≡ report.old.faults + faults_among R.reporting
+        (option_to_list (told_by L.line report.old.text.items notice))) }
+    ensures memory { IfErr result (λ fault. fault ≡ ListenFault.Memory) }
+{
+    match notice {
+        Notice::Nothing => Ok(()),
+        Notice::Event(event) => add_told::<L, R>(reporter, report, Some(event)),
+        Notice::Line(mark, size) => Ok(reporter.add_text(
+            report.alloc,
+            mark,
+            &report.text[..size],
+            &mut report.lines,
+        )?),
+    }
 }
 
 // Writes the lines once there are many.

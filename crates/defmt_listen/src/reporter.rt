@@ -1,26 +1,44 @@
-ghost use Rattle.std.specs.Prelude.{◌≡◌, ◌++◌, OnOk, OnErr};
+//! Who reports events.
+
+ghost use Rattle.std.specs.Prelude.{◌≡◌, ◌++◌, false, OnOk, OnErr};
 ghost use Rattle.defmt_listen.specs.Heard.{Reporting};
 
+use crate::listener::Listener;
 use dl_io::{Bytes, Memory};
 use std::alloc::Global;
 
-/// Reports events, one after the other.
+/// Reports the events of a listener, one after the other.
 ///
 /// What is printed of an event may depend on the events before it. A reporter is its own state, which each event moves.
-pub trait Reporter<E> {
+pub trait Reporter<L: Listener> {
     /// What is printed of an event, the reporter behind it, and whether it is a fault of the recording.
-    ghost reporting: { Reporting Self E };
+    ghost reporting: { Reporting Self L.Event };
 
     /// Appends what is printed of an event, and goes on behind it. On want of memory nothing was appended, and the reporter is as
     /// before.
-    fn add_line(&mut self, alloc: Global, event: E, out: &mut Bytes) -> Result<(), Memory>
+    fn add_line(&mut self, alloc: Global, event: L::Event, out: &mut Bytes) -> Result<(), Memory>
         ensures appended { OnOk result (out.new.items
             ≡ out.old.items ++ reporting.line self.old event) }
         ensures moved { OnOk result (self.new ≡ reporting.after self.old event) }
         ensures err { OnErr result (out.new.items ≡ out.old.items) }
         ensures same { OnErr result (self.new ≡ self.old) };
 
+    /// The same of the line with this text, which is no fault.
+    fn add_text(
+        &mut self,
+        alloc: Global,
+        mark: L::Mark,
+        text: &[u8],
+        out: &mut Bytes,
+    ) -> Result<(), Memory>
+        ensures appended { OnOk result (out.new.items
+            ≡ out.old.items ++ reporting.line self.old (L.line mark text.now)) }
+        ensures moved { OnOk result (self.new ≡ reporting.after self.old (L.line mark text.now)) }
+        ensures fine { reporting.is_fault (L.line mark text.now) ≡ false }
+        ensures err { OnErr result (out.new.items ≡ out.old.items) }
+        ensures same { OnErr result (self.new ≡ self.old) };
+
     /// Whether an event is a fault of the recording.
-    fn is_fault(&self, event: &E) -> bool
+    fn is_fault(&self, event: &L::Event) -> bool
         ensures { result ≡ reporting.is_fault event.now };
 }

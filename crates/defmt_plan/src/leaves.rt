@@ -18,7 +18,7 @@ pub(crate) struct Progress {
     pub written: usize,
 }
 
-/// The number of bytes of an integer of up to 8.
+// The number of bytes of an integer of up to 8.
 fn width_of(size: IntSize) -> Option<usize>
     ensures { IfSome result (λ width. (width ≡ size_bytes size) × (width ≤ 8)) }
 {
@@ -31,7 +31,7 @@ fn width_of(size: IntSize) -> Option<usize>
     }
 }
 
-/// An unsigned number.
+// An unsigned number.
 fn pass_uint(
     size: IntSize,
     hint: Hint,
@@ -52,7 +52,7 @@ fn pass_uint(
     })
 }
 
-/// A truth value.
+// A truth value.
 fn pass_bool(bytes: &[u8], before: Progress, out: &mut [u8]) -> Option<Progress>
     requires read { before.read ≤ length bytes.now }
     requires written { before.written ≤ length out.old }
@@ -66,7 +66,7 @@ fn pass_bool(bytes: &[u8], before: Progress, out: &mut [u8]) -> Option<Progress>
     })
 }
 
-/// A text.
+// A text.
 fn pass_str(hint: Hint, bytes: &[u8], before: Progress, out: &mut [u8]) -> Option<Progress>
     requires read { before.read ≤ length bytes.now }
     requires written { before.written ≤ length out.old }
@@ -80,7 +80,7 @@ fn pass_str(hint: Hint, bytes: &[u8], before: Progress, out: &mut [u8]) -> Optio
     })
 }
 
-/// A signed number.
+// A signed number.
 fn pass_int(
     size: IntSize,
     hint: Hint,
@@ -102,7 +102,7 @@ fn pass_int(
     })
 }
 
-/// A character.
+// A character.
 fn pass_char(hint: Hint, bytes: &[u8], before: Progress, out: &mut [u8]) -> Option<Progress>
     requires read { before.read ≤ length bytes.now }
     requires written { before.written ≤ length out.old }
@@ -116,7 +116,7 @@ fn pass_char(hint: Hint, bytes: &[u8], before: Progress, out: &mut [u8]) -> Opti
     })
 }
 
-/// Bytes behind their number.
+// Bytes behind their number.
 fn pass_bytes(hint: Hint, bytes: &[u8], before: Progress, out: &mut [u8]) -> Option<Progress>
     requires read { before.read ≤ length bytes.now }
     requires written { before.written ≤ length out.old }
@@ -132,7 +132,7 @@ fn pass_bytes(hint: Hint, bytes: &[u8], before: Progress, out: &mut [u8]) -> Opt
     })
 }
 
-/// So many bytes.
+// So many bytes.
 fn pass_array(
     count: u16,
     hint: Hint,

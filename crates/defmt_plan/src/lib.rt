@@ -3,6 +3,9 @@
 //! A plan is made once of each string of a level, when a table is taken: its pieces as steps, in order, each position used once.
 //! The invariant of [`PlannedTable`] is that each plan says what the pieces of its string say. A message is read and printed
 //! by its plan. Where anything isn't usual, or a message is refused, nothing is answered, and the caller goes another way.
+//!
+//! After the defmt book, "Serialization" and "Display hints". With the entry 1 `hello` the message `01 00` is told in one pass
+//! as `INFO  hello` (wire_tests, `events`: a host asks for plans first).
 #![tactic(auto)]
 
 mod leaves;

@@ -30,7 +30,7 @@ pub(crate) enum StampPlan {
     Unusual,
 }
 
-/// The steps of the string at an index, where it has some that are usual.
+// The steps of the string at an index, where it has some that are usual.
 fn steps_at(alloc: Global, table: &Table, index: u16) -> Result<Option<Vec<Step>>, Memory>
     ensures { IfOk result (λ r. IfSome r (λ steps. AreStepsOf table.now.entries index steps.items)) }
 {
@@ -56,7 +56,7 @@ pub(crate) fn stamp_plan(alloc: Global, table: &Table) -> Result<StampPlan, Memo
     }
 }
 
-/// The name of a level, in five places.
+// The name of a level, in five places.
 fn level_text(tag: &Tag) -> Option<&'static str>
     ensures { option_copied result ≡ level_text tag.now }
 {
@@ -70,7 +70,7 @@ fn level_text(tag: &Tag) -> Option<&'static str>
     }
 }
 
-/// What stands between a stamp, where there is one, and the text of a statement of this level.
+// What stands between a stamp, where there is one, and the text of a statement of this level.
 fn level_front(alloc: Global, stamped: bool, level: &str) -> Result<Text, Memory>
     ensures { IfOk result (λ front. front ≡ space_if stamped ++ (level.now ++ codes " ")) }
 {
@@ -83,7 +83,7 @@ fn level_front(alloc: Global, stamped: bool, level: &str) -> Result<Text, Memory
     Ok(front)
 }
 
-/// What stands in front of the text of a statement of this tag.
+// What stands in front of the text of a statement of this tag.
 fn front_of(alloc: Global, table: &Table, tag: &Tag) -> Result<Option<Text>, Memory>
     ensures { IfOk result (λ front. front ≡ front_in table.now.entries (level_text tag.now)) }
 {
@@ -93,7 +93,7 @@ fn front_of(alloc: Global, table: &Table, tag: &Tag) -> Result<Option<Text>, Mem
     }
 }
 
-/// The plan of the string at an index, where it is of a level or of println, and usual.
+// The plan of the string at an index, where it is of a level or of println, and usual.
 fn plan_of(alloc: Global, table: &Table, index: u16) -> Result<Option<Plan>, Memory>
     ensures { IfOk result (λ r. IfSome r (λ plan. IsPlanIn table.now.entries plan)) }
 {

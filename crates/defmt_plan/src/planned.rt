@@ -43,7 +43,7 @@ impl Model for PlannedTable {
     ghost invariant = { λ p. SaysStamp p.table.entries p.stamp × ArePlansIn p.table.entries p.plans.items };
 }
 
-/// At each index up to the greatest of the plans the number of its plan.
+// At each index up to the greatest of the plans the number of its plan.
 fn numbers_of(alloc: Global, plans: &[Plan]) -> Result<Vec<u16>, Memory> {
     let Some(last) = plans.last() else {
         return Ok(Vec::new(alloc));
@@ -58,7 +58,7 @@ fn numbers_of(alloc: Global, plans: &[Plan]) -> Result<Vec<u16>, Memory> {
     Ok(numbers)
 }
 
-/// Writes what stands between the stamp's text and the statement's, and answers where the latter begins.
+// Writes what stands between the stamp's text and the statement's, and answers where the latter begins.
 fn put_front(front: &Option<Text>, out: &mut [u8], stamped: usize, at: usize) -> Option<usize>
     requires { stamped ≤ length out.old }
     ensures { Fronts front.now result out.old stamped at out.new }

@@ -19,7 +19,7 @@ pub(crate) enum Step {
     Value(Kind, Hint),
 }
 
-/// The step of a piece, where that is a literal or has the next position.
+// The step of a piece, where that is a literal or has the next position.
 fn step_of(piece: &Piece, next: usize) -> Result<Option<Step>, Memory>
     ensures { IfOk result (λ r. IfSome r (λ step. piece_of next step ≡ piece.now)) }
 {
@@ -35,7 +35,7 @@ fn step_of(piece: &Piece, next: usize) -> Result<Option<Step>, Memory>
     }
 }
 
-/// The position that is next behind a step.
+// The position that is next behind a step.
 fn behind(next: usize, step: &Step) -> usize
     requires { next < 65536 }
     ensures { result ≡ behind next step.now }
@@ -65,7 +65,7 @@ pub(crate) fn steps_of(alloc: Global, pieces: &[Piece]) -> Result<Option<Vec<Ste
     Ok(Some(steps))
 }
 
-/// One step.
+// One step.
 fn stride(step: &Step, bytes: &[u8], before: Progress, out: &mut [u8]) -> Option<Progress>
     requires read { before.read ≤ length bytes.now }
     requires written { before.written ≤ length out.old }

@@ -10,7 +10,7 @@ use crate::radix::put_radix;
 use crate::texts::put;
 use defmt_grammar::Hint;
 
-/// Writes an element of a list.
+// Writes an element of a list.
 fn put_byte(out: &mut [u8], at: usize, byte: u8, hint: Hint) -> Option<usize>
     requires { at ≤ length out.old }
     ensures { Writes result out.old at out.new (printed_byte hint byte) }
@@ -23,7 +23,7 @@ fn put_byte(out: &mut [u8], at: usize, byte: u8, hint: Hint) -> Option<usize>
     }
 }
 
-/// Writes elements, each behind a comma and a space.
+// Writes elements, each behind a comma and a space.
 fn put_others(out: &mut [u8], at: usize, others: &[u8], hint: Hint) -> Option<usize>
     requires { at ≤ length out.old }
     ensures { Writes result out.old at out.new (others_text (printed_byte hint) others.now) }
@@ -36,7 +36,7 @@ fn put_others(out: &mut [u8], at: usize, others: &[u8], hint: Hint) -> Option<us
     Some(end)
 }
 
-/// Writes a list.
+// Writes a list.
 fn put_list(out: &mut [u8], at: usize, bytes: &[u8], hint: Hint) -> Option<usize>
     requires { at ≤ length out.old }
     ensures { Writes result out.old at out.new (list_text (map (printed_byte hint) bytes.now)) }

@@ -11,7 +11,7 @@ use crate::texts::put;
 use defmt_grammar::{Hint, IntSize};
 use itoa::write_digits;
 
-/// The number of decimal digits.
+// The number of decimal digits.
 fn digit_count(number: u64) -> usize
     ensures { result ≡ length (decimal number) }
 {
@@ -24,7 +24,7 @@ fn digit_count(number: u64) -> usize
     count + short_count(rest)
 }
 
-/// The number of decimal digits of a number with at most four.
+// The number of decimal digits of a number with at most four.
 #[inline(always)]
 fn short_count(number: u64) -> usize
     requires { number < 10000 }
@@ -81,7 +81,7 @@ pub fn half_of(size: IntSize) -> Option<u64>
     }
 }
 
-/// Writes a signed number in decimal, from its two's complement and half of the numbers of its size.
+// Writes a signed number in decimal, from its two's complement and half of the numbers of its size.
 fn put_signed(out: &mut [u8], at: usize, number: u64, half: u64) -> Option<usize>
     requires place { at ≤ length out.old }
     requires small { number < 2 * half }

@@ -7,7 +7,7 @@ ghost use Rattle.defmt_put.specs.Written.{Writes};
 
 use crate::texts::put;
 
-/// Whether a byte stands for itself between double quotes.
+// Whether a byte stands for itself between double quotes.
 #[tactic(auto, unfolding(defmt_hints::specs::Escapes::escape_of))]
 fn is_bare(byte: u8) -> bool
     ensures { result ≡ true → escape_of 34 byte ≡ None }
@@ -15,7 +15,7 @@ fn is_bare(byte: u8) -> bool
     !matches!(byte, b'\\' | b'"' | b'\n' | b'\r' | b'\t')
 }
 
-/// Whether each of the bytes does.
+// Whether each of the bytes does.
 fn are_bare(bytes: &[u8]) -> bool
     ensures { result ≡ true → flat_map (escaped 34) bytes.now ≡ bytes.now }
 {

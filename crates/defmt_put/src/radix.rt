@@ -12,7 +12,7 @@ use crate::texts::put;
 use defmt_grammar::Base;
 use itoa::write_digits;
 
-/// The character of a digit below 16.
+// The character of a digit below 16.
 fn glyph(digit: u8, upper: bool) -> u8
     requires { digit < 16 }
     ensures { result ≡ digit_glyph upper digit }
@@ -26,7 +26,7 @@ fn glyph(digit: u8, upper: bool) -> u8
     }
 }
 
-/// The number of digits, none of 0.
+// The number of digits, none of 0.
 #[inline(always)]
 fn count_in(number: u64, base: u64) -> usize
     requires least { 2 ≤ base }
@@ -42,7 +42,7 @@ fn count_in(number: u64, base: u64) -> usize
     count
 }
 
-/// Writes the digits, with zeros in front up to a width. It is compiled for each base.
+// Writes the digits, with zeros in front up to a width. It is compiled for each base.
 #[inline(always)]
 fn put_digits(
     out: &mut [u8],
@@ -84,7 +84,7 @@ fn prefix_text(base: Base, alt: bool) -> &'static str
     }
 }
 
-/// Writes a byte in two hexadecimal digits.
+// Writes a byte in two hexadecimal digits.
 fn put_pair(out: &mut [u8], at: usize, byte: u8, upper: bool) -> Option<usize>
     requires { at ≤ length out.old }
     ensures { Writes result out.old at out.new (zero_filled 2 (number_text 16 upper byte)) }
@@ -93,7 +93,7 @@ fn put_pair(out: &mut [u8], at: usize, byte: u8, upper: bool) -> Option<usize>
     put(out, at, &pair)
 }
 
-/// Writes the digits in base 16, with zeros in front up to a width.
+// Writes the digits in base 16, with zeros in front up to a width.
 fn put_hex(out: &mut [u8], at: usize, number: u64, upper: bool, width: u8) -> Option<usize>
     requires { at ≤ length out.old }
     ensures { Writes result out.old at out.new (zero_filled width (number_text 16 upper number)) }
@@ -105,7 +105,7 @@ fn put_hex(out: &mut [u8], at: usize, number: u64, upper: bool, width: u8) -> Op
     }
 }
 
-/// Writes the digits in a hint's base, with zeros in front up to a width.
+// Writes the digits in a hint's base, with zeros in front up to a width.
 fn put_in_base(out: &mut [u8], at: usize, number: u64, base: Base, width: u8) -> Option<usize>
     requires { at ≤ length out.old }
     ensures { Writes result out.old at out.new (zero_filled width (number_text (base_number base) (is_upper base) number)) }

@@ -1,4 +1,4 @@
-// A recording is decoded by the table that a file names.
+//! A recording is decoded by the table that a file names.
 ghost use Rattle.std.specs.Prelude.{◌≡◌, ◌≤◌, ◌<◌, [], length, IfOk, IfErr};
 ghost use Rattle.defmt_decode.specs.Event.{tells};
 ghost use Rattle.defmt_framing.specs.Framing.{Stands};
@@ -12,7 +12,7 @@ use crate::ear::Ear;
 use crate::fault::Fault;
 use crate::printer::Printer;
 use crate::screened::Screened;
-use defmt_decode::{Event, Host};
+use defmt_decode::Host;
 use defmt_hooks::Rules;
 use defmt_intern::Table;
 use defmt_listen::{ListenFault, Reporter, listen};
@@ -147,7 +147,7 @@ fn hear_shown<S: Source, K: Sink>(
     }
 }
 
-fn hear_with<S: Source, K: Sink, R: Reporter<Event> + Drop>(
+fn hear_with<S: Source, K: Sink, R: Reporter<Ear> + Drop>(
     alloc: Global,
     src: &mut S,
     out: &mut K,

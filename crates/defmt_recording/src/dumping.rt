@@ -1,4 +1,4 @@
-// The bytes of an up-buffer in an image of memory are decoded by the table that a file names.
+//! The bytes of an up-buffer in an image of memory are decoded by the table that a file names.
 ghost use Rattle.std.specs.Prelude.{◌≡◌, ◌≤◌, [], length, IfOk, IfErr};
 ghost use Rattle.defmt_decode.specs.Event.{tells};
 ghost use Rattle.defmt_framing.specs.Framing.{Stands};
@@ -13,7 +13,7 @@ use crate::ear::Ear;
 use crate::fault::Fault;
 use crate::printer::Printer;
 use crate::screened::Screened;
-use defmt_decode::{Event, Host};
+use defmt_decode::Host;
 use defmt_hooks::Rules;
 use defmt_listen::{ListenFault, Reporter, listen_bytes};
 use defmt_words::DumpOptions;
@@ -141,7 +141,7 @@ fn print_shown<K: Sink>(
     }
 }
 
-fn print_with<K: Sink, R: Reporter<Event> + Drop>(
+fn print_with<K: Sink, R: Reporter<Ear> + Drop>(
     alloc: Global,
     bytes: &[u8],
     out: &mut K,

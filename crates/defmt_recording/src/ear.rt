@@ -1,7 +1,8 @@
-// The host as a listener.
-ghost use Rattle.defmt_decode.specs.Event.{tells};
+//! The host as a listener.
+ghost use Rattle.defmt_decode.specs.Event.{line_with, tells};
 
-use defmt_decode::{Event, Host};
+use defmt_decode::{Event, Host, Mark};
+use defmt_framing::Notice;
 use defmt_listen::Listener;
 use dl_io::Memory;
 
@@ -14,12 +15,20 @@ pub struct Ear {
 impl Listener for Ear {
     type Event = Event;
 
+    type Mark = Mark;
+
+    ghost line = { line_with };
+
     ghost tells = { λ ear. tells ear.host.table };
 
     ghost framing = { λ ear. ear.host.framing };
 
-    fn feed(&mut self, bytes: &[u8]) -> Result<(usize, Option<Event>), Memory> {
-        self.host.feed(bytes)
+    fn hear(
+        &mut self,
+        bytes: &[u8],
+        text: &mut Vec<u8>,
+    ) -> Result<(usize, Notice<Event, Mark>), Memory> {
+        self.host.hear(bytes, text)
     }
 
     fn finish(self) -> Option<Event> {

@@ -1,3 +1,5 @@
+//! What ends a command that hears a recording.
+
 ghost use Rattle.std.specs.Prelude.{[], ◌≡◌, ◌++◌, IfOk, OnOk};
 ghost use Rattle.defmt_recording.specs.Status.{status_of, said};
 

@@ -1,4 +1,4 @@
-// The events of bytes that are at hand.
+//! The events of bytes that are at hand.
 ghost use Rattle.std.specs.Prelude.{◌≡◌, ◌++◌, option_to_list, IfOk, OnOk};
 ghost use Rattle.defmt_decode.specs.Event.{events_of};
 

@@ -1,11 +1,15 @@
-// A reporter that keeps the events.
+//! A reporter that keeps the events.
+ghost use Rattle.std.specs.Prelude.{◌≡◌, IfOk};
 ghost use Rattle.defmt_recording.specs.Keeping.{by_keeping};
 
+use crate::ear::Ear;
 use crate::output::is_fault;
-use defmt_decode::{Event, Events};
+use defmt_decode::{Event, Events, Mark};
+use defmt_grammar::Text;
 use defmt_listen::Reporter;
 use dl_io::{Bytes, Memory};
 use std::alloc::Global;
+use std::str;
 
 /// The events that were reported so far, of which nothing is printed.
 #[derive(Drop)]
@@ -13,14 +17,44 @@ pub struct Kept {
     pub events: Events,
 }
 
-impl Reporter<Event> for Kept {
+#[tactic(auto, unfolding(crate::specs::Output::is_fault))]
+impl Reporter<Ear> for Kept {
     ghost reporting = { by_keeping };
 
     fn add_line(&mut self, _alloc: Global, event: Event, _out: &mut Bytes) -> Result<(), Memory> {
         self.events.push(event)
     }
 
+    fn add_text(
+        &mut self,
+        alloc: Global,
+        mark: Mark,
+        text: &[u8],
+        _out: &mut Bytes,
+    ) -> Result<(), Memory> {
+        let text = text_of(alloc, text)?;
+        self.events.push(Event::Line {
+            index: mark.index,
+            place: mark.place,
+            text,
+        })
+    }
+
     fn is_fault(&self, event: &Event) -> bool {
         is_fault(event)
+    }
+}
+
+// A copy of the bytes of a line. They are a text; where they weren't, this would answer as for want of memory.
+fn text_of(alloc: Global, bytes: &[u8]) -> Result<Text, Memory>
+    ensures { IfOk result (λ text. text ≡ bytes.now) }
+{
+    let Ok(text) = str::from_utf8(bytes) else {
+        return Err(Memory);
+    };
+    let mut copy = Text::new(alloc);
+    match copy.push_str(text) {
+        Ok(()) => Ok(copy),
+        Err(_) => Err(Memory),
     }
 }

@@ -5,6 +5,9 @@
 //! front of a line stands how many frames are missing since the line before. Rules may leave lines out. `Ear` is the host as it
 //! hears a recording, `Printer` and `Screened` print what it tells as it comes, and `event_lines` is what a list of events prints.
 //! `Fault` is what a call of the program comes to, with its status and its words.
+//!
+//! After docs/USER-GUIDE.md, "Output lines" and "Statuses". So `7e 00 00 01 7e 00` gives `-- front 1`, `INFO  hello` and the
+//! status 9 (program_tests, `decode`).
 #![tactic(auto)]
 
 mod decoding;

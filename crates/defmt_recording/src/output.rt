@@ -1,9 +1,10 @@
-// The output lines of events and of the gaps between them.
+//! The output lines of events and of the gaps between them.
 ghost use Rattle.std.specs.Prelude.{◌≡◌, ◌++◌, codes, OnErr, OnOk};
 ghost use Rattle.std.specs.Fmt.{decimal};
+ghost use Rattle.defmt_decode.specs.Event.{line_with};
 ghost use Rattle.defmt_recording.specs.Output.{ended, event_line, fault_name, gap_before, gap_between, gap_line, gapped_line, is_fault, last_behind};
 
-use defmt_decode::{Event, gap};
+use defmt_decode::{Event, Mark, gap};
 use dl_io::{Bytes, Memory};
 use std::alloc::Global;
 
@@ -122,6 +123,57 @@ fn add_event(alloc: Global, event: &Event, out: &mut Bytes) -> Result<(), Memory
         Event::CutTail { bytes } => add_count(alloc, b"-- tail ", *bytes, &mut told)?,
     }
     add_ended(told.as_slice(), out)
+}
+
+/// Appends the output line of the line with this text, and in front of it how many frames are missing since the last line, which
+/// has this place. On want of memory nothing was appended.
+#[tactic(auto, unfolding(crate::specs::Output::gapped_line, crate::specs::Output::gap_before, crate::specs::Output::event_line))]
+pub fn add_line_of_text(
+    alloc: Global,
+    last: Option<u16>,
+    mark: Mark,
+    text: &[u8],
+    out: &mut Bytes,
+) -> Result<(), Memory>
+    ensures appended { OnOk result (out.new.items
+        ≡ out.old.items ++ gapped_line last (line_with mark text.now)) }
+    ensures err { OnErr result (out.new.items ≡ out.old.items) }
+{
+    match gap_between(last, mark.place) {
+        0 => add_ended(text, out),
+        count => add_ended_behind(alloc, count, text, out),
+    }
+}
+
+// Appends a report of so many missing frames, and a text and a newline. On want of memory nothing was appended.
+fn add_ended_behind(alloc: Global, count: u16, text: &[u8], out: &mut Bytes) -> Result<(), Memory>
+    ensures appended { OnOk result (out.new.items ≡ out.old.items
+        ++ (ended (codes "-- gap " ++ decimal count) ++ ended text.now)) }
+    ensures err { OnErr result (out.new.items ≡ out.old.items) }
+{
+    let mut told = Bytes::new(alloc);
+    add_report_of_gap(alloc, count, &mut told)?;
+    add_ended(text, &mut told)?;
+    out.extend_from_slice(told.as_slice())
+}
+
+/// Appends how many frames are missing in front of a line, where some are, since the last line, which has this place. On want
+/// of memory nothing was appended.
+#[tactic(auto, unfolding(crate::specs::Output::gap_before))]
+pub fn add_gap_of_text(
+    alloc: Global,
+    last: Option<u16>,
+    mark: Mark,
+    out: &mut Bytes,
+) -> Result<(), Memory>
+    ensures appended { OnOk result (out.new.items
+        ≡ out.old.items ++ gap_line (gap_between last mark.place)) }
+    ensures err { OnErr result (out.new.items ≡ out.old.items) }
+{
+    match gap_between(last, mark.place) {
+        0 => Ok(()),
+        count => add_report_of_gap(alloc, count, out),
+    }
 }
 
 /// Appends a text and a newline. On want of memory nothing was appended.

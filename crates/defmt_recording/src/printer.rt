@@ -1,9 +1,10 @@
-// What a list of events prints.
+//! What a list of events prints.
 ghost use Rattle.std.specs.Prelude.{◌≡◌, ◌++◌, OnErr, OnOk};
 ghost use Rattle.defmt_recording.specs.Output.{by_line};
 
-use crate::output::{add_line, is_fault, last_behind};
-use defmt_decode::Event;
+use crate::ear::Ear;
+use crate::output::{add_line, add_line_of_text, is_fault, last_behind};
+use defmt_decode::{Event, Mark};
 use defmt_listen::Reporter;
 use dl_io::{Bytes, Memory};
 use std::alloc::Global;
@@ -31,11 +32,24 @@ impl Printer {
     }
 }
 
-impl Reporter<Event> for Printer {
+#[tactic(auto, unfolding(crate::specs::Output::is_fault, crate::specs::Output::last_behind))]
+impl Reporter<Ear> for Printer {
     ghost reporting = { by_line };
 
     fn add_line(&mut self, alloc: Global, event: Event, out: &mut Bytes) -> Result<(), Memory> {
         self.print(alloc, &event, out)
+    }
+
+    fn add_text(
+        &mut self,
+        alloc: Global,
+        mark: Mark,
+        text: &[u8],
+        out: &mut Bytes,
+    ) -> Result<(), Memory> {
+        add_line_of_text(alloc, self.last, mark, text, out)?;
+        self.last = mark.place;
+        Ok(())
     }
 
     fn is_fault(&self, event: &Event) -> bool {

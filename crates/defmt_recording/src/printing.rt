@@ -1,4 +1,4 @@
-// What a list of events prints.
+//! What a list of events prints.
 ghost use Rattle.std.specs.Prelude.{◌≡◌, None, IfOk};
 ghost use Rattle.defmt_listen.specs.Heard.{lines_from};
 ghost use Rattle.defmt_recording.specs.Output.{event_lines};

@@ -1,9 +1,11 @@
-// What events print by rules.
+//! What events print by rules.
 ghost use Rattle.std.specs.Prelude.{◌≡◌, ◌++◌, None, OnErr, OnOk};
+ghost use Rattle.defmt_decode.specs.Event.{line_with};
 ghost use Rattle.defmt_recording.specs.Shown.{by_rules, screening, shown_line};
 
-use crate::output::{add_gap, add_line, is_fault, last_behind};
-use defmt_decode::{Event, shows};
+use crate::ear::Ear;
+use crate::output::{add_gap, add_gap_of_text, add_line, add_line_of_text, is_fault, last_behind};
+use defmt_decode::{Event, Mark, shows, shows_line};
 use defmt_hooks::Rules;
 use defmt_intern::Table;
 use defmt_listen::Reporter;
@@ -30,6 +32,27 @@ pub fn add_shown_line(
         return add_line(alloc, last, event, out);
     }
     add_gap(alloc, last, event, out)
+}
+
+// The same of the line with this text.
+#[tactic(auto, unfolding(crate::specs::Output::gapped_line, crate::specs::Output::gap_before, crate::specs::Shown::shown_line))]
+fn add_shown_text(
+    alloc: Global,
+    rules: &Rules,
+    table: &Table,
+    last: Option<u16>,
+    mark: Mark,
+    text: &[u8],
+    out: &mut Bytes,
+) -> Result<(), Memory>
+    ensures appended { OnOk result (out.new.items ≡ out.old.items
+        ++ shown_line rules.now table.now.entries last (line_with mark text.now)) }
+    ensures err { OnErr result (out.new.items ≡ out.old.items) }
+{
+    if shows_line(rules, table, mark.index) {
+        return add_line_of_text(alloc, last, mark, text, out);
+    }
+    add_gap_of_text(alloc, last, mark, out)
 }
 
 /// Prints the line of each event but of the lines that rules don't show, by a table, and in front of a line how many frames are
@@ -64,12 +87,25 @@ impl<'a> Screened<'a> {
     }
 }
 
-impl<'a> Reporter<Event> for Screened<'a> {
+#[tactic(auto, unfolding(crate::specs::Output::is_fault, crate::specs::Output::last_behind))]
+impl<'a> Reporter<Ear> for Screened<'a> {
     ghost reporting = { by_rules };
 
     fn add_line(&mut self, alloc: Global, event: Event, out: &mut Bytes) -> Result<(), Memory> {
         add_shown_line(alloc, self.rules, &self.table, self.last, &event, out)?;
         self.last = last_behind(self.last, &event);
+        Ok(())
+    }
+
+    fn add_text(
+        &mut self,
+        alloc: Global,
+        mark: Mark,
+        text: &[u8],
+        out: &mut Bytes,
+    ) -> Result<(), Memory> {
+        add_shown_text(alloc, self.rules, &self.table, self.last, mark, text, out)?;
+        self.last = mark.place;
         Ok(())
     }
 

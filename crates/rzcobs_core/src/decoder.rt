@@ -3,6 +3,8 @@ ghost use Rattle.std.specs.Prelude.{◌≡◌, ◌≢◌, ◌+◌, ◌*◌, ◌-
 ghost use Rattle.rzcobs_core.specs.Blocks.{Blocks, IsNoCode, zero_bits, nonzero};
 ghost use Rattle.rzcobs_core.specs.Reading.{clear_bits, ReadsRun, ReadsLast, EndsInNoBlock, EndsInZero};
 
+use memchr::memchr;
+
 /// No sequence of blocks is the piece.
 #[derive(Clone, Copy, Debug, PartialEq, Eq)]
 pub struct Malformed;
@@ -20,6 +22,19 @@ pub fn decode(piece: &[u8], out: &mut [u8]) -> Result<usize, Malformed>
         (λ count. (count ≤ length out.new) × Blocks piece.now (take count out.new)) }
     ensures malformed { IsErr result → IsNoCode piece.now }
 {
+    let at = decode_to_end(piece, out)?;
+    move_down(out, at);
+    Ok(out.len() - at)
+}
+
+/// The same, but what the piece stands for is written to the end of the buffer, and where it begins is
+/// answered. The buffer may hold anything in front of that.
+pub fn decode_to_end(piece: &[u8], out: &mut [u8]) -> Result<usize, Malformed>
+    requires { 7 * length piece.now ≤ length out.old }
+    ensures found { IfOk result
+        (λ begin. (begin ≤ length out.new) × Blocks piece.now (drop begin out.new)) }
+    ensures malformed { IsErr result → IsNoCode piece.now }
+{
     let mut rest = piece;
     let mut at = out.len();
     'blocks: while !rest.is_empty() {
@@ -31,8 +46,7 @@ pub fn decode(piece: &[u8], out: &mut [u8]) -> Result<usize, Malformed>
             }
         }
     }
-    move_down(out, at);
-    Ok(out.len() - at)
+    Ok(at)
 }
 
 // Whether some byte is zero.
@@ -41,12 +55,10 @@ fn has_zero(bytes: &[u8]) -> bool
         ((k : ℕ) × (k < length bytes.now) × (slice_index bytes.now k ≡ 0))
         (All (λ b. b ≢ 0) bytes.now) }
 {
-    for b in bytes {
-        if *b == 0 {
-            return true;
-        }
+    match memchr(0, bytes) {
+        Some(_) => true,
+        None => false,
     }
-    false
 }
 
 // Reads the last block, and puts what it stands for in front of the place. None where no block

@@ -2,7 +2,7 @@ ghost use Rattle.std.specs.Prelude.{[], ◌∷◌, true, false, None};
 
 // Recordings that a listener hears, which has a letter for each part.
 use crate::rows::Kind;
-use defmt_framing::{Framer, Teller};
+use defmt_framing::{Framer, Notice, Teller};
 use defmt_listen::{ListenFault, Listener, Reporter, listen, listen_bytes};
 use dl_io::{Bytes, Failed, MemSink, MemSource, Memory, RepeatSource, Source};
 use std::alloc::Global;
@@ -85,6 +85,10 @@ struct Ear {
 impl Listener for Ear {
     type Event = Mark;
 
+    type Mark = u8;
+
+    ghost line = { λ letter _. record { letter = letter; fault = false } };
+
     ghost tells = { λ _. record {
       piece = λ _. record { letter = 112; fault = false };
       long = record { letter = 108; fault = true };
@@ -94,8 +98,16 @@ impl Listener for Ear {
 
     ghost framing = { λ ear. ear.framer };
 
-    fn feed(&mut self, bytes: &[u8]) -> Result<(usize, Option<Mark>), Memory> {
-        self.framer.feed(&mut self.letters, bytes)
+    fn hear(
+        &mut self,
+        bytes: &[u8],
+        _text: &mut Vec<u8>,
+    ) -> Result<(usize, Notice<Mark, u8>), Memory> {
+        let (taken, told) = self.framer.feed(&mut self.letters, bytes)?;
+        match told {
+            Some(mark) => Ok((taken, Notice::Event(mark))),
+            None => Ok((taken, Notice::Nothing)),
+        }
     }
 
     fn finish(self) -> Option<Mark> {
@@ -107,7 +119,7 @@ impl Listener for Ear {
 #[derive(Drop)]
 struct Scribe;
 
-impl Reporter<Mark> for Scribe {
+impl Reporter<Ear> for Scribe {
     ghost reporting = { record {
       line = λ _ mark. mark.letter ∷ 10 ∷ [];
       after = λ scribe _. scribe;
@@ -117,6 +129,19 @@ impl Reporter<Mark> for Scribe {
     fn add_line(&mut self, _alloc: Global, event: Mark, out: &mut Bytes) -> Result<(), Memory> {
         out.reserve(2)?;
         out.push_reserved(event.letter);
+        out.push_reserved(b'\n');
+        Ok(())
+    }
+
+    fn add_text(
+        &mut self,
+        _alloc: Global,
+        letter: u8,
+        _text: &[u8],
+        out: &mut Bytes,
+    ) -> Result<(), Memory> {
+        out.reserve(2)?;
+        out.push_reserved(letter);
         out.push_reserved(b'\n');
         Ok(())
     }

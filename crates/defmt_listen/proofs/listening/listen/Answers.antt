@@ -20,7 +20,7 @@ returns-in_err-buf-clause-breaks g c =
 pub parts-init : goal.parts-init
 parts-init g c = record {
   listening = start (record { tells = g.L.Listener.tells c.args.listener; reporting = g.R.Reporter.reporting; start = c.args.reporter }) (g.S.Source.left c.args.src.now) (g.K.Sink.held c.args.out.now) (g.L.Listener.framing c.args.listener) c.requires;
-  empty = c.new.ensures.items;
+  empty = c.new-2.ensures.items;
   room = c.in_ok-buf.ensures;
   same = refl;
   source_later = omega arith;

@@ -1,6 +1,7 @@
 use Rattle.std.proofs.Common.{take, refl, sym, ◌∙◌, subst, arith}
 use Rattle.std.proofs.lemmas.Bool.{eqb-true}
 use Rattle.defmt_framing.specs.Framing.{Hears}
+use Rattle.defmt_framing.specs.Notices.{told_by}
 use Rattle.defmt_listen.proofs.Fronts.{on_err}
 use Rattle.defmt_listen.proofs.Hearing.{start, more, writes, stops, stands_still, ends, one_event, some_left}
 use Rattle.defmt_listen.proofs.part.hear_part.Goals as goal
@@ -17,23 +18,23 @@ returns-in_err-taken-clause-some g c =
     on_err c.from_residual.result (stands_still (g.L.Listener.tells c.args.listener.now) g.R.Reporter.reporting c.args.reporter.now (g.L.Listener.framing c.args.listener.now) c.args.bytes.now (g.K.Sink.held c.args.out.now) c.args.report.now.faults
     c.parts.reporter (g.L.Listener.framing c.parts.listener) c.parts.rest.now (g.K.Sink.held c.parts.out) c.parts.report.lines.items c.parts.report.faults (g.K.Sink.faults c.args.out.now) (g.K.Sink.faults c.parts.out) c.parts.invariant.hearing)
 
-pub returns-in_err-add_told-clause-some : goal.returns-in_err-add_told-clause-some
-returns-in_err-add_told-clause-some g c =
-    on_err c.from_residual-in_err-add_told.result (stands_still (g.L.Listener.tells c.args.listener.now) g.R.Reporter.reporting c.args.reporter.now (g.L.Listener.framing c.args.listener.now) c.args.bytes.now (g.K.Sink.held c.args.out.now) c.args.report.now.faults
+pub returns-in_err-add_noticed-clause-some : goal.returns-in_err-add_noticed-clause-some
+returns-in_err-add_noticed-clause-some g c =
+    on_err c.from_residual-in_err-add_noticed.result (stands_still (g.L.Listener.tells c.args.listener.now) g.R.Reporter.reporting c.args.reporter.now (g.L.Listener.framing c.args.listener.now) c.args.bytes.now (g.K.Sink.held c.args.out.now) c.args.report.now.faults
     c.parts.reporter (g.L.Listener.framing c.parts.listener) c.parts.rest.now (g.K.Sink.held c.parts.out) c.parts.report.lines.items c.parts.report.faults (g.K.Sink.faults c.args.out.now) (g.K.Sink.faults c.parts.out) c.parts.invariant.hearing)
 
 pub parts-preserved : goal.parts-preserved
 parts-preserved g c =
     let one = more (g.L.Listener.tells c.args.listener.now) g.R.Reporter.reporting c.args.reporter.now (g.L.Listener.framing c.args.listener.now) c.args.bytes.now (g.K.Sink.held c.args.out.now) c.args.report.now.faults
-    c.parts.reporter c.add_told.new.reporter (g.L.Listener.framing c.parts.listener) (g.L.Listener.framing c.feed.new.self) c.parts.rest.now c.split_at.result.1.now (g.K.Sink.held c.parts.out) c.parts.report.lines.items c.add_told.new.report.lines.items
-    c.parts.report.faults c.add_told.new.report.faults c.in_ok-taken.taken c.in_ok-taken.told c.parts.invariant.hearing
-    (λ stream st. subst (λ tells. Hears tells (g.L.Listener.framing c.feed.new.self) stream (take c.in_ok-taken.taken c.parts.rest.now) c.in_ok-taken.told) c.parts.invariant.same (c.in_ok-taken.ensures.hears stream st))
-    c.split_at.ensures.back c.in_ok-add_told.ensures.lines c.in_ok-add_told.ensures.moved c.in_ok-add_told.ensures.faults (one_event g.R.Reporter.reporting c.in_ok-taken.told)
+    c.parts.reporter c.add_noticed.new.reporter (g.L.Listener.framing c.parts.listener) (g.L.Listener.framing c.hear.new.self) c.parts.rest.now c.split_at.result.1.now (g.K.Sink.held c.parts.out) c.parts.report.lines.items c.add_noticed.new.report.lines.items
+    c.parts.report.faults c.add_noticed.new.report.faults c.in_ok-taken.taken (told_by g.L.Listener.line c.hear.new.text.items c.in_ok-taken.notice) c.parts.invariant.hearing
+    (λ stream st. subst (λ tells. Hears tells (g.L.Listener.framing c.hear.new.self) stream (take c.in_ok-taken.taken c.parts.rest.now) (told_by g.L.Listener.line c.hear.new.text.items c.in_ok-taken.notice)) c.parts.invariant.same (c.in_ok-taken.ensures.hears stream st))
+    c.split_at.ensures.back c.in_ok-add_noticed.ensures.lines c.in_ok-add_noticed.ensures.moved c.in_ok-add_noticed.ensures.faults (one_event g.R.Reporter.reporting (told_by g.L.Listener.line c.hear.new.text.items c.in_ok-taken.notice))
     (c.in_ok-taken.ensures.some (some_left c.parts.rest.now _ c.is_empty.ensures c.parts-test.true)) (some_left c.parts.rest.now _ c.is_empty.ensures c.parts-test.true) in
     let wrote = c.in_ok-write_gathered.ensures.ok in
     record {
-      hearing = writes (g.L.Listener.tells c.args.listener.now) g.R.Reporter.reporting c.args.reporter.now (g.L.Listener.framing c.args.listener.now) c.args.bytes.now (g.K.Sink.held c.args.out.now) c.args.report.now.faults c.add_told.new.reporter (g.L.Listener.framing c.feed.new.self) c.split_at.result.1.now
-          (g.K.Sink.held c.parts.out) (g.K.Sink.held c.write_gathered.new.out) c.add_told.new.report.lines.items c.write_gathered.new.lines.items wrote.0 c.add_told.new.report.faults one wrote.1 wrote.2;
+      hearing = writes (g.L.Listener.tells c.args.listener.now) g.R.Reporter.reporting c.args.reporter.now (g.L.Listener.framing c.args.listener.now) c.args.bytes.now (g.K.Sink.held c.args.out.now) c.args.report.now.faults c.add_noticed.new.reporter (g.L.Listener.framing c.hear.new.self) c.split_at.result.1.now
+          (g.K.Sink.held c.parts.out) (g.K.Sink.held c.write_gathered.new.out) c.add_noticed.new.report.lines.items c.write_gathered.new.lines.items wrote.0 c.add_noticed.new.report.faults one wrote.1 wrote.2;
       same = c.in_ok-taken.ensures.same ∙ c.parts.invariant.same;
       later = omega (arith, c.write_gathered.ensures.later, c.parts.invariant.later);
     }
@@ -41,13 +42,13 @@ parts-preserved g c =
 pub returns-in_err-write_gathered-clause-some : goal.returns-in_err-write_gathered-clause-some
 returns-in_err-write_gathered-clause-some g c =
     let one = more (g.L.Listener.tells c.args.listener.now) g.R.Reporter.reporting c.args.reporter.now (g.L.Listener.framing c.args.listener.now) c.args.bytes.now (g.K.Sink.held c.args.out.now) c.args.report.now.faults
-    c.parts.reporter c.add_told.new.reporter (g.L.Listener.framing c.parts.listener) (g.L.Listener.framing c.feed.new.self) c.parts.rest.now c.split_at.result.1.now (g.K.Sink.held c.parts.out) c.parts.report.lines.items c.add_told.new.report.lines.items
-    c.parts.report.faults c.add_told.new.report.faults c.in_ok-taken.taken c.in_ok-taken.told c.parts.invariant.hearing
-    (λ stream st. subst (λ tells. Hears tells (g.L.Listener.framing c.feed.new.self) stream (take c.in_ok-taken.taken c.parts.rest.now) c.in_ok-taken.told) c.parts.invariant.same (c.in_ok-taken.ensures.hears stream st))
-    c.split_at.ensures.back c.in_ok-add_told.ensures.lines c.in_ok-add_told.ensures.moved c.in_ok-add_told.ensures.faults (one_event g.R.Reporter.reporting c.in_ok-taken.told)
+    c.parts.reporter c.add_noticed.new.reporter (g.L.Listener.framing c.parts.listener) (g.L.Listener.framing c.hear.new.self) c.parts.rest.now c.split_at.result.1.now (g.K.Sink.held c.parts.out) c.parts.report.lines.items c.add_noticed.new.report.lines.items
+    c.parts.report.faults c.add_noticed.new.report.faults c.in_ok-taken.taken (told_by g.L.Listener.line c.hear.new.text.items c.in_ok-taken.notice) c.parts.invariant.hearing
+    (λ stream st. subst (λ tells. Hears tells (g.L.Listener.framing c.hear.new.self) stream (take c.in_ok-taken.taken c.parts.rest.now) (told_by g.L.Listener.line c.hear.new.text.items c.in_ok-taken.notice)) c.parts.invariant.same (c.in_ok-taken.ensures.hears stream st))
+    c.split_at.ensures.back c.in_ok-add_noticed.ensures.lines c.in_ok-add_noticed.ensures.moved c.in_ok-add_noticed.ensures.faults (one_event g.R.Reporter.reporting (told_by g.L.Listener.line c.hear.new.text.items c.in_ok-taken.notice))
     (c.in_ok-taken.ensures.some (some_left c.parts.rest.now _ c.is_empty.ensures c.parts-test.true)) (some_left c.parts.rest.now _ c.is_empty.ensures c.parts-test.true) in
     on_err c.from_residual-in_err-write_gathered.result (stops (g.L.Listener.tells c.args.listener.now) g.R.Reporter.reporting c.args.reporter.now (g.L.Listener.framing c.args.listener.now) c.args.bytes.now (g.K.Sink.held c.args.out.now) c.args.report.now.faults
-    c.add_told.new.reporter (g.L.Listener.framing c.feed.new.self) c.split_at.result.1.now (g.K.Sink.held c.parts.out) (g.K.Sink.held c.write_gathered.new.out) c.add_told.new.report.lines.items c.add_told.new.report.faults
+    c.add_noticed.new.reporter (g.L.Listener.framing c.hear.new.self) c.split_at.result.1.now (g.K.Sink.held c.parts.out) (g.K.Sink.held c.write_gathered.new.out) c.add_noticed.new.report.lines.items c.add_noticed.new.report.faults
     (g.K.Sink.faults c.args.out.now) (g.K.Sink.faults c.write_gathered.new.out) one c.in_err-write_gathered.ensures.front)
 
 pub returns-in_err-write_lines-clause-some : goal.returns-in_err-write_lines-clause-some
