@@ -30,7 +30,7 @@ TOP = os.path.dirname(os.path.dirname(os.path.abspath(__file__)))
 PROOF, TESTS, BEFORE, EDITS, BUILD, REST = "Proof", "Tests", "Check before edits", "Edits", "Build and run", "Rest"
 KINDS = (PROOF, TESTS, BEFORE, EDITS)
 # The most that we allow: minutes for the whole gate, and seconds for the others.
-MOST_MINUTES, MOST_SECONDS, MOST_OF_EDIT = 160, {PROOF: 260, TESTS: 400}, 60
+MOST_MINUTES, MOST_SECONDS, MOST_OF_EDIT = 210, {PROOF: 260, TESTS: 400}, 60
 GATE, OLDER_GATE = ["rt", "ci", "--anew"], ["rt", "ci"]
 TICKS = os.sysconf("SC_CLK_TCK")
 EACH = 0.5

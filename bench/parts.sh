@@ -1,14 +1,13 @@
 #!/bin/sh
-# Counts the instructions that the parts of a statement's way cost, in the product's own `record` and `decode`, and holds two sums of them
-# against what is due.
+# Counts the instructions that the parts of a statement's way cost, in the product's own `record` and `decode`, and holds two of them against what is
+# due.
 #
 #   bench/parts.sh        at the repository's top, once ./defmtl has built the program; needs valgrind
 #
 # Each row is one function with all that it calls: what its calls cost together, divided by their number, over the script of `gen 4096`.
-# The compiler puts a function that is called in one place into its caller, and then it has no count of its own. So the two sums are taken of
-# the first of these that are there:
+# The compiler puts a function that is called in one place into its caller, and then it has no count of its own. The two that are held:
 #   from a statement to its frame     `write_frame` of defmt_frames; or `message` and `frame`
-#   from a piece to its statement     `decode_piece` and `hear`; or `tell_piece`, which prints the line too, less `line`
+#   from a piece to its event         `tell_piece` of defmt_framing: the code, the message and its line, which a plan makes in one pass
 
 . "$(dirname "$0")/common.sh"
 need valgrind
@@ -63,15 +62,10 @@ printf '%-44s %10s %10s\n' function calls "a call"
 row "$work/recorded" defmt_encode::writing::message; message=$cost
 row "$work/recorded" defmt_encode::framing::frame; frame=$cost
 row "$work/recorded" defmt_frames::framing::write_frame; encoding=$cost
-row "$work/decoded" defmt_framing::decoded::decode_piece; decode=$cost
-row "$work/decoded" defmt_encode::heard::Heard::hear; hear=$cost
+row "$work/decoded" defmt_framing::decoded::decode_piece
 row "$work/decoded" defmt_framing::framer::tell_piece; piece=$cost
-row "$work/decoded" defmt_eager::printed::line; line=$cost
 
 [ -n "$encoding" ] || [ -z "$message" ] || [ -z "$frame" ] || encoding=$((message + frame))
-decoding=
-[ -z "$piece" ] || [ -z "$line" ] || decoding=$((piece - line))
-[ -z "$decode" ] || [ -z "$hear" ] || decoding=$((decode + hear))
 due "instructions from a statement to its frame" "$encoding" 600
-due "instructions from a piece to its statement" "$decoding" 1200
+due "instructions from a piece to its event" "$piece" 1300
 exit "$worst"
