@@ -12,3 +12,4 @@ pub mod OneLaws
 pub mod ValueLaws
 pub mod OrderLaws
 pub mod MeaningLaws
+pub mod BareLaws

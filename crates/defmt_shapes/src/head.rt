@@ -1,8 +1,9 @@
 //! What a value's text begins with.
 
 ghost use Rattle.std.specs.Prelude.{◌≡◌, IfSome};
+ghost use Rattle.std.specs.Bool.{OnTrue};
 ghost use Rattle.std.specs.Str.{IsUtf8};
-ghost use Rattle.defmt_shapes.specs.Leads.{view_heads, decimal_lead, hexadecimal_lead, negative_lead, interned_lead, bytes_lead, variant_lead, flag_lead, named_lead, word_lead, plain_lead, marked_lead, IsLead, view_item, item_of};
+ghost use Rattle.defmt_shapes.specs.Leads.{view_heads, decimal_lead, hexadecimal_lead, negative_lead, interned_lead, bytes_lead, variant_lead, flag_lead, named_lead, word_lead, or_word, plain_lead, marked_lead, IsBare, IsLead, view_item, item_of};
 
 use crate::escape::{character_of, quoted_end};
 use crate::parts::{Class, behind, behind_text, has_leading_zero, is_name, is_variant, split_run};
@@ -153,6 +154,17 @@ fn word_head(text: &str) -> Option<(Head<'_>, &str)>
     named_head(name, rest)
 }
 
+// A decimal number, or what begins with a name.
+fn bare_head(text: &str) -> Option<(Head<'_>, &str)>
+    ensures parts { view_heads result ≡ or_word text.now (decimal_lead text.now) }
+    ensures utf8 { IfSome result (λ p. IsUtf8 p.1.now) }
+{
+    match decimal_head(text) {
+        Some(head) => Some(head),
+        None => word_head(text),
+    }
+}
+
 // A number, or what begins with a name.
 #[tactic(auto, unfolding(crate::specs::Leads::plain_lead))]
 fn plain_head(text: &str) -> Option<(Head<'_>, &str)>
@@ -162,10 +174,7 @@ fn plain_head(text: &str) -> Option<(Head<'_>, &str)>
     if let Some(digits) = behind_text(text, "0x") {
         return hexadecimal_head(digits);
     }
-    match decimal_head(text) {
-        Some(head) => Some(head),
-        None => word_head(text),
-    }
+    bare_head(text)
 }
 
 // All but what begins with a quote.
@@ -189,11 +198,25 @@ fn marked_head(text: &str) -> Option<(Head<'_>, &str)>
     plain_head(text)
 }
 
+// Whether the text begins with a letter or with a digit above 0: then no mark stands in front.
+fn is_bare(text: &str) -> bool
+    ensures { OnTrue result (IsBare text.now) }
+{
+    match text.as_bytes() {
+        [b'1'..=b'9' | b'A'..=b'Z' | b'a'..=b'z', ..] => true,
+        _ => false,
+    }
+}
+
 /// What the text begins with, and what follows it.
 pub fn head_of(text: &str) -> Option<(Head<'_>, &str)>
     ensures parts { IsLead text.now (view_heads result) }
     ensures utf8 { IfSome result (λ p. IsUtf8 p.1.now) }
 {
+    // Most values begin so.
+    if is_bare(text) {
+        return bare_head(text);
+    }
     if let Some(quoted) = behind(text, '"') {
         let (inside, rest) = quoted_end(quoted)?;
         return Some((Head::Whole(Whole::Quoted(inside)), rest));
