@@ -28,7 +28,10 @@ for ((count = 0; count < mebibytes; count++)); do cat chunk.bin; done > big.bin
 due=$(for ((count = 0; count < mebibytes; count++)); do cat chunk.lines; done | sha256sum)
 
 [ "$(stat -c %s big.bin)" -gt 268435456 ] || is 'one call' "$("$program" decode --table table.elf < big.bin | sha256sum)" "$due"
-for block in -1 -3 700k; do
+# One part for each processor, unless such a part is more than one call takes.
+largest=-1
+[ "$(stat -c %s big.bin)" -le $((268435456 * $(parallel --number-of-threads))) ] || largest=64M
+for block in "$largest" -3 700k; do
     is "parts by --block $block" "$(in_parts big.bin "$block" | sha256sum)" "$due"
     is "nothing is said of parts by --block $block" "$(< said)" ''
 done
