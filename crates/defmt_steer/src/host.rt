@@ -3,7 +3,7 @@ ghost use Rattle.std.specs.Prelude.{◌≡◌, ◌+◌, ◌<◌, ◌≤◌, true
 ghost use Rattle.std.specs.Coded.{Coded-set};
 ghost use Rattle.defmt_steer.specs.Steers.{Counts, coded_plan, due, whole_frames};
 ghost use Rattle.rtt_down.specs.Orders.{order_of, orders_joined};
-ghost use Rattle.rtt_ring.specs.Views.{UpKept};
+ghost use Rattle.rtt_ring.specs.Views.{UpKept, new_up};
 
 use crate::counting::FrameCount;
 use defmt_hooks::Level;
@@ -53,7 +53,7 @@ fn send_order<U: UpEnd>(up: &mut U, level: Level)
 
 // Sends the orders that are due of those that weren't sent, each behind the one in front of it, and answers how many were sent in
 // all.
-pub(crate) fn send_due<U: UpEnd>(
+fn send_due<U: UpEnd>(
     up: &mut U,
     orders: &[(u32, Level)],
     next: usize,
@@ -127,6 +127,32 @@ pub(crate) struct Host<'g, N: Hosting, U: UpEnd, D: DownEnd, G: Gate> {
     ghost few: { length orders.items ≤ 64 },
     ghost next_is: { next ≡ length (due orders.items count.frames) },
     ghost sent: { (U.view sends).sent ≡ orders_joined (due orders.items count.frames) },
+}
+
+// A host that has taken nothing yet, and has sent the orders that are due at first.
+pub(crate) fn host_of<'g, N: Hosting, U: UpEnd, D: DownEnd, G: Gate>(
+    reads: D,
+    captured: Bytes,
+    mut sends: U,
+    orders: Vec<(u32, Level)>,
+    gate: &'g G,
+) -> Host<'g, N, U, D, G>
+    requires reads { ((D.view reads).split ≡ N.up) × ((D.view reads).got ≡ []) }
+    requires captured { captured.items ≡ [] }
+    requires sends { U.view sends ≡ new_up N.down 256 true }
+    requires orders { (orders.items ≡ N.plan) × (length orders.items ≤ 64) }
+{
+    let next = send_due(&mut sends, &orders, 0, 0);
+    Host {
+        reads,
+        captured,
+        count: FrameCount::new(),
+        sends,
+        orders,
+        next,
+        gate,
+        of: PhantomData,
+    }
 }
 
 // The ends that a host had, and what it captured.

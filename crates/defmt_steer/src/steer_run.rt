@@ -7,8 +7,7 @@ ghost use Rattle.rtt_down.specs.Steered.{turns_of};
 ghost use Rattle.rtt_ring.specs.Views.{new_down, new_up};
 ghost use Rattle.shared_work.specs.Names.{AreNamed};
 
-use crate::counting::FrameCount;
-use crate::host::{Host, HostEnds, Hosting, send_due};
+use crate::host::{Host, HostEnds, Hosting, host_of};
 use defmt_hooks::{Clock, Level, Stamp};
 use defmt_script::Script;
 use defmt_writers::{Gate, RingEnds, SettledRing, finish, prepare, settle, work};
@@ -17,7 +16,7 @@ use rtt_down::{EachStatement, Naming, Steered, Steering, Turns};
 use rtt_ring::{Channel, RingFault, Settled};
 use shared_work::{Blanks, Eight, Named, Names};
 use std::alloc::Global;
-use std::marker::{Brand, PhantomData};
+use std::marker::Brand;
 use std::sync::Wait;
 use std::thread::Threads;
 
@@ -129,7 +128,7 @@ fn run_hosted<
     stamp: Stamp<C>,
     gate: &G,
     ends: RingEnds<H::Up, H::Down>,
-    mut sends: H::Up,
+    sends: H::Up,
     down: H::Down,
 ) -> Result<SteeredRun, Memory>
     requires pace { stamp ≡ pace_of script.settings.stamp }
@@ -152,22 +151,12 @@ fn run_hosted<
     ensures rings { IfOk result (λ r. (r.settled.ring ≡ H.KIND) × (r.orders.ring ≡ H.KIND)) }
 {
     script.lawful();
-    let next = send_due(&mut sends, &orders, 0, 0);
     let RingEnds {
         up,
         down: reads,
         captured,
     } = ends;
-    let host = Host::<N, H::Up, H::Down, G> {
-        reads,
-        captured,
-        count: FrameCount::new(),
-        sends,
-        orders,
-        next,
-        gate,
-        of: PhantomData,
-    };
+    let host = host_of::<N, H::Up, H::Down, G>(reads, captured, sends, orders, gate);
     let (steered, mut helms) = Steered::<
         Eight<Named<E>>,
         EachStatement<K>,
@@ -207,6 +196,29 @@ fn split_orders<H: Channel>(alloc: Global) -> Result<(H::Up, H::Down), Memory>
     }
 }
 
+// The orders of a script, the ends of the ring of frames, and those of the ring of orders.
+fn prepare_steered<H: Channel>(
+    alloc: Global,
+    script: &Script,
+) -> Result<(Vec<(u32, Level)>, RingEnds<H::Up, H::Down>, (H::Up, H::Down)), Memory>
+    requires { H.tells ≡ true }
+    ensures orders { IfOk result (λ p. p.0.items ≡ script.now.settings.orders) }
+    ensures up { IfOk result (λ p. H.Up.view p.1.up
+        ≡ new_up (H.Up.view p.1.up).split (H.Up.view p.1.up).size (H.Up.view p.1.up).tells) }
+    ensures reads { IfOk result (λ p. H.Down.view p.1.down
+        ≡ new_down (H.Up.view p.1.up).split (H.Up.view p.1.up).size) }
+    ensures captured { IfOk result (λ p. p.1.captured.items ≡ []) }
+    ensures sends { IfOk result (λ p. H.Up.view p.2.0
+        ≡ new_up (H.Up.view p.2.0).split 256 true) }
+    ensures down { IfOk result (λ p. H.Down.view p.2.1
+        ≡ new_down (H.Up.view p.2.0).split 256) }
+{
+    let orders = orders_of(alloc, script)?;
+    let ends = prepare::<H>(alloc, script)?;
+    let order_ends = split_orders::<H>(alloc)?;
+    Ok((orders, ends, order_ends))
+}
+
 /// Runs a script under orders: a thread for each writer that has statements takes their turns, and the calling thread reads the
 /// frames and sends the orders.
 ///
@@ -231,9 +243,7 @@ pub fn run_steered<H: Channel, C: Clock + Send + Drop, G: Gate + Sync, R: Thread
         r.turns.turns r.settled r.captured.items r.rest.items r.orders r.unheard.items) }
     ensures rings { IfOk result (λ r. (r.settled.ring ≡ H.KIND) × (r.orders.ring ≡ H.KIND)) }
 {
-    let orders = orders_of(alloc, &script)?;
-    let ends = prepare::<H>(alloc, &script)?;
-    let (sends, down) = split_orders::<H>(alloc)?;
+    let (orders, ends, (sends, down)) = prepare_steered::<H>(alloc, &script)?;
     run_hosted::<H, Brand, Brand, Brand, C, G, R>(
         rt,
         alloc,

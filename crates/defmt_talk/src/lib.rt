@@ -6,6 +6,9 @@
 //! left, and settles both.
 #![tactic(auto)]
 
+mod ends;
+mod settling;
+mod starting;
 mod talk_run;
 mod talking;
 

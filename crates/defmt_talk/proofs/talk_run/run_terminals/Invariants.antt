@@ -1,5 +1,5 @@
 use Rattle.shared_work.specs.Names.{names_of}
-use Rattle.defmt_talk.proofs.talk_run.run_spoken.Given as goal
+use Rattle.defmt_talk.proofs.talk_run.run_terminals.Given as goal
 
 abbrev pub ghosts-run_both-E-Names : goal.ghosts-run_both-E-Names
 ghosts-run_both-E-Names g a = record { names = names_of a.blanks }

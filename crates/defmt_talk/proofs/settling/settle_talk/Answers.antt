@@ -1,6 +1,6 @@
 use Rattle.std.proofs.Common.{◌∙◌}
 use Rattle.defmt_talk.proofs.TalkLaws.{talk_ends}
-use Rattle.defmt_talk.proofs.talk_run.settle_talk.Goals as goal
+use Rattle.defmt_talk.proofs.settling.settle_talk.Goals as goal
 
 pub returns-clause-talk : goal.returns-clause-talk
 returns-clause-talk g c =

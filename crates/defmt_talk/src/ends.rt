@@ -1,0 +1,87 @@
+//! The ends of the two rings of a run with texts for terminals, and the room for what is read of them.
+ghost use Rattle.std.specs.Prelude.{◌≡◌, ◌≤◌, List, [], IfOk, length};
+ghost use Rattle.defmt_logger.specs.Kept.{TellsIn};
+ghost use Rattle.defmt_writers.specs.Runs.{ModeFits};
+ghost use Rattle.rtt_booth.specs.Said.{IsLawful, spoken_by};
+ghost use Rattle.rtt_booth.specs.declared.said.Word.{Word};
+ghost use Rattle.rtt_ring.specs.Views.{new_down, new_up};
+
+use defmt_script::Script;
+use defmt_writers::{RingEnds, empty_capture, prepare};
+use dl_io::Memory;
+use rtt_booth::spoken_is_short;
+use rtt_ring::{Channel, RingFault};
+use rtt_terminal::Speech;
+use std::alloc::Global;
+
+// How many bytes the terminals' ring has.
+const RING_SIZE: u32 = 1024;
+
+// How many bytes a line and its switch have at most.
+const LINE_SIZE: usize = 2003;
+
+// How many bytes are enough for what any lawful words speak: as many as the longest lines of all texts have.
+fn talk_size(speech: &Speech) -> usize
+    ensures { (words : List Word) → IsLawful speech.now words
+        → length (spoken_by speech.now words) ≤ result }
+{
+    spoken_is_short();
+    speech.lawful();
+    speech.len() as usize * LINE_SIZE
+}
+
+// The two ends of a new ring for terminals, whose size no ring refuses.
+fn split_ring<H: Channel>(alloc: Global) -> Result<(H::Up, H::Down), Memory>
+    ensures up { IfOk result (λ e. H.Up.view e.0
+        ≡ new_up (H.Up.view e.0).split (H.Up.view e.0).size (H.Up.view e.0).tells) }
+    ensures down { IfOk result (λ e. H.Down.view e.1
+        ≡ new_down (H.Up.view e.0).split (H.Up.view e.0).size) }
+{
+    match H::split(alloc, RING_SIZE) {
+        Ok(ends) => Ok(ends),
+        Err(RingFault::Memory) => Err(Memory),
+        Err(RingFault::Size) => unreachable!(),
+    }
+}
+
+// The two ends of a new ring for terminals, and the room for what its reader takes, with nothing in it.
+fn prepare_talk<H: Channel>(
+    alloc: Global,
+    speech: &Speech,
+) -> Result<RingEnds<H::Up, H::Down>, Memory>
+    ensures up { IfOk result (λ e. H.Up.view e.up
+        ≡ new_up (H.Up.view e.up).split (H.Up.view e.up).size (H.Up.view e.up).tells) }
+    ensures down { IfOk result (λ e. H.Down.view e.down
+        ≡ new_down (H.Up.view e.up).split (H.Up.view e.up).size) }
+    ensures captured { IfOk result (λ e. e.captured.items ≡ []) }
+{
+    let captured = empty_capture(alloc, talk_size(speech))?;
+    let (up, down) = split_ring::<H>(alloc)?;
+    Ok(RingEnds { up, down, captured })
+}
+
+// What the writers have to say, and the ends of both rings.
+pub(crate) fn prepare_both<H: Channel>(
+    alloc: Global,
+    script: &Script,
+) -> Result<(Speech, RingEnds<H::Up, H::Down>, RingEnds<H::Up, H::Down>), Memory>
+    requires { ModeFits script.now.settings.mode H.tells }
+    ensures speech { IfOk result (λ b. b.0 ≡ script.now.said) }
+    ensures up { IfOk result (λ b. H.Up.view b.1.up
+        ≡ new_up (H.Up.view b.1.up).split script.now.settings.ring
+        (H.Up.view b.1.up).tells) }
+    ensures told { IfOk result (λ b. TellsIn script.now.settings.mode (H.Up.view b.1.up)) }
+    ensures down { IfOk result (λ b. H.Down.view b.1.down
+        ≡ new_down (H.Up.view b.1.up).split script.now.settings.ring) }
+    ensures captured { IfOk result (λ b. b.1.captured.items ≡ []) }
+    ensures text_up { IfOk result (λ b. H.Up.view b.2.up ≡ new_up (H.Up.view b.2.up).split
+        (H.Up.view b.2.up).size (H.Up.view b.2.up).tells) }
+    ensures text_down { IfOk result (λ b. H.Down.view b.2.down
+        ≡ new_down (H.Up.view b.2.up).split (H.Up.view b.2.up).size) }
+    ensures text_captured { IfOk result (λ b. b.2.captured.items ≡ []) }
+{
+    let speech = script.speech().copy(alloc)?;
+    let ends = prepare::<H>(alloc, script)?;
+    let text_ends = prepare_talk::<H>(alloc, &speech)?;
+    Ok((speech, ends, text_ends))
+}

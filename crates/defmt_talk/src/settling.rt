@@ -1,0 +1,79 @@
+//! How the two rings of a run with texts for terminals are settled.
+ghost use Rattle.std.specs.Prelude.{◌≡◌, ◌<◌, ℕ, [], IfOk};
+ghost use Rattle.defmt_frames.specs.Frames.{count as count_of};
+ghost use Rattle.defmt_logger.specs.Kept.{IsKept};
+ghost use Rattle.defmt_logger.specs.Tape.{marks_of};
+ghost use Rattle.defmt_writers.specs.Runs.{IsRun};
+ghost use Rattle.defmt_talk.specs.Talks.{IsTalk};
+ghost use Rattle.rtt_booth.specs.Said.{IsLawful, spoken_by, words_of};
+ghost use Rattle.rtt_terminal.specs.Speech.{count_said};
+
+use crate::talk_run::Talk;
+use defmt_logger::{Naming, Tape};
+use defmt_script::Script;
+use defmt_writers::{Drain, FromSplit, Gate, OpenGate, Reader, Run, SettledRing, settle, settle_run};
+use dl_io::Memory;
+use rtt_booth::Said;
+use rtt_modes::Both;
+use rtt_ring::Channel;
+use std::alloc::Global;
+
+// Settles the terminals' ring of a run of which every text was said.
+fn settle_talk<H: Channel, M: FromSplit, V: rtt_booth::Naming>(
+    alloc: Global,
+    said: Said,
+    up: H::Up,
+    reader: Reader<'static, M, H::Down, OpenGate>,
+) -> Result<Talk, Memory>
+    requires split { (H.Up.view up).split ≡ M.split }
+    requires lawful { IsLawful V.speech said.words }
+    requires sent { (H.Up.view up).sent ≡ spoken_by V.speech said.words }
+    requires staged { (H.Up.view up).staged ≡ [] }
+    requires all { (w : ℕ) → w < 8 → words_of w said.words ≡ count_said V.speech w }
+    ensures talk { IfOk result (λ t.
+        IsTalk V.speech t.said.words t.settled t.captured.items t.rest.items) }
+    ensures ring { IfOk result (λ t. t.settled.ring ≡ H.KIND) }
+{
+    let (down, captured) = reader.into_parts();
+    let SettledRing { settled, rest } = settle::<H>(alloc, up, down)?;
+    Ok(Talk {
+        said,
+        settled,
+        captured,
+        rest,
+    })
+}
+
+// Settles both rings.
+pub(crate) fn settle_both<H: Channel, N: FromSplit, K: Naming, M: FromSplit, V: rtt_booth::Naming, G: Gate>(
+    alloc: Global,
+    tape: Tape,
+    up: H::Up,
+    script: Script,
+    said: Said,
+    text_up: H::Up,
+    readers: Both<Drain<'_, N, K, H::Down, G>, Reader<'static, M, H::Down, OpenGate>>,
+) -> Result<(Run, Talk), Memory>
+    requires script { script ≡ K.script }
+    requires split { (H.Up.view up).split ≡ N.split }
+    requires kept { IsKept (record { script = script; tape = tape; up = H.Up.view up }) }
+    requires all { (w : ℕ) → w < 8 → marks_of w tape.marks ≡ count_of K.script w }
+    requires text_split { (H.Up.view text_up).split ≡ M.split }
+    requires lawful { IsLawful V.speech said.words }
+    requires sent { (H.Up.view text_up).sent ≡ spoken_by V.speech said.words }
+    requires staged { (H.Up.view text_up).staged ≡ [] }
+    requires all_said { (w : ℕ) → w < 8 → words_of w said.words ≡ count_said V.speech w }
+    ensures script { IfOk result (λ r. r.0.script ≡ K.script) }
+    ensures run { IfOk result (λ r. IsRun K.script
+        r.0.tape.marks r.0.settled r.0.captured.items r.0.rest.items r.0.looks) }
+    ensures talk { IfOk result (λ r. IsTalk V.speech
+        r.1.said.words r.1.settled r.1.captured.items r.1.rest.items) }
+    ensures rings { IfOk result (λ r.
+        (r.0.settled.ring ≡ H.KIND) × (r.1.settled.ring ≡ H.KIND)) }
+{
+    let Both { first, second } = readers;
+    let talk = settle_talk::<H, M, V>(alloc, said, text_up, second)?;
+    let run = settle_run::<H, N, K, G>(alloc, tape, up, script, first)?;
+    Ok((run, talk))
+}
+

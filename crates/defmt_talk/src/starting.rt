@@ -1,0 +1,76 @@
+//! What a run with texts for terminals starts.
+ghost use Rattle.std.specs.Prelude.{◌≡◌};
+ghost use Rattle.defmt_frames.specs.Frames.{pace_of};
+ghost use Rattle.defmt_logger.specs.Kept.{TellsIn};
+ghost use Rattle.rtt_ring.specs.Views.{new_up};
+ghost use Rattle.shared_work.specs.Names.{AreNamed};
+
+use defmt_hooks::{Clock, Stamp};
+use defmt_logger::{EachStatement, Logger, Logging, Naming};
+use defmt_script::Script;
+use dl_io::Memory;
+use rtt_booth::{Booth, EachText, Speaking};
+use rtt_ring::UpEnd;
+use rtt_terminal::Speech;
+use shared_work::{Blanks, Eight, Named, Names, Pens};
+use std::alloc::Global;
+
+// A logger of a run and its pens.
+pub(crate) type Logs<E, K, U, C> = (
+    Logger<Eight<Named<E>>, EachStatement<K>, Logging<K, U, C>>,
+    Pens<Named<E>, EachStatement<K>>,
+);
+
+// A booth of a run and its voices.
+pub(crate) type Booths<F, V, U> = (
+    Booth<Eight<Named<F>>, EachText<V>, Speaking<V, U>>,
+    Pens<Named<F>, EachText<V>>,
+);
+
+// Both, where both are there.
+fn both<A: Drop, B: Drop>(
+    first: Result<A, Memory>,
+    second: Result<B, Memory>,
+) -> Result<(A, B), Memory> {
+    Ok((first?, second?))
+}
+
+// Starts a logger and a booth, each over the upper end of its ring, under their names.
+pub(crate) fn start_both<
+    U: UpEnd + Drop,
+    E: Names,
+    K: Naming,
+    F: Names,
+    V: rtt_booth::Naming,
+    C: Clock + Drop,
+>(
+    alloc: Global,
+    blanks: Blanks,
+    text_blanks: Blanks,
+    script: Script,
+    speech: &Speech,
+    stamp: Stamp<C>,
+    up: U,
+    text_up: U,
+) -> Result<(Logs<E, K, U, C>, Booths<F, V, U>), Memory>
+    requires pace { stamp ≡ pace_of script.settings.stamp }
+    requires up { U.view up ≡ new_up (U.view up).split script.settings.ring (U.view up).tells }
+    requires told { TellsIn script.settings.mode (U.view up) }
+    requires names { (K.script ≡ script) × (K.split ≡ (U.view up).split) }
+    requires ledgers { AreNamed blanks E.names }
+    requires text_up { U.view text_up
+        ≡ new_up (U.view text_up).split (U.view text_up).size (U.view text_up).tells }
+    requires text_names { (V.speech ≡ speech.now) × (V.split ≡ (U.view text_up).split) }
+    requires text_ledgers { AreNamed text_blanks F.names }
+{
+    let logs = Logger::<Eight<Named<E>>, EachStatement<K>, Logging<K, U, C>>::start(
+        alloc, blanks, script, stamp, up,
+    );
+    let booths = Booth::<Eight<Named<F>>, EachText<V>, Speaking<V, U>>::start(
+        alloc,
+        text_blanks,
+        speech,
+        text_up,
+    );
+    both(logs, booths)
+}
