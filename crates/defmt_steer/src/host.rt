@@ -53,12 +53,7 @@ fn send_order<U: UpEnd>(up: &mut U, level: Level)
 
 // Sends the orders that are due of those that weren't sent, each behind the one in front of it, and answers how many were sent in
 // all.
-fn send_due<U: UpEnd>(
-    up: &mut U,
-    orders: &[(u32, Level)],
-    next: usize,
-    frames: u64,
-) -> usize
+fn send_due<U: UpEnd>(up: &mut U, orders: &[(u32, Level)], next: usize, frames: u64) -> usize
     requires few { length orders.now ≤ 64 }
     requires next { next ≤ length (due orders.now frames) }
     requires sent { (U.view up.old).sent ≡ orders_joined (take next (due orders.now frames)) }

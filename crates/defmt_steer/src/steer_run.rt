@@ -200,7 +200,14 @@ fn split_orders<H: Channel>(alloc: Global) -> Result<(H::Up, H::Down), Memory>
 fn prepare_steered<H: Channel>(
     alloc: Global,
     script: &Script,
-) -> Result<(Vec<(u32, Level)>, RingEnds<H::Up, H::Down>, (H::Up, H::Down)), Memory>
+) -> Result<
+    (
+        Vec<(u32, Level)>,
+        RingEnds<H::Up, H::Down>,
+        (H::Up, H::Down),
+    ),
+    Memory,
+>
     requires { H.tells ≡ true }
     ensures orders { IfOk result (λ p. p.0.items ≡ script.now.settings.orders) }
     ensures up { IfOk result (λ p. H.Up.view p.1.up

@@ -1,5 +1,5 @@
 -- How a run of texts ends.
-use Rattle.std.proofs.Common.{◌≡◌, ℕ, ◌<◌, List, ◌++◌, ap, ◌∙◌}
+use Rattle.std.proofs.Common.{◌≡◌, ℕ, ◌<◌, List, ◌++◌, Result, Ok, IfOk, ap, ◌∙◌, subst}
 use Rattle.defmt_talk.specs.Talks.{IsTalk}
 use Rattle.rtt_booth.specs.Said.{IsLawful, spoken_by, words_of}
 use Rattle.rtt_booth.specs.declared.said.Word.{Word}
@@ -21,3 +21,7 @@ talk_ends speech words sent a captured rest lawful all is sends got whole = reco
   takes = got;
   whole = whole ∙ ap (λ (l : List ℕ). l ++ rest) got;
 }
+
+-- what holds of an answer that is there holds of what it has
+pub ok_of : {A E : Type 0} (r : Result A E) (a : A) (P : A → Type 0) → r ≡ Ok a → IfOk r P → P a
+ok_of {A} {E} r a P is h = subst (λ (x : Result A E). IfOk x P) is h

@@ -1,5 +1,5 @@
 //! How the two rings of a run with texts for terminals are settled.
-ghost use Rattle.std.specs.Prelude.{◌≡◌, ◌<◌, ℕ, [], IfOk};
+ghost use Rattle.std.specs.Prelude.{◌≡◌, ◌<◌, ℕ, [], IfOk, Ok};
 ghost use Rattle.defmt_frames.specs.Frames.{count as count_of};
 ghost use Rattle.defmt_logger.specs.Kept.{IsKept};
 ghost use Rattle.defmt_logger.specs.Tape.{marks_of};
@@ -11,7 +11,9 @@ ghost use Rattle.rtt_terminal.specs.Speech.{count_said};
 use crate::talk_run::Talk;
 use defmt_logger::{Naming, Tape};
 use defmt_script::Script;
-use defmt_writers::{Drain, FromSplit, Gate, OpenGate, Reader, Run, SettledRing, settle, settle_run};
+use defmt_writers::{
+    Drain, FromSplit, Gate, OpenGate, Reader, Run, SettledRing, settle, settle_run,
+};
 use dl_io::Memory;
 use rtt_booth::Said;
 use rtt_modes::Both;
@@ -44,8 +46,25 @@ fn settle_talk<H: Channel, M: FromSplit, V: rtt_booth::Naming>(
     })
 }
 
+// Both, where both are there.
+pub(crate) fn both<A: Drop, B: Drop>(
+    first: Result<A, Memory>,
+    second: Result<B, Memory>,
+) -> Result<(A, B), Memory>
+    ensures { IfOk result (λ r. (first ≡ Ok r.0) × (second ≡ Ok r.1)) }
+{
+    Ok((first?, second?))
+}
+
 // Settles both rings.
-pub(crate) fn settle_both<H: Channel, N: FromSplit, K: Naming, M: FromSplit, V: rtt_booth::Naming, G: Gate>(
+pub(crate) fn settle_both<
+    H: Channel,
+    N: FromSplit,
+    K: Naming,
+    M: FromSplit,
+    V: rtt_booth::Naming,
+    G: Gate,
+>(
     alloc: Global,
     tape: Tape,
     up: H::Up,
@@ -72,8 +91,7 @@ pub(crate) fn settle_both<H: Channel, N: FromSplit, K: Naming, M: FromSplit, V: 
         (r.0.settled.ring ≡ H.KIND) × (r.1.settled.ring ≡ H.KIND)) }
 {
     let Both { first, second } = readers;
-    let talk = settle_talk::<H, M, V>(alloc, said, text_up, second)?;
-    let run = settle_run::<H, N, K, G>(alloc, tape, up, script, first)?;
-    Ok((run, talk))
+    let talk = settle_talk::<H, M, V>(alloc, said, text_up, second);
+    let run = settle_run::<H, N, K, G>(alloc, tape, up, script, first);
+    both(run, talk)
 }
-

@@ -5,6 +5,7 @@ ghost use Rattle.defmt_logger.specs.Kept.{TellsIn};
 ghost use Rattle.rtt_ring.specs.Views.{new_up};
 ghost use Rattle.shared_work.specs.Names.{AreNamed};
 
+use crate::settling::both;
 use defmt_hooks::{Clock, Stamp};
 use defmt_logger::{EachStatement, Logger, Logging, Naming};
 use defmt_script::Script;
@@ -26,14 +27,6 @@ pub(crate) type Booths<F, V, U> = (
     Booth<Eight<Named<F>>, EachText<V>, Speaking<V, U>>,
     Pens<Named<F>, EachText<V>>,
 );
-
-// Both, where both are there.
-fn both<A: Drop, B: Drop>(
-    first: Result<A, Memory>,
-    second: Result<B, Memory>,
-) -> Result<(A, B), Memory> {
-    Ok((first?, second?))
-}
 
 // Starts a logger and a booth, each over the upper end of its ring, under their names.
 pub(crate) fn start_both<

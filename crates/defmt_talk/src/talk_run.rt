@@ -117,6 +117,11 @@ fn run_started<
     settle_both::<H, N, K, M, V, G>(alloc, tape, up, script, said, text_up, readers)
 }
 
+// What was made, with what is kept beside it.
+fn with<A: Drop, B>(kept: A, made: Result<B, Memory>) -> Result<(A, B), Memory> {
+    Ok((kept, made?))
+}
+
 // Runs a script over the two ends of one split, and its texts over those of another, under their names.
 fn run_both<
     H: Channel,
@@ -182,7 +187,7 @@ fn run_both<
         text_down,
         text_captured,
     );
-    let (logs, booths) = start_both::<H::Up, E, K, F, V, C>(
+    let started = start_both::<H::Up, E, K, F, V, C>(
         alloc,
         blanks,
         text_blanks,
@@ -191,7 +196,8 @@ fn run_both<
         stamp,
         up,
         text_up,
-    )?;
+    );
+    let (readers, (logs, booths)) = with(readers, started)?;
     run_started::<H, E, N, K, F, M, V, C, G, R>(rt, alloc, speech, gate, logs, booths, readers)
 }
 
@@ -236,4 +242,3 @@ pub fn run_terminals<H: Channel, C: Clock + Send + Drop, G: Gate + Sync, R: Thre
         text_ends,
     )
 }
-
