@@ -27,7 +27,7 @@ none=$(frame) && shown=$(frame --only trace) && hidden=$(frame --only off) || ex
 echo "instructions a frame: without rules $none, with --only trace $shown, with --only off $hidden"
 
 valgrind --tool=callgrind --callgrind-out-file="$work/counts" "$program" decode --table "$work/table.elf" < "$work/stream.4096" > "$work/out" 2> "$work/log" || exit 1
-rules=$(callgrind_annotate --threshold=100 "$work/counts" | awk '/defmt_hooks::|::screen::|::Screened/ { gsub(",", "", $1); sum += $1 } END { print sum + 0 }')
+rules=$(callgrind_annotate --threshold=100 "$work/counts" | awk '/defmt_hooks::|::screen(ed)?::/ { gsub(",", "", $1); sum += $1 } END { print sum + 0 }')
 judge "instructions a line of rules where there are none" "$(ratio 4096 "$rules")" 10
 judge "a line that isn't shown to one that is" "$(ratio "$shown" "$hidden")" 0.99
 exit "$worst"

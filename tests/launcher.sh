@@ -154,7 +154,7 @@ has 'the program is the proved one' "$said" 'proved one'
 has 'how far a build is' "$said" 'crate 2 of 6 is done: '
 has 'how long it will take' "$said" 'About '
 has 'how long the first build takes' "$said" 'half an hour on four processors, an hour on two'
-is 'a crate that stands alone gets all processors' "$(grep -c '^low lib --jobs 4\|^top lib --jobs 4\|^defmt_cli run --jobs 4' "$kit/calls")" 3
+is 'a crate that stands alone has two jobs, and the program one' "$(grep -c '^low lib --jobs 2$\|^top lib --jobs 2$\|^defmt_cli run --jobs 1 ' "$kit/calls")" 3
 is 'two side by side share the processors' "$(grep '^left\|^right' "$kit/calls" | grep -o '[0-9]*$' | sort | tr '\n' ' ')" '2 2 '
 is 'each crate has one call, but the last library has none of its own' "$(calls)" 5
 is 'nothing else is kept of the last library' "$(find crates/defmt_run/out/incremental -type f | wc -l)" 1
@@ -267,9 +267,9 @@ for crate in left right; do
 done
 
 begin 0.1
-echo 3 > "$kit/memory"
+echo 2 > "$kit/memory"
 call run < /dev/null
-is 'with little memory there are fewer jobs' "$(grep -c 'jobs 2' "$kit/calls") $(grep -c 'jobs [34]' "$kit/calls")" '5 0'
+is 'with little memory each crate has one job' "$(grep -vc ' --jobs 1' "$kit/calls")" 0
 if grep -A 1 '^begin \(left\|right\)' "$kit/events" | tr '\n' ' ' | grep -q '^begin [a-z]* begin'; then fail "with little memory two crates are proved side by side: $(events)"; else pass; fi
 
 for end in 9 247; do
