@@ -5,12 +5,11 @@ use Rattle.std.specs.Io.KnownBytes.{Consumes}
 use Rattle.std.specs.Str.Lines.{lines}
 use Rattle.std.proofs.lemmas.Bool.{true≢false}
 use Rattle.std.proofs.lemmas.Option.{same_Some}
-use Rattle.defmt_generate.specs.Generated.{generated}
 use Rattle.defmt_listen.specs.Streams.{Input, IsRest, Output}
 use Rattle.defmt_recording.specs.Calls.{Files, IsUnread, IsUntouched, IsUnwritten}
 use Rattle.defmt_recording.specs.Decoding.{fault_of_recording}
 use Rattle.defmt_recording.specs.Dumping.{fault_of_image}
-use Rattle.defmt_run.specs.Running.{BlockingComesTo, Comes, ComesNot, Gave, GaveWhole, IsFaultOf, Made, MayNotSteer, ReadingComesTo, RefusesMode, Runs, RunningComesTo, SteeringComesTo, Stops, StopsBlocking, TookShort, Withholds, WithholdsBlocking, Writes, fault_of_read, script_limit}
+use Rattle.defmt_run.specs.Running.{BlockingComesTo, Comes, ComesNot, GaveWhole, IsFaultOf, Made, MayNotSteer, ReadingComesTo, RefusesMode, Runs, RunningComesTo, SteeringComesTo, TookShort, Withholds, Writes, fault_of_read, script_limit}
 use Rattle.defmt_run.specs.Session.{Answers, ComesTo, MayComeTo, MustComeTo, OrFails, ReadsSource}
 use Rattle.defmt_recording.specs.Inputs.{AreAsTold, Inputs}
 use Rattle.defmt_recording.specs.Status.{status_of}
@@ -22,7 +21,7 @@ use Rattle.defmt_recording.proofs.Loading.{load_one}
 use Rattle.defmt_recording.proofs.Recordings.{decode_may, decode_words}
 use Rattle.defmt_recording.proofs.ToldInputs.{all_taken, any_files, any_inputs, consumes, keeps, some_text}
 use Rattle.defmt_script.specs.Reads.{Reads}
-use Rattle.defmt_script.specs.Script.{Refusal, Script as Read, count_all}
+use Rattle.defmt_script.specs.Script.{Refusal, Script as Read}
 use Rattle.defmt_words.specs.declared.job.Job.{Job}
 use Rattle.defmt_words.specs.declared.job.Job.TheVariants as jobs
 use Rattle.defmt_words.specs.declared.job.ScriptJob.{ScriptJob}
@@ -32,48 +31,6 @@ use Rattle.rtt_down.specs.Modes.{FirstMode}
 -- a text is read in one way
 abbrev pub OneReading : Type 0
 OneReading = (text : List ℕ) (read other : Result Read Refusal) → Reads text read → Reads text other → read ≡ other
-
--- a generated text reads as a script
-abbrev pub IsReadable : Type 0
-IsReadable = (count : ℕ) → count ≤ 4096 → (script : Read) × Reads (generated count) (Ok script) × (count_all script.writers ≡ count)
-
--- ---- where a script comes from
-
--- a job on a script that is neither a generated one nor steered
-pub from_source : (job : ScriptJob) (input : Input) (s : Read) → ((count : ℕ) → job ≡ Generate count → ⊥) → (job ≡ Steer → ⊥) → Gave input s → Comes job input s
-from_source (Generate count) input s other not_steer gave = absurd (other count refl)
-from_source Steer input s other not_steer gave = absurd (not_steer refl)
-from_source job input s other not_steer gave = gave
-
-pub not_from_source : (job : ScriptJob) (input : Input) (fault : Fault) → ((count : ℕ) → job ≡ Generate count → ⊥) → Withholds input fault → ComesNot job input fault
-not_from_source (Generate count) input fault other withholds = absurd (other count refl)
-not_from_source Steer input fault other withholds = inl withholds
-not_from_source job input fault other withholds = withholds
-
--- memory may be wanting once the script is there
-pub wanting : (job : ScriptJob) (input : Input) (s : Read) → Comes job input s → ComesNot job input Memory
-wanting (Generate count) input s comes = (refl, comes.1)
-wanting Steer input s gave = inl (gave.0.text, gave.0.whole.within, gave.0.whole.taken)
-wanting job input s gave = (gave.text, gave.whole.within, gave.whole.taken)
-
--- a text that gives no script, of a source that was read
-pub withholds : (input : Input) (text : List ℕ) (fault : Fault) → GaveWhole input text → Stops text fault → Withholds input fault
-withholds input text Memory whole stops = (text, whole.within, whole.taken)
-withholds input text (Script line cause inner) whole stops = record { text = text; whole = whole; refused = stops }
-withholds input text fault whole stops = absurd stops
-
-pub withholds_blocking : (input : Input) (text : List ℕ) (fault : Fault) → GaveWhole input text → StopsBlocking text fault → WithholdsBlocking input fault
-withholds_blocking input text fault whole (inl stops) = inl (withholds input text fault whole stops)
-withholds_blocking input text (Script line cause inner) whole (inr other) = inr (other.0, other.1, record { text = text; whole = whole; other = other.2 })
-withholds_blocking input text fault whole (inr other) = absurd other
-
--- a generated one gives one unless memory is wanting
-pub never_stops : OneReading → IsReadable → (count : ℕ) (fault : Fault) → count ≤ 4096 → Stops (generated count) fault → fault ≡ Memory
-never_stops one readable count Memory few stops = refl
-never_stops one readable count (Script line cause inner) few stops =
-    let read = readable count few in
-    absurd (cc (one (generated count) (Ok read.0) (Err (record { line = line; cause = cause; inner = inner })) read.1 stops))
-never_stops one readable count fault few stops = absurd stops
 
 -- ---- what was made was written, or the sink failed
 

@@ -2,3 +2,4 @@ pub mod Deciding
 pub mod RunMade
 pub mod SteeredMade
 pub mod Tables
+pub mod Texts

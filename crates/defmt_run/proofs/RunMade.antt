@@ -1,16 +1,21 @@
 -- What a run comes to.
 use Rattle.std.proofs.Common.{◌≡◌, ◌++◌, ℕ, List, [], refl, sym, ap, subst, ◌∙◌}
-use Rattle.std.specs.Prelude.{IfOk, None, Option, Result, Some}
+use Rattle.std.specs.Prelude.{Err, IfOk, None, Ok, Option, Result, Some}
 use Rattle.defmt_decode.specs.Event.{events_of}
 use Rattle.defmt_decode.specs.declared.event.Event.{Event}
 use Rattle.defmt_logger.specs.declared.mark.Mark.{Mark}
-use Rattle.defmt_run.specs.Making.{Makes, RanAlone, RanHeard, RanUnheard}
+use Rattle.defmt_run.specs.Making.{IsLogged, Makes, MakesAlone, RanAlone, RanHeard, RanUnheard}
 use Rattle.defmt_print.specs.Heard.{GapsIn, LinesIn, catalog_of}
-use Rattle.defmt_run.specs.Told.{IsUnspoken, Ran, Spoke, Told, told, told_of}
+use Rattle.defmt_run.specs.Told.{IsUntold, Ran, Spoke, Told, told, told_of}
+use Rattle.defmt_run.specs.declared.hearing.Heard.{Heard}
 use Rattle.defmt_run.specs.declared.making.Making.{Making}
 use Rattle.defmt_script.specs.Script.{Script}
+use Rattle.defmt_words.specs.declared.job.RunOptions.{RunOptions}
 use Rattle.defmt_words.specs.declared.job.ScriptJob.{ScriptJob}
+use Rattle.defmt_words.specs.declared.job.ScriptJob.TheVariants.{Run, Record, Terminals, Steer, Table, Print, Generate}
 use Rattle.defmt_writers.specs.Runs.{IsRun}
+use Rattle.defmt_writers.specs.declared.script_run.Run.{Run as ScriptRun}
+use Rattle.dl_io.specs.Buffer.{Buffer}
 use Rattle.defmt_talk.specs.Talks.{IsTalk}
 use Rattle.rtt_booth.specs.declared.said.Word.{Word as SaidWord}
 use Rattle.rtt_ring.specs.Account.{Account}
@@ -54,17 +59,51 @@ module _ (s : Script) (tape : List Mark) (account : Account) (captured rest : Li
     got = (left, talk.whole ∙ ap (λ (l : List ℕ). l ++ left) (sym talk.takes));
   }
 
--- by other names
-pub so_told : (P : Told → Type 0) (line : Told → List ℕ) (given other : Told) (output written : List ℕ) → given ≡ other → output ≡ written → written ≡ line other → P other
-    → P given × (output ≡ line given)
-so_told P line given other output written told_is output_is is so = (subst P (sym told_is) so, output_is ∙ is ∙ ap line (sym told_is))
+-- what was heard of a run is what comes of the job
+pub makes_so : {E F : Type 0} (job : ScriptJob) (s script : Script) (tells : Heard → Told) (heard : Result Heard E) (made : Result Making F) → s ≡ script
+    → IfOk heard (λ (h : Heard). Makes job s (tells h) h.output.items)
+    → IfOk made (λ (m : Making). (h : Heard) × (heard ≡ Ok h) × (m.output.items ≡ h.output.items) × (told m.outcome ≡ tells h))
+    → IfOk made (λ (m : Making). Makes job script (told m.outcome) m.output.items)
+makes_so {E} job s script tells heard (Ok m) is makes made =
+    let h : Heard = made.0 in
+    let of_h : Makes job s (tells h) h.output.items = subst (λ (r : Result Heard E). IfOk r (λ (h : Heard). Makes job s (tells h) h.output.items)) made.1 makes in
+    let of_m : Makes job s (tells h) m.output.items = subst (λ (output : List ℕ). Makes job s (tells h) output) (sym made.2) of_h in
+    let told_m : Makes job s (told m.outcome) m.output.items = subst (λ (t : Told). Makes job s t m.output.items) (sym made.3) of_m in
+    subst (λ (x : Script). Makes job x (told m.outcome) m.output.items) is told_m
+makes_so job s script tells heard (Err e) is makes made = tt
 
--- by another name of the script
-pub make_as : {E : Type 0} (job : ScriptJob) (s script : Script) (made : Result Making E) → s ≡ script
-    → IfOk made (λ (m : Making). Makes job s (told m.outcome) m.output.items) → IfOk made (λ (m : Making). Makes job script (told m.outcome) m.output.items)
-make_as job s script made is makes = subst (λ (x : Script). IfOk made (λ (m : Making). Makes job x (told m.outcome) m.output.items)) is makes
-
--- and of the job
+-- by another name of the job
 pub make_so : {E : Type 0} (job other : ScriptJob) (s : Script) (made : Result Making E) → job ≡ other
     → IfOk made (λ (m : Making). Makes other s (told m.outcome) m.output.items) → IfOk made (λ (m : Making). Makes job s (told m.outcome) m.output.items)
 make_so job other s made is makes = subst (λ (j : ScriptJob). IfOk made (λ (m : Making). Makes j s (told m.outcome) m.output.items)) (sym is) makes
+
+pub alone_so : {E : Type 0} (job other : ScriptJob) (run : ScriptRun) (heard : Result Heard E) → job ≡ other
+    → IfOk heard (λ (h : Heard). MakesAlone other run h.events h.output.items) → IfOk heard (λ (h : Heard). MakesAlone job run h.events h.output.items)
+alone_so job other run heard is makes = subst (λ (j : ScriptJob). IfOk heard (λ (h : Heard). MakesAlone j run h.events h.output.items)) (sym is) makes
+
+pub counts_else : {E : Type 0} (job : ScriptJob) (run : ScriptRun) (heard : Result Heard E) → ((options : RunOptions) → job ≡ Run options → ⊥) → (job ≡ Record → ⊥) → IsLogged job
+    → IfOk heard (λ (h : Heard). (count : ℕ) → MakesAlone (Generate count) run h.events h.output.items) → IfOk heard (λ (h : Heard). MakesAlone job run h.events h.output.items)
+counts_else job run (Err e) not_run not_record logged makes = tt
+counts_else (Run options) run (Ok h) not_run not_record logged makes = absurd (not_run options refl)
+counts_else Record run (Ok h) not_run not_record logged makes = absurd (not_record refl)
+counts_else (Generate count) run (Ok h) not_run not_record logged makes = makes count
+counts_else job run (Ok h) not_run not_record logged makes = absurd logged
+
+-- a script that isn't run
+pub unrun_so : {E F : Type 0} (job : ScriptJob) (s : Script) (text : List ℕ) (output : Result Buffer E) (made : Result Making F)
+    → ((told : Told) (items : List ℕ) → IsUntold told → items ≡ text → Makes job s told items)
+    → IfOk output (λ (b : Buffer). b.items ≡ text) → IfOk made (λ (m : Making). IsUntold (told m.outcome) × (output ≡ Ok m.output))
+    → IfOk made (λ (m : Making). Makes job s (told m.outcome) m.output.items)
+unrun_so {E} job s text output (Ok m) so is made =
+    so (told m.outcome) m.output.items made.0 (subst (λ (r : Result Buffer E). IfOk r (λ (b : Buffer). b.items ≡ text)) made.1 is)
+unrun_so job s text output (Err e) so is made = tt
+
+-- the jobs that log are all but four
+pub logs : (job : ScriptJob) → (job ≡ Terminals → ⊥) → (job ≡ Steer → ⊥) → (job ≡ Table → ⊥) → (job ≡ Print → ⊥) → IsLogged job
+logs Terminals not_terminals not_steer not_table not_print = absurd (not_terminals refl)
+logs Steer not_terminals not_steer not_table not_print = absurd (not_steer refl)
+logs Table not_terminals not_steer not_table not_print = absurd (not_table refl)
+logs Print not_terminals not_steer not_table not_print = absurd (not_print refl)
+logs (Run options) not_terminals not_steer not_table not_print = tt
+logs Record not_terminals not_steer not_table not_print = tt
+logs (Generate count) not_terminals not_steer not_table not_print = tt

@@ -1,10 +1,11 @@
 -- What a job makes of a script, before it is written.
-use Rattle.std.specs.Prelude.{◌≡◌, List, [], ℕ}
+use Rattle.std.specs.Prelude.{◌≡◌, List, [], ℕ, Some, None}
+use Rattle.defmt_decode.specs.declared.event.Event.{Event}
 use Rattle.defmt_logger.specs.Tape.{stream_of}
 use Rattle.defmt_print.specs.Printed.{statement_lines, summary}
 use Rattle.defmt_print.specs.RunLines.{run_lines, steered_lines}
 use Rattle.defmt_run.specs.Shown.{spoken_lines}
-use Rattle.defmt_run.specs.Told.{IsHeard, IsUnspoken, IsUnsteered, IsUntold, Ran, Spoke, Steered, Told}
+use Rattle.defmt_run.specs.Told.{IsHeard, IsUnspoken, IsUnsteered, IsUntold, Ran, Spoke, Steered, Told, steered_of, told_of}
 use Rattle.defmt_script.specs.Script.{Script}
 use Rattle.defmt_words.specs.declared.job.ScriptJob.{ScriptJob}
 use Rattle.defmt_words.specs.declared.job.ScriptJob.TheVariants.{Run, Record, Terminals, Steer, Table, Print, Generate}
@@ -66,3 +67,24 @@ abbrev pub IsWordSteered : SteeredRun → Type 0
 IsWordSteered run =
     IsSteeredRun run.script run.turns.turns run.settled run.captured.items run.rest.items run.orders run.unheard.items
     × (run.settled.ring ≡ Word) × (run.orders.ring ≡ Word)
+
+-- a job that logs the script, and says no texts for terminals
+abbrev pub IsLogged : ScriptJob → Type 0
+IsLogged (Run options) = Unit {0}
+IsLogged Record = Unit {0}
+IsLogged (Generate count) = Unit {0}
+IsLogged job = ⊥
+
+-- what a job makes of such a run, of which the host tells these events
+abbrev pub MakesAlone : ScriptJob → ScriptRun → List Event → List ℕ → Type 0
+MakesAlone job run events output =
+    Makes job run.script (told_of run.tape.marks run.settled events run.looks [] None) output
+
+-- the same of a run whose texts were said
+abbrev pub MakesSpoken : ScriptRun → Talk → List Event → List ℕ → Type 0
+MakesSpoken run talk events output =
+    Makes Terminals run.script (told_of run.tape.marks run.settled events run.looks talk.said.words (Some talk.settled)) output
+
+-- the same of a run under orders
+abbrev pub MakesSteered : SteeredRun → List Event → List ℕ → Type 0
+MakesSteered run events output = Makes Steer run.script (steered_of run.turns.turns run.settled events run.orders) output

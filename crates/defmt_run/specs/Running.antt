@@ -159,3 +159,18 @@ abbrev pub Writes : Output → List ℕ → Fault → Type 0
 Writes output text Fine = Wrote output text
 Writes output text Sink = WroteFront output text × Rose output.faults output.faults_after
 Writes output text fault = ⊥
+
+-- the text of a job's script
+abbrev pub TextComes : ScriptJob → Input → List ℕ → Type 0
+TextComes (Generate count) input text = (count ≤ 4096) × (text ≡ generated count) × IsUnread input
+TextComes job input text = GaveWhole input text
+
+-- a script that is steered is in blocking mode
+abbrev pub Suits : ScriptJob → Read → Type 0
+Suits Steer s = is_block s.settings.mode ≡ true
+Suits job s = Unit {0}
+
+-- why a text gives no script that suits the job
+abbrev pub StopsFor : ScriptJob → List ℕ → Fault → Type 0
+StopsFor Steer text fault = StopsBlocking text fault
+StopsFor job text fault = Stops text fault

@@ -1,21 +1,21 @@
 // What is made of a script, before it is written.
-ghost use Rattle.std.specs.Prelude.{◌≡◌, ◌≤◌, ◌^◌, ◌++◌, IfOk};
+ghost use Rattle.std.specs.Prelude.{◌≡◌, ◌≤◌, ◌^◌, IfOk, Ok};
 ghost use Rattle.elf_table.specs.Listed.{size_of};
-ghost use Rattle.defmt_run.specs.Making.{IsWordRun, IsWordTalk, Makes, RanAlone};
-ghost use Rattle.defmt_print.specs.Printed.{summary};
+ghost use Rattle.defmt_run.specs.Making.{IsLogged, Makes};
 ghost use Rattle.defmt_run.specs.Told.{IsUntold, steered_of, told, told_of};
+ghost use Rattle.defmt_run.specs.declared.hearing.Heard.{Heard as HeardOf};
 
-use crate::hearing::{hear, hear_steered};
+use crate::hearing::{Heard, hear_run, hear_spoken, hear_steered};
 use crate::logging::{log, speak, steer};
 use crate::outcome::Outcome;
-use crate::terminals::with_spoken;
 use defmt_decode::Events;
-use defmt_print::{run_lines, statement_lines, steered_lines, summary};
+use defmt_logger::Tape;
+use defmt_print::statement_lines;
 use defmt_recording::Fault;
 use defmt_script::Script;
 use defmt_steer::SteeredRun;
 use defmt_talk::Talk;
-use defmt_words::{RunOptions, ScriptJob};
+use defmt_words::ScriptJob;
 use defmt_writers::{Gate, Run};
 use dl_io::{Bytes, Memory};
 use elf_table::write_table;
@@ -50,35 +50,38 @@ pub fn make<G: Gate + Sync, R: Threads + Wait + Sync>(
     ensures { IfOk result (λ made. Makes job.now script (told made.outcome) made.output.items) }
 {
     match job {
-        ScriptJob::Run(options) => lines_of_run(rt, alloc, options, script, gate),
-        ScriptJob::Record => stream_of_run(rt, alloc, script, gate),
-        ScriptJob::Terminals => lines_of_terminals(rt, alloc, script, gate),
-        ScriptJob::Steer => lines_of_steered(rt, alloc, script, gate),
-        ScriptJob::Table => file_of_table(alloc, script),
-        ScriptJob::Print => lines_of_statements(alloc, script),
-        ScriptJob::Generate(_) => counts_of_run(rt, alloc, script, gate),
+        ScriptJob::Terminals => spoken(rt, alloc, script, gate),
+        ScriptJob::Steer => steered(rt, alloc, script, gate),
+        ScriptJob::Table => {
+            let file = write_table(alloc, script.table());
+            without_run(alloc, script, file)
+        }
+        ScriptJob::Print => {
+            let lines = statement_lines(alloc, &script);
+            without_run(alloc, script, lines)
+        }
+        _ => logged(rt, alloc, job, script, gate),
     }
 }
 
-// The lines of what the host tells of a run, or those in groups by writer, and then what was lost.
-fn lines_of_run<G: Gate + Sync, R: Threads + Wait + Sync>(
+// What comes of a script that is logged, by a job that logs.
+fn logged<G: Gate + Sync, R: Threads + Wait + Sync>(
     rt: &R,
     alloc: Global,
-    options: &RunOptions,
+    job: &ScriptJob,
     script: Script,
     gate: &G,
 ) -> Result<Making, Memory>
-    ensures { IfOk result (λ made. Makes (ScriptJob.Run options.now) script (told made.outcome)
-        made.output.items) }
+    ensures { IsLogged job.now → IfOk result (λ made.
+        Makes job.now script (told made.outcome) made.output.items) }
 {
     let run = log(rt, alloc, script, gate)?;
-    let events = hear(alloc, &run)?;
-    let output = run_lines(alloc, options, &run.script, &run.tape, &events)?;
-    Ok(with_run(alloc, run, events, Said::new(alloc), None, output))
+    let heard = hear_run(alloc, job, &run);
+    with_run(alloc, run, heard, Said::new(alloc), None)
 }
 
-// The lines of what the host tells of a run, then what was lost, and then the texts of each terminal.
-fn lines_of_terminals<G: Gate + Sync, R: Threads + Wait + Sync>(
+// What comes of a script that is logged, and whose texts for terminals are said.
+fn spoken<G: Gate + Sync, R: Threads + Wait + Sync>(
     rt: &R,
     alloc: Global,
     script: Script,
@@ -88,34 +91,18 @@ fn lines_of_terminals<G: Gate + Sync, R: Threads + Wait + Sync>(
         made.output.items) }
 {
     let (run, talk) = speak(rt, alloc, script, gate)?;
-    spoken_lines(alloc, run, talk)
-}
-
-// The same of a run whose texts were said.
-fn spoken_lines(alloc: Global, run: Run, talk: Talk) -> Result<Making, Memory>
-    requires run { IsWordRun run }
-    requires talk { IsWordTalk run talk }
-    ensures { IfOk result (λ made. Makes ScriptJob.Terminals run.script (told made.outcome)
-        made.output.items) }
-{
-    let events = hear(alloc, &run)?;
-    let options = RunOptions {
-        group: false,
-        only: None,
-    };
-    let lines = run_lines(alloc, &options, &run.script, &run.tape, &events)?;
-    let output = with_spoken(alloc, lines, &run.script, &talk)?;
+    let heard = hear_spoken(alloc, &run, &talk);
     let Talk {
         said,
         settled,
         captured: _,
         rest: _,
     } = talk;
-    Ok(with_run(alloc, run, events, said, Some(settled), output))
+    with_run(alloc, run, heard, said, Some(settled))
 }
 
-// The lines of what the host tells of a run under orders, and then a line for each order.
-fn lines_of_steered<G: Gate + Sync, R: Threads + Wait + Sync>(
+// What comes of a script that is run under its orders.
+fn steered<G: Gate + Sync, R: Threads + Wait + Sync>(
     rt: &R,
     alloc: Global,
     script: Script,
@@ -125,92 +112,21 @@ fn lines_of_steered<G: Gate + Sync, R: Threads + Wait + Sync>(
         made.output.items) }
 {
     let run = steer(rt, alloc, script, gate)?;
-    let events = hear_steered(alloc, &run)?;
-    let output = steered_lines(alloc, &run.script, &run.turns, &events)?;
-    Ok(with_steered(alloc, run, events, output))
+    let heard = hear_steered(alloc, &run);
+    with_steered(alloc, run, heard)
 }
 
-// What a run sent.
-fn stream_of_run<G: Gate + Sync, R: Threads + Wait + Sync>(
-    rt: &R,
-    alloc: Global,
-    script: Script,
-    gate: &G,
-) -> Result<Making, Memory>
-    ensures { IfOk result (λ made. Makes ScriptJob.Record script (told made.outcome)
-        made.output.items) }
-{
-    let run = log(rt, alloc, script, gate)?;
-    let output = joined(alloc, run.captured.as_slice(), run.rest.as_slice())?;
-    Ok(with_run(
-        alloc,
-        run,
-        Events::new(alloc),
-        Said::new(alloc),
-        None,
-        output,
-    ))
-}
-
-// Counts of the statements of a run.
-fn counts_of_run<G: Gate + Sync, R: Threads + Wait + Sync>(
-    rt: &R,
-    alloc: Global,
-    script: Script,
-    gate: &G,
-) -> Result<Making, Memory>
-    ensures { IfOk result (λ made. RanAlone script (told made.outcome)
-        × (made.output.items ≡ summary script made.outcome.tape.marks)) }
-{
-    let run = log(rt, alloc, script, gate)?;
-    let events = hear(alloc, &run)?;
-    run.script.lawful();
-    let output = summary(alloc, &run.script, &run.tape)?;
-    Ok(with_run(alloc, run, events, Said::new(alloc), None, output))
-}
-
-// The file of a script's table.
-fn file_of_table(alloc: Global, script: Script) -> Result<Making, Memory>
-    requires { size_of script.table ≤ 2 ^ 26 }
-    ensures { IfOk result (λ made. Makes ScriptJob.Table script (told made.outcome)
-        made.output.items) }
-{
-    let output = write_table(alloc, script.table())?;
-    Ok(without_run(alloc, output, script))
-}
-
-// The lines of a script's statements.
-fn lines_of_statements(alloc: Global, script: Script) -> Result<Making, Memory>
-    ensures { IfOk result (λ made. Makes ScriptJob.Print script (told made.outcome)
-        made.output.items) }
-{
-    let output = statement_lines(alloc, &script)?;
-    Ok(without_run(alloc, output, script))
-}
-
-/// These bytes, one part after the other.
-pub(crate) fn joined(alloc: Global, front: &[u8], rest: &[u8]) -> Result<Bytes, Memory>
-    ensures { IfOk result (λ all. all.items ≡ front.now ++ rest.now) }
-{
-    let mut all = Bytes::new(alloc);
-    all.reserve(front.len().saturating_add(rest.len()))?;
-    all.extend_from_slice(front)?;
-    all.extend_from_slice(rest)?;
-    Ok(all)
-}
-
-// A run of which the host tells these events, and what was said on terminals.
+// What was heard of a run, and what was said on terminals.
 fn with_run(
     alloc: Global,
     run: Run,
-    events: Events,
+    heard: Result<Heard, Memory>,
     said: Said,
     term: Option<Settled>,
-    output: Bytes,
-) -> Making
-    ensures output { result.output.items ≡ output.items }
-    ensures run { told result.outcome
-        ≡ told_of run.tape.marks run.settled events run.looks said.words term }
+) -> Result<Making, Memory>
+    ensures { IfOk result (λ made. (h : HeardOf) × (heard ≡ Ok h)
+        × (made.output.items ≡ h.output.items) × (told made.outcome
+        ≡ told_of run.tape.marks run.settled h.events run.looks said.words term)) }
 {
     let Run {
         script,
@@ -221,6 +137,7 @@ fn with_run(
         looks,
     } = run;
     forget(script);
+    let Heard { events, output } = heard?;
     let fault = Fault::Fine;
     let outcome = Outcome {
         status: fault.status(),
@@ -234,13 +151,18 @@ fn with_run(
         turns: Turns::new(alloc),
         orders: None,
     };
-    Making { output, outcome }
+    Ok(Making { output, outcome })
 }
 
-// A run under orders of which the host tells these events.
-fn with_steered(alloc: Global, run: SteeredRun, events: Events, output: Bytes) -> Making
-    ensures output { result.output.items ≡ output.items }
-    ensures run { told result.outcome ≡ steered_of run.turns.turns run.settled events run.orders }
+// What was heard of a run under orders.
+fn with_steered(
+    alloc: Global,
+    run: SteeredRun,
+    heard: Result<Heard, Memory>,
+) -> Result<Making, Memory>
+    ensures { IfOk result (λ made. (h : HeardOf) × (heard ≡ Ok h)
+        × (made.output.items ≡ h.output.items) × (told made.outcome
+        ≡ steered_of run.turns.turns run.settled h.events run.orders)) }
 {
     let SteeredRun {
         script,
@@ -252,24 +174,35 @@ fn with_steered(alloc: Global, run: SteeredRun, events: Events, output: Bytes) -
         unheard: _,
     } = run;
     forget(script);
+    let Heard { events, output } = heard?;
+    let fault = Fault::Fine;
     let outcome = Outcome {
+        status: fault.status(),
+        fault,
+        tape: Tape::new(alloc),
         settled: Some(settled),
         events,
+        looks: 0,
+        said: Said::new(alloc),
+        term: None,
         turns,
         orders: Some(orders),
-        ..Outcome::silent(alloc, Fault::Fine)
     };
-    Making { output, outcome }
+    Ok(Making { output, outcome })
 }
 
 // What is written of a script that isn't run.
-fn without_run(alloc: Global, output: Bytes, script: Script) -> Making
-    ensures output { result.output.items ≡ output.items }
-    ensures untold { IsUntold (told result.outcome) }
+fn without_run(
+    alloc: Global,
+    script: Script,
+    output: Result<Bytes, Memory>,
+) -> Result<Making, Memory>
+    ensures { IfOk result (λ made. IsUntold (told made.outcome)
+        × (output ≡ Ok made.output)) }
 {
     forget(script);
-    Making {
-        output,
+    Ok(Making {
+        output: output?,
         outcome: Outcome::silent(alloc, Fault::Fine),
-    }
+    })
 }

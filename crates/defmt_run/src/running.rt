@@ -1,12 +1,10 @@
 // A job on a script.
-ghost use Rattle.std.specs.Prelude.{◌≡◌, ◌≤◌, ◌^◌, true, false, length, None, Some, Ok, IfOk, IfErr, IfSome};
+ghost use Rattle.std.specs.Prelude.{◌≡◌, ◌≤◌, ◌^◌, false, true, length, None, Some, Ok, IfOk, IfErr, IfSome};
 ghost use Rattle.std.specs.Str.Lines.{lines};
 ghost use Rattle.elf_table.specs.Listed.{size_of};
-ghost use Rattle.defmt_generate.specs.Generated.{generated};
 ghost use Rattle.defmt_lines.specs.Settings.{is_block};
 ghost use Rattle.defmt_listen.specs.Streams.{input_of, output_of};
-ghost use Rattle.defmt_run.specs.Making.{Makes};
-ghost use Rattle.defmt_run.specs.Running.{Comes, ComesNot, Gave, GaveBlocking, GaveWhole, IsSpelled, Made, Runs, Stops, StopsBlocking, Withholds, WithholdsBlocking, Writes, script_limit};
+ghost use Rattle.defmt_run.specs.Running.{Comes, ComesNot, GaveWhole, IsSpelled, Made, Runs, Stops, StopsFor, Suits, TextComes, Withholds, Writes, script_limit};
 ghost use Rattle.defmt_recording.specs.Status.{status_of};
 ghost use Rattle.defmt_run.specs.Told.{told};
 ghost use Rattle.defmt_script.specs.Reads.{Reads};
@@ -18,12 +16,13 @@ use defmt_generate::{generate, scripts_are_short};
 use defmt_generated::generated_reads;
 use defmt_recording::Fault;
 use defmt_script::{RingMode, Script, ScriptFault, one_reading, read, texts_are_few};
-use defmt_words::{Count, ScriptJob};
+use defmt_words::ScriptJob;
 use defmt_writers::Gate;
 use dl_io::{Bytes, Failed, ReadFault, Sink, Source, read_all, write_all};
 use elf_table::size_grows;
 use rtt_down::{mode_line, modes_are_set};
 use std::alloc::Global;
+use std::mem::forget;
 use std::sync::Wait;
 use std::thread::Threads;
 
@@ -68,22 +67,6 @@ fn making_of<S: Source, G: Gate + Sync, R: Threads + Wait + Sync>(
     ensures later { S.faults src.old ≤ S.faults src.new }
 {
     let script = script_of(alloc, job, src)?;
-    made_of(rt, alloc, job, script, gate)
-}
-
-// What comes of this job on a script.
-fn made_of<G: Gate + Sync, R: Threads + Wait + Sync>(
-    rt: &R,
-    alloc: Global,
-    job: &ScriptJob,
-    script: Script,
-    gate: &G,
-) -> Result<Making, Fault>
-    requires { size_of script.table ≤ 2 ^ 26 }
-    ensures makes { IfOk result (λ made.
-        Makes job.now script (told made.outcome) made.output.items) }
-    ensures memory { IfErr result (λ fault. fault ≡ Fault.Memory) }
-{
     match make(rt, alloc, job, script, gate) {
         Ok(making) => Ok(making),
         Err(_) => Err(Fault::Memory),
@@ -98,66 +81,62 @@ fn script_of<S: Source>(alloc: Global, job: &ScriptJob, src: &mut S) -> Result<S
         (input_of S.left S.faults src.old src.new) fault) }
     ensures later { S.faults src.old ≤ S.faults src.new }
 {
+    generated_reads();
+    one_reading();
+    let text = text_of(alloc, job, src)?;
+    suited(alloc, job, text.as_slice())
+}
+
+// The text of this job's script.
+fn text_of<S: Source>(alloc: Global, job: &ScriptJob, src: &mut S) -> Result<Bytes, Fault>
+    ensures text { IfOk result (λ text. TextComes job.now
+        (input_of S.left S.faults src.old src.new) text.items) }
+    ensures within { IfOk result (λ text. length text.items ≤ script_limit) }
+    ensures comes_not { IfErr result (λ fault. ComesNot job.now
+        (input_of S.left S.faults src.old src.new) fault) }
+    ensures later { S.faults src.old ≤ S.faults src.new }
+{
+    scripts_are_short();
     match job {
-        ScriptJob::Generate(count) => generated_script(alloc, count),
-        ScriptJob::Steer => steered_script(alloc, src),
-        _ => read_script(alloc, src),
+        ScriptJob::Generate(count) => Ok(generate(alloc, count.number())?),
+        _ => read_input(alloc, src),
     }
 }
 
-// The generated script of so many statements.
-fn generated_script(alloc: Global, count: &Count) -> Result<Script, Fault>
-    ensures spelled { IfOk result (λ s. IsSpelled (generated count.now) s) }
-    ensures small { IfOk result (λ s. size_of s.table ≤ 2 ^ 26) }
-    ensures memory { IfErr result (λ fault. fault ≡ Fault.Memory) }
-{
-    scripts_are_short();
-    generated_reads();
-    one_reading();
-    let text = generate(alloc, count.number())?;
-    spelled_by(alloc, text.as_slice())
-}
-
-// Reads the source to its end as a script.
-fn read_script<S: Source>(alloc: Global, src: &mut S) -> Result<Script, Fault>
-    ensures gave { IfOk result (λ s. Gave (input_of S.left S.faults src.old src.new) s) }
-    ensures small { IfOk result (λ s. size_of s.table ≤ 2 ^ 26) }
-    ensures withheld { IfErr result (λ fault. Withholds
-        (input_of S.left S.faults src.old src.new) fault) }
-    ensures later { S.faults src.old ≤ S.faults src.new }
-{
-    let text = read_input(alloc, src)?;
-    spelled_by(alloc, text.as_slice())
-}
-
-// Reads the source to its end as a script in blocking mode.
-fn steered_script<S: Source>(alloc: Global, src: &mut S) -> Result<Script, Fault>
-    ensures gave { IfOk result (λ s. GaveBlocking (input_of S.left S.faults src.old src.new) s) }
-    ensures small { IfOk result (λ s. size_of s.table ≤ 2 ^ 26) }
-    ensures withheld { IfErr result (λ fault. WithholdsBlocking
-        (input_of S.left S.faults src.old src.new) fault) }
-    ensures later { S.faults src.old ≤ S.faults src.new }
-{
-    let text = read_input(alloc, src)?;
-    blocking_by(alloc, text.as_slice())
-}
-
-// The script that a text spells, in blocking mode.
-fn blocking_by(alloc: Global, text: &[u8]) -> Result<Script, Fault>
+// The script that a text spells, where it suits this job.
+fn suited(alloc: Global, job: &ScriptJob, text: &[u8]) -> Result<Script, Fault>
     requires { length text.now ≤ script_limit }
     ensures spelled { IfOk result (λ s. IsSpelled text.now s) }
-    ensures blocking { IfOk result (λ s. is_block s.settings.mode ≡ true) }
+    ensures suits { IfOk result (λ s. Suits job.now s) }
     ensures small { IfOk result (λ s. size_of s.table ≤ 2 ^ 26) }
-    ensures stops { IfErr result (λ fault. StopsBlocking text.now fault) }
+    ensures stops { IfErr result (λ fault. StopsFor job.now text.now fault) }
 {
     let script = spelled_by(alloc, text)?;
-    match other_mode(&script, text) {
-        Some(line) => Err(Fault::Script {
-            line,
-            cause: STEER,
-            inner: 0,
-        }),
+    match unsuited(job, &script, text) {
         None => Ok(script),
+        Some(line) => {
+            forget(script);
+            Err(Fault::Script {
+                line,
+                cause: STEER,
+                inner: 0,
+            })
+        }
+    }
+}
+
+// The line for which a script doesn't suit this job.
+fn unsuited(job: &ScriptJob, script: &Script, text: &[u8]) -> Option<u32>
+    requires reads { Reads text.now (Ok script.now) }
+    requires within { length text.now ≤ script_limit }
+    ensures none { result ≡ None → Suits job.now script.now }
+    ensures some { IfSome result (λ line. (job.now ≡ ScriptJob.Steer)
+        × (is_block script.now.settings.mode ≡ false)
+        × FirstMode 1 (lines text.now) (Some line)) }
+{
+    match job {
+        ScriptJob::Steer => other_mode(script, text),
+        _ => None,
     }
 }
 

@@ -4,7 +4,7 @@ ghost use Rattle.defmt_print.specs.Terminals.{screen_lines};
 ghost use Rattle.defmt_talk.specs.Talks.{IsTalk};
 ghost use Rattle.rtt_booth.specs.Said.{IsLawful, screens_by, spoken_by};
 
-use crate::making::joined;
+use crate::hearing::joined;
 use defmt_print::with_screens;
 use defmt_script::Script;
 use defmt_talk::Talk;

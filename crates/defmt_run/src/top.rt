@@ -1,5 +1,5 @@
 // The top call.
-ghost use Rattle.std.specs.Prelude.{◌≡◌, ◌⊎◌, ◌≤◌, Some, None, map, string_bytes};
+ghost use Rattle.std.specs.Prelude.{◌≡◌, ◌⊎◌, ◌≤◌, IfOk, Option, Some, None, map, string_bytes};
 ghost use Rattle.defmt_listen.specs.Streams.{input_of, output_of};
 ghost use Rattle.defmt_recording.specs.Calls.{files_of};
 ghost use Rattle.defmt_run.specs.Session.{Answers, MayComeTo, MustComeTo, OrFails};
@@ -15,7 +15,7 @@ use defmt_recording::{Fault, decode, dump};
 use defmt_script::one_reading;
 use defmt_words::{Job, job_of};
 use defmt_writers::Gate;
-use dl_io::{Shelf, Sink, Source};
+use dl_io::{Memory, Shelf, Sink, Source};
 use std::alloc::Global;
 use std::sync::Wait;
 use std::thread::Threads;
@@ -80,20 +80,22 @@ pub fn session<S: Source, F: Shelf, K: Sink, G: Gate + Sync, R: Threads + Wait +
     ensures files { F.files shelf.new ≡ F.files shelf.old }
 {
     one_reading();
-    perform(rt, alloc, words, src, shelf, out, gate)
+    let asked = job_of(alloc, words);
+    perform(rt, alloc, &asked, src, shelf, out, gate)
 }
 
+// Does what is asked for, where that was read.
 fn perform<S: Source, F: Shelf, K: Sink, G: Gate + Sync, R: Threads + Wait + Sync>(
     rt: &R,
     alloc: Global,
-    words: &[String],
+    asked: &Result<Option<Job>, Memory>,
     src: &mut S,
     shelf: &mut F,
     out: &mut K,
     gate: &G,
 ) -> Outcome
     ensures status { result.status ≡ status_of result.fault }
-    ensures answer { Answers (job_in (map string_bytes words.now))
+    ensures answer { (job : Option AnyJob) → IfOk asked.now (λ read. read ≡ job) → Answers job
         (input_of S.left S.faults src.old src.new) (files_of F.files F.faults shelf.old shelf.new)
         (output_of K.held K.faults out.old out.new) result.fault (told result) }
     ensures source_count { S.faults src.old ≤ S.faults src.new }
@@ -101,8 +103,8 @@ fn perform<S: Source, F: Shelf, K: Sink, G: Gate + Sync, R: Threads + Wait + Syn
     ensures shelf_count { F.faults shelf.old ≤ F.faults shelf.new }
     ensures files { F.files shelf.new ≡ F.files shelf.old }
 {
-    match job_of(alloc, words) {
-        Ok(Some(job)) => work_on(rt, alloc, &job, src, shelf, out, gate),
+    match asked {
+        Ok(Some(job)) => work_on(rt, alloc, job, src, shelf, out, gate),
         Ok(None) => Outcome::silent(alloc, Fault::Words),
         Err(_) => Outcome::silent(alloc, Fault::Memory),
     }

@@ -1,8 +1,7 @@
 use Rattle.std.proofs.Common.{◌≡◌, ◌++◌, ◌∙◌, List, ℕ, ap, sym}
-use Rattle.std.proofs.lemmas.Result.{IfOk-weaker}
 use Rattle.defmt_decode.specs.Event.{events_of}
-use Rattle.defmt_decode.specs.declared.event.Event.{Event}
 use Rattle.defmt_print.specs.Heard.{catalog_of}
+use Rattle.defmt_run.proofs.SteeredMade.{ran_steered}
 use Rattle.defmt_run.proofs.hearing.hear_steered.Goals as goal
 
 both : (a b first rest sent : List ℕ) → first ≡ a → rest ≡ b → sent ≡ a ++ b → first ++ rest ≡ sent
@@ -12,7 +11,9 @@ both a b first rest sent first_is rest_is sent_is =
 pub returns : goal.returns
 returns c =
     let run = c.args.run.now in
-    IfOk-weaker c.heard_events.result (λ (events : List Event). events ≡ events_of (catalog_of run.script) (c.as_slice.result.now ++ c.as_slice-2.result.now))
-    (λ (events : List Event). events ≡ events_of (catalog_of run.script) run.settled.sent)
-    (λ events is. is ∙ ap (events_of (catalog_of run.script)) (both run.captured.items run.rest.items c.as_slice.result.now c.as_slice-2.result.now run.settled.sent c.as_slice.ensures c.as_slice-2.ensures c.requires.whole))
-    c.heard_events.ensures
+    (
+      ran_steered run.script run.turns.turns run.settled run.orders run.captured.items run.rest.items run.unheard.items c.in_ok-events.events
+          c.requires.0 c.requires.1 c.requires.2 (c.in_ok-events.ensures ∙ ap (events_of (catalog_of run.script))
+          (both run.captured.items run.rest.items c.as_slice.result.now c.as_slice-2.result.now run.settled.sent c.as_slice.ensures c.as_slice-2.ensures c.requires.0.whole)),
+      c.in_ok-output.ensures,
+    )

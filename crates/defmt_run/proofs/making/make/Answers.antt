@@ -1,24 +1,39 @@
-use Rattle.defmt_run.proofs.RunMade.{make_so}
-use Rattle.defmt_words.specs.declared.job.ScriptJob.TheVariants.{Run, Record, Terminals, Steer, Table, Print, Generate}
+use Rattle.std.proofs.Common.{◌≡◌, ◌∙◌, List, ap, ℕ}
+use Rattle.std.proofs.lemmas.Result.{IfOk-weaker}
+use Rattle.dl_io.specs.Buffer.{Buffer}
+use Rattle.defmt_intern.specs.Table.{Map}
+use Rattle.defmt_intern.specs.declared.table.Profile.{Profile}
+use Rattle.defmt_print.specs.Printed.{statement_lines}
+use Rattle.defmt_run.proofs.RunMade.{logs, make_so, unrun_so}
+use Rattle.defmt_words.specs.declared.job.ScriptJob.TheVariants.{Terminals, Steer, Table, Print}
+use Rattle.elf_section.specs.Written.{written}
+use Rattle.elf_table.specs.Listed.{symbols_in}
 use Rattle.defmt_run.proofs.making.make.Goals as goal
 
-pub returns-in-Run : goal.returns-in-Run
-returns-in-Run g c = make_so c.args.job.now (Run c.in-Run.options) c.args.script c.lines_of_run.result c.in-Run.is c.lines_of_run.ensures
-
-pub returns-in-Record : goal.returns-in-Record
-returns-in-Record g c = make_so c.args.job.now Record c.args.script c.stream_of_run.result c.in-Record.is c.stream_of_run.ensures
-
 pub returns-in-Terminals : goal.returns-in-Terminals
-returns-in-Terminals g c = make_so c.args.job.now Terminals c.args.script c.lines_of_terminals.result c.in-Terminals.is c.lines_of_terminals.ensures
+returns-in-Terminals g c = make_so c.args.job.now Terminals c.args.script c.spoken.result c.in-Terminals.is c.spoken.ensures
 
 pub returns-in-Steer : goal.returns-in-Steer
-returns-in-Steer g c = make_so c.args.job.now Steer c.args.script c.lines_of_steered.result c.in-Steer.is c.lines_of_steered.ensures
+returns-in-Steer g c = make_so c.args.job.now Steer c.args.script c.steered.result c.in-Steer.is c.steered.ensures
 
 pub returns-in-Table : goal.returns-in-Table
-returns-in-Table g c = make_so c.args.job.now Table c.args.script c.file_of_table.result c.in-Table.is c.file_of_table.ensures
+returns-in-Table g c =
+    let s = c.args.script in
+    let table = c.table.result.now in
+    let text : List ℕ = written s.settings.profile (symbols_in s.table) in
+    let same : written table.profile (symbols_in table.entries) ≡ text =
+    ap (λ (entries : Map). written table.profile (symbols_in entries)) c.table.ensures.entries ∙ ap (λ (profile : Profile). written profile (symbols_in s.table)) c.table.ensures.profile in
+    make_so c.args.job.now Table s c.without_run.result c.in-Table.is (
+    unrun_so Table s text c.write_table-file.result c.without_run.result (λ t items untold is. (untold, is))
+    (IfOk-weaker c.write_table-file.result (λ (b : Buffer). b.items ≡ written table.profile (symbols_in table.entries)) (λ (b : Buffer). b.items ≡ text) (λ b is. is ∙ same) c.write_table-file.ensures.bytes)
+    c.without_run.ensures)
 
 pub returns-in-Print : goal.returns-in-Print
-returns-in-Print g c = make_so c.args.job.now Print c.args.script c.lines_of_statements.result c.in-Print.is c.lines_of_statements.ensures
+returns-in-Print g c =
+    make_so c.args.job.now Print c.args.script c.without_run-in-Print.result c.in-Print.is (
+    unrun_so Print c.args.script (statement_lines c.args.script) c.statement_lines-lines.result c.without_run-in-Print.result (λ t items untold is. (untold, is))
+    c.statement_lines-lines.ensures c.without_run-in-Print.ensures)
 
-pub returns-in-Generate : goal.returns-in-Generate
-returns-in-Generate g c = make_so c.args.job.now (Generate _) c.args.script c.counts_of_run.result c.in-Generate.is c.counts_of_run.ensures
+pub returns-in_default : goal.returns-in_default
+returns-in_default g c =
+    c.logged.ensures (logs c.args.job.now c.in_default.not-Terminals c.in_default.not-Steer c.in_default.not-Table c.in_default.not-Print)

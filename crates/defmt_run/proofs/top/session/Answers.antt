@@ -15,7 +15,7 @@ returns-clause-comes g c = λ wanted is.
     let shelf = files_of g.F.Shelf.files g.F.Shelf.faults c.args.shelf.now c.perform.new.shelf in
     let output = output_of g.K.Sink.held g.K.Sink.faults c.args.out.now c.perform.new.out in
     may_come input shelf wanted output c.perform.result.fault (told c.perform.result)
-    (subst (λ (o : Option Job). Answers o input shelf output c.perform.result.fault (told c.perform.result)) is c.perform.ensures.answer)
+    (subst (λ (o : Option Job). Answers o input shelf output c.perform.result.fault (told c.perform.result)) is (c.perform.ensures.answer (job (map string_bytes c.args.words.now)) c.job_of-asked.ensures))
 
 pub returns-clause-exact : goal.returns-clause-exact
 returns-clause-exact g c = λ wanted fault is must.
@@ -24,7 +24,7 @@ returns-clause-exact g c = λ wanted fault is must.
     let output = output_of g.K.Sink.held g.K.Sink.faults c.args.out.now c.perform.new.out in
     must_come c.one_reading.ensures wanted input shelf output c.perform.result.fault fault must
     (may_come input shelf wanted output c.perform.result.fault (told c.perform.result)
-    (subst (λ (o : Option Job). Answers o input shelf output c.perform.result.fault (told c.perform.result)) is c.perform.ensures.answer))
+    (subst (λ (o : Option Job). Answers o input shelf output c.perform.result.fault (told c.perform.result)) is (c.perform.ensures.answer (job (map string_bytes c.args.words.now)) c.job_of-asked.ensures)))
 
 pub returns-clause-words : goal.returns-clause-words
 returns-clause-words g c = λ is.
@@ -32,7 +32,7 @@ returns-clause-words g c = λ is.
     (input_of g.S.Source.left g.S.Source.faults c.args.src.now c.perform.new.src)
     (files_of g.F.Shelf.files g.F.Shelf.faults c.args.shelf.now c.perform.new.shelf)
     (output_of g.K.Sink.held g.K.Sink.faults c.args.out.now c.perform.new.out)
-    c.perform.result.fault (told c.perform.result) c.perform.ensures.answer (sym c.perform.ensures.status ∙ is)
+    c.perform.result.fault (told c.perform.result) (c.perform.ensures.answer (job (map string_bytes c.args.words.now)) c.job_of-asked.ensures) (sym c.perform.ensures.status ∙ is)
 
 pub returns-clause-no_words : goal.returns-clause-no_words
 returns-clause-no_words g c = λ none.
@@ -40,4 +40,4 @@ returns-clause-no_words g c = λ none.
     (input_of g.S.Source.left g.S.Source.faults c.args.src.now c.perform.new.src)
     (files_of g.F.Shelf.files g.F.Shelf.faults c.args.shelf.now c.perform.new.shelf)
     (output_of g.K.Sink.held g.K.Sink.faults c.args.out.now c.perform.new.out)
-    c.perform.result.fault (told c.perform.result) c.perform.ensures.answer none)
+    c.perform.result.fault (told c.perform.result) (c.perform.ensures.answer (job (map string_bytes c.args.words.now)) c.job_of-asked.ensures) none)

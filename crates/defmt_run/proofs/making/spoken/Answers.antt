@@ -1,0 +1,13 @@
+use Rattle.std.specs.Prelude.{Some}
+use Rattle.defmt_run.proofs.RunMade.{makes_so}
+use Rattle.defmt_run.specs.Told.{told_of}
+use Rattle.defmt_run.specs.declared.hearing.Heard.{Heard}
+use Rattle.defmt_words.specs.declared.job.ScriptJob.TheVariants.{Terminals}
+use Rattle.defmt_run.proofs.making.spoken.Goals as goal
+
+pub returns : goal.returns
+returns g c =
+    let run = c.in_ok-run.run' in
+    let talk = c.in_ok-run.talk in
+    makes_so Terminals run.script c.args.script (λ (h : Heard). told_of run.tape.marks run.settled h.events run.looks talk.said.words (Some talk.settled))
+    c.hear_spoken-heard.result c.with_run.result c.in_ok-run.ensures.script c.hear_spoken-heard.ensures c.with_run.ensures

@@ -1,0 +1,11 @@
+use Rattle.defmt_run.proofs.RunMade.{makes_so}
+use Rattle.defmt_run.specs.Told.{steered_of}
+use Rattle.defmt_run.specs.declared.hearing.Heard.{Heard}
+use Rattle.defmt_words.specs.declared.job.ScriptJob.TheVariants.{Steer}
+use Rattle.defmt_run.proofs.making.steered.Goals as goal
+
+pub returns : goal.returns
+returns g c =
+    let run = c.in_ok-run.run' in
+    makes_so Steer run.script c.args.script (λ (h : Heard). steered_of run.turns.turns run.settled h.events run.orders)
+    c.hear_steered-heard.result c.with_steered.result c.in_ok-run.ensures.script c.hear_steered-heard.ensures c.with_steered.ensures
