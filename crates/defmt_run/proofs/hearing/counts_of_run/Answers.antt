@@ -9,8 +9,7 @@ summary-requires c = few_marks c.args.run.now.script c.args.run.now.tape.marks c
 
 pub returns : goal.returns
 returns c = λ count.
-    let run = c.args.run.now in
-    (
+    let run = c.args.run.now in (
       alone run.script run.tape.marks run.settled run.captured.items run.rest.items run.looks c.requires.0 c.requires.1
           c.in_ok-events.events [] c.in_ok-events.ensures.events c.in_ok-events.ensures.lines c.in_ok-events.ensures.gaps refl,
       c.in_ok-output.ensures,

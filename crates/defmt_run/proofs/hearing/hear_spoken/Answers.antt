@@ -12,8 +12,7 @@ run_lines-requires c = are_placed c.args.run.now.script c.args.run.now.tape.mark
 pub returns : goal.returns
 returns c =
     let run = c.args.run.now in
-    let talk = c.args.talk.now in
-    (
+    let talk = c.args.talk.now in (
       (
         heard run.script run.tape.marks run.settled run.captured.items run.rest.items run.looks c.requires.run.0 c.requires.run.1
             c.in_ok-events.events talk.said.words (Some talk.settled) c.in_ok-events.ensures.events c.in_ok-events.ensures.lines c.in_ok-events.ensures.gaps,

@@ -9,8 +9,7 @@ run_lines-requires c = are_placed c.args.run.now.script c.args.run.now.tape.mark
 
 pub returns : goal.returns
 returns c =
-    let run = c.args.run.now in
-    (
+    let run = c.args.run.now in (
       alone run.script run.tape.marks run.settled run.captured.items run.rest.items run.looks c.requires.0 c.requires.1
           c.in_ok-events.events [] c.in_ok-events.ensures.events c.in_ok-events.ensures.lines c.in_ok-events.ensures.gaps refl,
       c.in_ok-output.ensures,

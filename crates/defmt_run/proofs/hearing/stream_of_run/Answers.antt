@@ -5,8 +5,7 @@ use Rattle.defmt_run.proofs.hearing.stream_of_run.Goals as goal
 
 pub returns : goal.returns
 returns c =
-    let run = c.args.run.now in
-    (
+    let run = c.args.run.now in (
       unheard run.script run.tape.marks run.settled run.captured.items run.rest.items run.looks c.requires.0 c.requires.1
           c.new.result [] c.new.ensures refl,
       c.in_ok-output.ensures ∙ ap (λ (l : List ℕ). l ++ c.as_slice-2.result.now) c.as_slice.ensures ∙ ap (λ (l : List ℕ). run.captured.items ++ l) c.as_slice-2.ensures
