@@ -93,9 +93,13 @@ impl Host {
             let (taken, event) = self.feed(bytes)?;
             return Ok((taken, notice_of(event)));
         };
-        let notice = self.reader.notice(&bytes[start..start + size], text)?;
-        self.framer.pass_piece::<Event>(bytes, start, size);
-        Ok((start + size + 1, notice))
+        match self.reader.notice(&bytes[start..start + size], text) {
+            Ok(notice) => {
+                self.framer.pass_piece::<Event>(bytes, start, size);
+                Ok((start + size + 1, notice))
+            }
+            Err(memory) => Err(memory),
+        }
     }
 
     /// The event that the end of the stream brings: a cut front where no zero was heard and

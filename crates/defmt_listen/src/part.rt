@@ -54,11 +54,15 @@ pub fn hear_part<K: Sink, L: Listener, R: Reporter<L>>(
 {
     let mut rest = bytes;
     'parts: while !rest.is_empty() {
-        let (taken, notice) = listener.hear(rest, &mut report.text)?;
-        add_noticed::<L, R>(reporter, report, notice)?;
-        let (_, behind) = rest.split_at(taken);
-        rest = behind;
-        write_gathered(out, &mut report.lines)?;
+        match listener.hear(rest, &mut report.text) {
+            Ok((taken, notice)) => {
+                add_noticed::<L, R>(reporter, report, notice)?;
+                let (_, behind) = rest.split_at(taken);
+                rest = behind;
+                write_gathered(out, &mut report.lines)?;
+            }
+            Err(_) => return Err(ListenFault::Memory),
+        }
     }
     write_lines(out, &mut report.lines)?;
     Ok(())

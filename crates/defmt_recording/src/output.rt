@@ -38,9 +38,12 @@ fn gap_before(last: Option<u16>, event: &Event) -> u16
 fn gap_between(last: Option<u16>, next: Option<u16>) -> u16
     ensures { result ≡ gap_between last next }
 {
-    match (last, next) {
-        (Some(last), Some(next)) => gap(last, next),
-        _ => 0,
+    let Some(next) = next else {
+        return 0;
+    };
+    match last {
+        Some(last) => gap(last, next),
+        None => 0,
     }
 }
 

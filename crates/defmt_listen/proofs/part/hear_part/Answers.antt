@@ -13,43 +13,43 @@ parts-init g c = record {
   later = omega arith;
 }
 
-pub returns-in_err-taken-clause-some : goal.returns-in_err-taken-clause-some
-returns-in_err-taken-clause-some g c =
-    on_err c.from_residual.result (stands_still (g.L.Listener.tells c.args.listener.now) g.R.Reporter.reporting c.args.reporter.now (g.L.Listener.framing c.args.listener.now) c.args.bytes.now (g.K.Sink.held c.args.out.now) c.args.report.now.faults
+pub returns-in-Err-clause-some : goal.returns-in-Err-clause-some
+returns-in-Err-clause-some g c =
+    (stands_still (g.L.Listener.tells c.args.listener.now) g.R.Reporter.reporting c.args.reporter.now (g.L.Listener.framing c.args.listener.now) c.args.bytes.now (g.K.Sink.held c.args.out.now) c.args.report.now.faults
     c.parts.reporter (g.L.Listener.framing c.parts.listener) c.parts.rest.now (g.K.Sink.held c.parts.out) c.parts.report.lines.items c.parts.report.faults (g.K.Sink.faults c.args.out.now) (g.K.Sink.faults c.parts.out) c.parts.invariant.hearing)
 
-pub returns-in_err-add_noticed-clause-some : goal.returns-in_err-add_noticed-clause-some
-returns-in_err-add_noticed-clause-some g c =
-    on_err c.from_residual-in_err-add_noticed.result (stands_still (g.L.Listener.tells c.args.listener.now) g.R.Reporter.reporting c.args.reporter.now (g.L.Listener.framing c.args.listener.now) c.args.bytes.now (g.K.Sink.held c.args.out.now) c.args.report.now.faults
+pub returns-in_err-add_noticed-in-Ok-clause-some : goal.returns-in_err-add_noticed-in-Ok-clause-some
+returns-in_err-add_noticed-in-Ok-clause-some g c =
+    on_err c.from_residual.result (stands_still (g.L.Listener.tells c.args.listener.now) g.R.Reporter.reporting c.args.reporter.now (g.L.Listener.framing c.args.listener.now) c.args.bytes.now (g.K.Sink.held c.args.out.now) c.args.report.now.faults
     c.parts.reporter (g.L.Listener.framing c.parts.listener) c.parts.rest.now (g.K.Sink.held c.parts.out) c.parts.report.lines.items c.parts.report.faults (g.K.Sink.faults c.args.out.now) (g.K.Sink.faults c.parts.out) c.parts.invariant.hearing)
 
 pub parts-preserved : goal.parts-preserved
 parts-preserved g c =
     let one = more (g.L.Listener.tells c.args.listener.now) g.R.Reporter.reporting c.args.reporter.now (g.L.Listener.framing c.args.listener.now) c.args.bytes.now (g.K.Sink.held c.args.out.now) c.args.report.now.faults
     c.parts.reporter c.add_noticed.new.reporter (g.L.Listener.framing c.parts.listener) (g.L.Listener.framing c.hear.new.self) c.parts.rest.now c.split_at.result.1.now (g.K.Sink.held c.parts.out) c.parts.report.lines.items c.add_noticed.new.report.lines.items
-    c.parts.report.faults c.add_noticed.new.report.faults c.in_ok-taken.taken (told_by g.L.Listener.line c.hear.new.text.items c.in_ok-taken.notice) c.parts.invariant.hearing
-    (λ stream st. subst (λ tells. Hears tells (g.L.Listener.framing c.hear.new.self) stream (take c.in_ok-taken.taken c.parts.rest.now) (told_by g.L.Listener.line c.hear.new.text.items c.in_ok-taken.notice)) c.parts.invariant.same (c.in_ok-taken.ensures.hears stream st))
-    c.split_at.ensures.back c.in_ok-add_noticed.ensures.lines c.in_ok-add_noticed.ensures.moved c.in_ok-add_noticed.ensures.faults (one_event g.R.Reporter.reporting (told_by g.L.Listener.line c.hear.new.text.items c.in_ok-taken.notice))
-    (c.in_ok-taken.ensures.some (some_left c.parts.rest.now _ c.is_empty.ensures c.parts-test.true)) (some_left c.parts.rest.now _ c.is_empty.ensures c.parts-test.true) in
-    let wrote = c.in_ok-write_gathered.ensures.ok in
+    c.parts.report.faults c.add_noticed.new.report.faults c.in-Ok.taken (told_by g.L.Listener.line c.hear.new.text.items c.in-Ok.notice) c.parts.invariant.hearing
+    (λ stream st. subst (λ tells. Hears tells (g.L.Listener.framing c.hear.new.self) stream (take c.in-Ok.taken c.parts.rest.now) (told_by g.L.Listener.line c.hear.new.text.items c.in-Ok.notice)) c.parts.invariant.same (c.in-Ok.ensures.hears stream st))
+    c.split_at.ensures.back c.in_ok-add_noticed-in-Ok.ensures.lines c.in_ok-add_noticed-in-Ok.ensures.moved c.in_ok-add_noticed-in-Ok.ensures.faults (one_event g.R.Reporter.reporting (told_by g.L.Listener.line c.hear.new.text.items c.in-Ok.notice))
+    (c.in-Ok.ensures.some (some_left c.parts.rest.now _ c.is_empty.ensures c.parts-test.true)) (some_left c.parts.rest.now _ c.is_empty.ensures c.parts-test.true) in
+    let wrote = c.in_ok-write_gathered-in-Ok.ensures.ok in
     record {
       hearing = writes (g.L.Listener.tells c.args.listener.now) g.R.Reporter.reporting c.args.reporter.now (g.L.Listener.framing c.args.listener.now) c.args.bytes.now (g.K.Sink.held c.args.out.now) c.args.report.now.faults c.add_noticed.new.reporter (g.L.Listener.framing c.hear.new.self) c.split_at.result.1.now
           (g.K.Sink.held c.parts.out) (g.K.Sink.held c.write_gathered.new.out) c.add_noticed.new.report.lines.items c.write_gathered.new.lines.items wrote.0 c.add_noticed.new.report.faults one wrote.1 wrote.2;
-      same = c.in_ok-taken.ensures.same ∙ c.parts.invariant.same;
+      same = c.in-Ok.ensures.same ∙ c.parts.invariant.same;
       later = omega (arith, c.write_gathered.ensures.later, c.parts.invariant.later);
     }
 
-pub returns-in_err-write_gathered-clause-some : goal.returns-in_err-write_gathered-clause-some
-returns-in_err-write_gathered-clause-some g c =
+pub returns-in_err-write_gathered-in-Ok-clause-some : goal.returns-in_err-write_gathered-in-Ok-clause-some
+returns-in_err-write_gathered-in-Ok-clause-some g c =
     let one = more (g.L.Listener.tells c.args.listener.now) g.R.Reporter.reporting c.args.reporter.now (g.L.Listener.framing c.args.listener.now) c.args.bytes.now (g.K.Sink.held c.args.out.now) c.args.report.now.faults
     c.parts.reporter c.add_noticed.new.reporter (g.L.Listener.framing c.parts.listener) (g.L.Listener.framing c.hear.new.self) c.parts.rest.now c.split_at.result.1.now (g.K.Sink.held c.parts.out) c.parts.report.lines.items c.add_noticed.new.report.lines.items
-    c.parts.report.faults c.add_noticed.new.report.faults c.in_ok-taken.taken (told_by g.L.Listener.line c.hear.new.text.items c.in_ok-taken.notice) c.parts.invariant.hearing
-    (λ stream st. subst (λ tells. Hears tells (g.L.Listener.framing c.hear.new.self) stream (take c.in_ok-taken.taken c.parts.rest.now) (told_by g.L.Listener.line c.hear.new.text.items c.in_ok-taken.notice)) c.parts.invariant.same (c.in_ok-taken.ensures.hears stream st))
-    c.split_at.ensures.back c.in_ok-add_noticed.ensures.lines c.in_ok-add_noticed.ensures.moved c.in_ok-add_noticed.ensures.faults (one_event g.R.Reporter.reporting (told_by g.L.Listener.line c.hear.new.text.items c.in_ok-taken.notice))
-    (c.in_ok-taken.ensures.some (some_left c.parts.rest.now _ c.is_empty.ensures c.parts-test.true)) (some_left c.parts.rest.now _ c.is_empty.ensures c.parts-test.true) in
-    on_err c.from_residual-in_err-write_gathered.result (stops (g.L.Listener.tells c.args.listener.now) g.R.Reporter.reporting c.args.reporter.now (g.L.Listener.framing c.args.listener.now) c.args.bytes.now (g.K.Sink.held c.args.out.now) c.args.report.now.faults
+    c.parts.report.faults c.add_noticed.new.report.faults c.in-Ok.taken (told_by g.L.Listener.line c.hear.new.text.items c.in-Ok.notice) c.parts.invariant.hearing
+    (λ stream st. subst (λ tells. Hears tells (g.L.Listener.framing c.hear.new.self) stream (take c.in-Ok.taken c.parts.rest.now) (told_by g.L.Listener.line c.hear.new.text.items c.in-Ok.notice)) c.parts.invariant.same (c.in-Ok.ensures.hears stream st))
+    c.split_at.ensures.back c.in_ok-add_noticed-in-Ok.ensures.lines c.in_ok-add_noticed-in-Ok.ensures.moved c.in_ok-add_noticed-in-Ok.ensures.faults (one_event g.R.Reporter.reporting (told_by g.L.Listener.line c.hear.new.text.items c.in-Ok.notice))
+    (c.in-Ok.ensures.some (some_left c.parts.rest.now _ c.is_empty.ensures c.parts-test.true)) (some_left c.parts.rest.now _ c.is_empty.ensures c.parts-test.true) in
+    on_err c.from_residual-in_err-write_gathered-in-Ok.result (stops (g.L.Listener.tells c.args.listener.now) g.R.Reporter.reporting c.args.reporter.now (g.L.Listener.framing c.args.listener.now) c.args.bytes.now (g.K.Sink.held c.args.out.now) c.args.report.now.faults
     c.add_noticed.new.reporter (g.L.Listener.framing c.hear.new.self) c.split_at.result.1.now (g.K.Sink.held c.parts.out) (g.K.Sink.held c.write_gathered.new.out) c.add_noticed.new.report.lines.items c.add_noticed.new.report.faults
-    (g.K.Sink.faults c.args.out.now) (g.K.Sink.faults c.write_gathered.new.out) one c.in_err-write_gathered.ensures.front)
+    (g.K.Sink.faults c.args.out.now) (g.K.Sink.faults c.write_gathered.new.out) one c.in_err-write_gathered-in-Ok.ensures.front)
 
 pub returns-in_err-write_lines-clause-some : goal.returns-in_err-write_lines-clause-some
 returns-in_err-write_lines-clause-some g c =

@@ -11,15 +11,15 @@ use Rattle.defmt_decode.proofs.host.Host.hear.Goals as goal
 pub returns-in_default-clause-text : goal.returns-in_default-clause-text
 returns-in_default-clause-text c = c.notice_of.ensures.text c.args.text.now.items
 
-pub returns-clause-hears : goal.returns-clause-hears
-returns-clause-hears c stream st =
+pub returns-in-Ok-clause-hears : goal.returns-in-Ok-clause-hears
+returns-in-Ok-clause-hears c stream st =
     let start : ℕ = c.in-Some.start in
     let size : ℕ = c.in-Some.size in
     let bytes : List ℕ = c.args.bytes.now in
     let t : Tells Event = tells c.args.self.now.table in
     let same : tells c.self.inside.reader ≡ t = ap (λ (h : Hearing). tells h.table) c.self.view_is in
     let piece_is : take (start + size - start) (drop start bytes) ≡ take size (drop start bytes) = ap (λ (n : ℕ). take n (drop start bytes)) (let e : start + size - start ≡ size = omega arith in e) in
-    let told : told_by line_with c.notice.new.text.items c.in_ok-notice.notice ≡ Some (t.piece (take size (drop start bytes))) =
-    c.in_ok-notice.ensures.told ∙ ap (λ (x : Tells Event). Some (x.piece (take (start + size - start) (drop start bytes)))) same ∙ ap (λ (p : List ℕ). Some (t.piece p)) piece_is in
+    let told : told_by line_with c.notice.new.text.items c.in-Ok.notice ≡ Some (t.piece (take size (drop start bytes))) =
+    c.in-Ok.ensures.told ∙ ap (λ (x : Tells Event). Some (x.piece (take (start + size - start) (drop start bytes)))) same ∙ ap (λ (p : List ℕ). Some (t.piece p)) piece_is in
     subst (λ (o : Option Event). Hears t c.pass_piece.new.self stream (take (start + size + 1) bytes) o) (sym told)
     (c.pass_piece.ensures t stream (subst (λ (h : Hearing). Stands h.framing stream) (sym c.self.view_is) st))
