@@ -1,12 +1,12 @@
 -- What stands in front of a statement's text.
-use Rattle.std.proofs.Common.{◌≡◌, ◌≤◌, ℕ, List, ◌++◌, length, codes, sym, ap, subst, ◌∙◌, arith, append_assoc, Option, Some, None}
+use Rattle.std.proofs.Common.{◌≡◌, ◌≤◌, ℕ, List, ◌++◌, length, codes, sym, ap, subst, ◌∙◌, arith, append_assoc, length-append, Option, Some, None}
 use Rattle.defmt_intern.specs.Stamp.{stamp_of}
 use Rattle.defmt_intern.specs.Table.{Map}
 use Rattle.defmt_values.specs.Plain.{Vals}
 use Rattle.defmt_eager.specs.Line.{front_text, stamp_text, stamp_space}
 use Rattle.defmt_put.proofs.Chains.{written_two, written_end, kept_written, kept_two}
 use Rattle.defmt_put.specs.Written.{Kept, Written}
-use Rattle.defmt_plan.specs.Plans.{front_in}
+use Rattle.defmt_plan.specs.Plans.{IsFront, lead_text}
 use Rattle.defmt_plan.specs.Told.{Fronts}
 
 -- what a front that is written leaves: where the text begins, and what stood in front of the stamp
@@ -40,22 +40,36 @@ pub front_fails : (front : Option (List ℕ)) (stamp : List ℕ) (old mid new : 
 front_fails (Some front) stamp old mid new at m le v k = kept_two old mid new at m (omega (arith, written_end old mid at m stamp le v)) (kept_written old mid at m stamp le v) k
 front_fails None stamp old mid new at m le v k = absurd (cc k.0)
 
+-- the literal in front of the rest stands within what is written
+pub lead_within : (t : Map) (level lead front : Option (List ℕ)) (mid begun : List ℕ) (at m k : ℕ) → m ≤ length mid → IsFront t level lead front → Fronts front (Some k) mid m at begun → length (lead_text lead) ≤ k
+lead_within t (Some level) lead front mid begun at m k le e f =
+    let space : List ℕ = stamp_space (stamp_of t) in
+    let behind : List ℕ = level ++ codes " " in
+    let whole : List ℕ = space ++ (behind ++ lead_text lead) in
+    let written : Written mid m begun k whole = subst (λ (x : Option (List ℕ)). Fronts x (Some k) mid m at begun) e f in
+    omega (arith, written_end mid begun m k whole le written, length-append space (behind ++ lead_text lead), length-append behind (lead_text lead))
+lead_within t None lead front mid begun at m k le e f = let none : length (lead_text lead) ≡ 0 = ap (λ (l : Option (List ℕ)). length (lead_text l)) e.0 in omega (arith, none)
+
 -- the line behind the stamp's text
-pub line_written : (t : Map) (level front : Option (List ℕ)) (stamp : Vals) (text old mid begun new : List ℕ) (at m k end : ℕ) → at ≤ length old → front ≡ front_in t level → Written old at mid m (stamp_text t (stamp_of t) stamp) → Fronts front (Some k) mid m at begun → Written begun k new end text → Written old at new end (front_text t (stamp_of t) stamp level ++ text)
-line_written t (Some level) front stamp text old mid begun new at m k end le e v f w =
+pub line_written : (t : Map) (level lead front : Option (List ℕ)) (stamp : Vals) (rest old mid begun new : List ℕ) (at m k end : ℕ) → at ≤ length old → IsFront t level lead front → Written old at mid m (stamp_text t (stamp_of t) stamp) → Fronts front (Some k) mid m at begun → Written begun k new end rest → Written old at new end (front_text t (stamp_of t) stamp level ++ (lead_text lead ++ rest))
+line_written t (Some level) lead front stamp rest old mid begun new at m k end le e v f w =
     let s : List ℕ = stamp_text t (stamp_of t) stamp in
     let space : List ℕ = stamp_space (stamp_of t) in
     let behind : List ℕ = level ++ codes " " in
-    let written : Written mid m begun k (space ++ behind) = subst (λ (x : Option (List ℕ)). Fronts x (Some k) mid m at begun) e f in
-    let whole : Written old at begun k (s ++ (space ++ behind)) = written_two old mid begun at m k s (space ++ behind) v written in
-    subst (λ (x : List ℕ). Written old at new end (x ++ text)) (sym (append_assoc s space behind)) (written_two old begun new at k end (s ++ (space ++ behind)) text whole w)
-line_written t None front stamp text old mid begun new at m k end le e v f w =
-    let g : (Some k ≡ Some at) × (begun ≡ mid) = subst (λ (x : Option (List ℕ)). Fronts x (Some k) mid m at begun) e f in
+    let l : List ℕ = lead_text lead in
+    let written : Written mid m begun k (space ++ (behind ++ l)) = subst (λ (x : Option (List ℕ)). Fronts x (Some k) mid m at begun) e f in
+    let whole : Written old at begun k (s ++ (space ++ (behind ++ l))) = written_two old mid begun at m k s (space ++ (behind ++ l)) v written in
+    let parted : s ++ (space ++ (behind ++ l)) ≡ ((s ++ space) ++ behind) ++ l = sym (append_assoc s space (behind ++ l)) ∙ sym (append_assoc (s ++ space) behind l) in
+    subst (λ (x : List ℕ). Written old at new end x) (ap (λ (x : List ℕ). x ++ rest) parted ∙ append_assoc ((s ++ space) ++ behind) l rest)
+    (written_two old begun new at k end (s ++ (space ++ (behind ++ l))) rest whole w)
+line_written t None lead front stamp rest old mid begun new at m k end le e v f w =
+    let g : (Some k ≡ Some at) × (begun ≡ mid) = subst (λ (x : Option (List ℕ)). Fronts x (Some k) mid m at begun) e.1 f in
     let same : k ≡ at = some_is k at g.0 in
-    let here : Written mid at new end text = subst (λ (x : List ℕ). Written x at new end text) g.1 (subst (λ (n : ℕ). Written begun n new end text) same w) in
+    let here : Written mid at new end rest = subst (λ (x : List ℕ). Written x at new end rest) g.1 (subst (λ (n : ℕ). Written begun n new end rest) same w) in
     let kept : Kept old at mid = kept_written old mid at m (stamp_text t (stamp_of t) stamp) le v in
-    record {
+    let line : Written old at new end rest = record {
       long = here.long ∙ kept.long;
       within = omega (arith, here.within, kept.long);
-      written = here.written ∙ ap (λ (x : List ℕ). x ++ text) kept.front;
-    }
+      written = here.written ∙ ap (λ (x : List ℕ). x ++ rest) kept.front;
+    } in
+    subst (λ (o : Option (List ℕ)). Written old at new end (lead_text o ++ rest)) (sym e.0) line

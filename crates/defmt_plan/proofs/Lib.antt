@@ -2,6 +2,7 @@ pub mod Along
 pub mod Carrying
 pub mod Complements
 pub mod Fronting
+pub mod Leading
 pub mod Onward
 pub mod Places
 pub mod Planning

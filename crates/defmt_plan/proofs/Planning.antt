@@ -1,8 +1,10 @@
 -- The plans of a table.
-use Rattle.std.proofs.Common.{◌≡◌, ◌<◌, ℕ, zero, suc, List, [], ◌∷◌, ◌++◌, length, get_or, refl, sym, subst, arith, Option, Some, None, is_some}
+use Rattle.std.proofs.Common.{◌≡◌, ◌<◌, ℕ, zero, suc, List, [], ◌∷◌, ◌++◌, length, codes, get_or, refl, sym, ap, ◌∙◌, subst, arith, append_assoc, Option, Some, None, is_some}
+use Rattle.defmt_grammar.specs.declared.piece.Piece.{Piece}
+use Rattle.defmt_intern.specs.Stamp.{stamp_of}
 use Rattle.defmt_intern.specs.Table.{Map}
 use Rattle.defmt_eager.specs.Line.{stamp_space}
-use Rattle.defmt_plan.specs.Plans.{IsPlanIn, ArePlansIn, space_if}
+use Rattle.defmt_plan.specs.Plans.{ArePlansIn, HasFront, IsPlanIn, Leads, lead_text, space_if}
 use Rattle.defmt_plan.specs.declared.plan.Plan.{Plan}
 
 pub plans_more : (t : Map) (plans : List Plan) (plan : Plan) → ArePlansIn t plans → IsPlanIn t plan → ArePlansIn t (plans ++ plan ∷ [])
@@ -17,3 +19,21 @@ plan_at t (p ∷ plans) (suc number) plan h lt e = plan_at t plans number plan h
 pub space_is : (o : Option ℕ) → space_if (is_some o) ≡ stamp_space o
 space_is None = refl
 space_is (Some index) = refl
+
+pub front_none : (t : Map) (level : Option (List ℕ)) (pieces : List Piece) → None ≡ level → HasFront t level pieces None pieces
+front_none t None pieces e = record { lead = None; pieces_are = refl; front_is = (refl, refl) }
+front_none t (Some l) pieces e = absurd (cc e)
+
+same_level : (l m : List ℕ) → Some l ≡ Some m → l ≡ m
+same_level l m e = cc e
+
+pub front_some : (t : Map) (level : Option (List ℕ)) (l : List ℕ) (pieces rest : List Piece) (start front : List ℕ) → Some l ≡ level → start ≡ stamp_space (stamp_of t) ++ (l ++ codes " ") → Leads pieces rest start front → HasFront t level pieces (Some front) rest
+front_some t None l pieces rest start front e is x = absurd (cc e)
+front_some t (Some m) l pieces rest start front e is x =
+    let space : List ℕ = stamp_space (stamp_of t) in
+    let literal : List ℕ = lead_text x.lead in
+    record {
+      lead = x.lead;
+      pieces_are = x.pieces_are;
+      front_is = ap (λ (f : List ℕ). Some f) (x.text ∙ ap (λ (s : List ℕ). s ++ literal) is ∙ append_assoc space (l ++ codes " ") literal ∙ ap (λ (n : List ℕ). space ++ ((n ++ codes " ") ++ literal)) (same_level l m e));
+    }

@@ -1,5 +1,5 @@
 -- Whole messages.
-use Rattle.std.proofs.Common.{◌≡◌, ◌≤◌, ◌+◌, ◌-◌, inl, inr, ℕ, true, List, ◌++◌, length, take, drop, refl, sym, ap, subst, ◌∙◌, arith, append_assoc, length-drop, Option, Some, None}
+use Rattle.std.proofs.Common.{◌≡◌, ◌≤◌, ◌+◌, ◌-◌, inl, inr, ℕ, true, List, ◌++◌, length, take, drop, refl, sym, ap, subst, ◌∙◌, arith, append_assoc, length-append, length-drop, Option, Some, None}
 use Rattle.std.proofs.lemmas.List.{take_all}
 use Rattle.byteorder.specs.Endian.{little_bytes}
 use Rattle.defmt_grammar.specs.Slots.{slots_of}
@@ -24,10 +24,11 @@ use Rattle.defmt_eager.specs.Line.{stamp_text, level_at, level_text, front_text,
 use Rattle.defmt_eager.specs.Show.{eager_text, own_pieces, pieces_text, shows}
 use Rattle.defmt_plan.proofs.Carrying.{carried_two, carried_none}
 use Rattle.defmt_put.proofs.Chains.{written_none, written_end}
-use Rattle.defmt_plan.proofs.Fronting.{fronted, line_written}
+use Rattle.defmt_plan.proofs.Fronting.{fronted, lead_within, line_written}
+use Rattle.defmt_plan.proofs.Leading.{PassedLed, passed_led}
 use Rattle.defmt_plan.specs.Carried.{Carried}
 use Rattle.defmt_plan.specs.Passed.{Passed, Passes}
-use Rattle.defmt_plan.specs.Plans.{AreStepsOf, IsPlanIn, AreStampSteps}
+use Rattle.defmt_plan.specs.Plans.{AreStepsOf, IsPlanIn, AreStampSteps, lead_text}
 use Rattle.defmt_plan.specs.Steps.{pieces_of}
 use Rattle.defmt_plan.specs.Told.{Fronts, IsHead, StampPassed, StampPasses, IsTold}
 use Rattle.defmt_put.specs.Written.{Written}
@@ -63,6 +64,31 @@ own_passed t index steps bytes from to old at new end own p =
       lengths = subst (λ (ss : List Slot). LengthsFit t ss p.args) same p.lengths;
       carried = subst (λ (ss : List Slot). Carried bytes from to (bytes_vals t ss p.args)) same p.carried;
       written = subst (λ (qs : List Piece). Written old at new end (pieces_text hints.Plain qs (shows t p.args))) (sym (own_pieces_are t index own.entry ps own.there own.body)) p.written;
+    }
+
+-- arguments of an entry, with what its text has behind the literal
+record OwnLed (t : Map) (index : ℕ) (lead : Option (List ℕ)) (bytes : List ℕ) (from to : ℕ) (old : List ℕ) (at : ℕ) (new : List ℕ) (end : ℕ) : Type 0 where
+  pub args : Vals
+  pub fits : Fits t index args
+  pub sound : AreSound args
+  pub lengths : LengthsFit t (own_slots t index) args
+  pub carried : Carried bytes from to (bytes_vals t (own_slots t index) args)
+  pub rest : List ℕ
+  pub text_is : eager_text t index args ≡ lead_text lead ++ rest
+  pub written : Written old at new end rest
+
+own_led : (t : Map) (index : ℕ) (e : Entry) (lead : Option (List ℕ)) (qs : List Piece) (bytes : List ℕ) (from to : ℕ) (old : List ℕ) (at : ℕ) (new : List ℕ) (end : ℕ) → look t index ≡ Some e → body_of e ≡ One qs → PassedLed t lead qs bytes from to old at new end → OwnLed t index lead bytes from to old at new end
+own_led t index e lead qs bytes from to old at new end there body p =
+    let same : slots_of qs ≡ own_slots t index = sym (own_slots_are t index e qs there body) in
+    record {
+      args = p.args;
+      fits = record { entry = e; pieces = qs; there = there; body = body; values = p.fits; light = omega (arith, p.weightless) };
+      sound = p.sound;
+      lengths = subst (λ (ss : List Slot). LengthsFit t ss p.args) same p.lengths;
+      carried = subst (λ (ss : List Slot). Carried bytes from to (bytes_vals t ss p.args)) same p.carried;
+      rest = p.rest;
+      text_is = ap (λ (rs : List Piece). pieces_text hints.Plain rs (shows t p.args)) (own_pieces_are t index e qs there body) ∙ p.text_is;
+      written = p.written;
     }
 
 -- ---- the stamp
@@ -101,8 +127,8 @@ level_is : (t : Map) (index : ℕ) (e : Entry) → look t index ≡ Some e → l
 level_is t index e there = rw there refl
 
 told_at : (t : Catalog) (plan : Plan) (head : Head) (bytes padding : List ℕ) (middle to : ℕ) (old mid begun new : List ℕ) (at m k end : ℕ) → at ≤ length old → length old ≤ 65536
-    → plan.index ≡ head.index → IsPlanIn t.entries plan → IsHead t.profile bytes head → StampPassed t.entries bytes head.read middle old at mid m → Fronts plan.front (Some k) mid m at begun
-    → OwnPassed t.entries plan.index bytes middle to begun k new end
+    → plan.index ≡ head.index → (is : IsPlanIn t.entries plan) → IsHead t.profile bytes head → StampPassed t.entries bytes head.read middle old at mid m → Fronts plan.front (Some k) mid m at begun
+    → OwnLed t.entries plan.index is.own.lead bytes middle to begun k new end
     → padding ≡ take (length bytes - to) (drop to bytes) → (length padding ≤ 6) × (all_zero padding ≡ true) → IsTold t bytes head.place plan.index old at new end
 told_at t plan head bytes padding middle to old mid begun new at m k end le room same is h s f o pad p =
     let es : Map = t.entries in
@@ -117,8 +143,11 @@ told_at t plan head bytes padding middle to old mid begun new at m k end le room
     let text : List ℕ = eager_text es plan.index o.args in
     let started = fronted plan.front stamp old mid begun at m k le s.written f in
     let stamp_ends : m ≡ at + length stamp = written_end old mid at m stamp le s.written in
-    let text_ends : end ≡ k + length text = written_end begun new k end text started.within o.written in
-    let line = line_written es (level_text is.own.entry.tag) plan.front s.stamp text old mid begun new at m k end le is.front_is s.written f o.written in
+    let lead : List ℕ = lead_text is.own.lead in
+    let rest_ends : end ≡ k + length o.rest = written_end begun new k end o.rest started.within o.written in
+    let lead_ends : length lead ≤ k = lead_within es (level_text is.entry.tag) is.own.lead plan.front mid begun at m k (omega (arith, s.written.within, s.written.long)) is.own.front_is f in
+    let size : length text ≡ length lead + length o.rest = ap length o.text_is ∙ length-append lead o.rest in
+    let line = line_written es (level_text is.entry.tag) is.own.lead plan.front s.stamp o.rest old mid begun new at m k end le is.own.front_is s.written f o.written in
     record {
       stamp = s.stamp;
       args = o.args;
@@ -126,7 +155,7 @@ told_at t plan head bytes padding middle to old mid begun new at m k end le room
         placed = h.placed;
         stamp_fits = s.fits;
         fits = o.fits;
-        logged = record { entry = is.own.entry; there = is.own.there; tag = is.logged };
+        logged = record { entry = is.entry; there = is.there; tag = is.logged };
         stamp_sound = s.sound;
         sound = o.sound;
         lengths = (s.lengths, o.lengths);
@@ -135,8 +164,9 @@ told_at t plan head bytes padding middle to old mid begun new at m k end le room
         zeros = p.1;
         message = all.parts ∙ ap (λ (x : List ℕ). (x ++ body) ++ drop to bytes) (append_assoc index place first) ∙ ap (λ (x : List ℕ). ((index ++ (place ++ first)) ++ body) ++ x) rest;
       };
-      narrow = narrow_by es s.stamp plan.index o.args (omega (arith, stamp_ends, s.written.within)) (omega (arith, text_ends, o.written.within, started.kept.long));
-      written = subst (λ (l : Option (List ℕ)). Written old at new end (front_text es (stamp_of es) s.stamp l ++ text)) (sym (level_is es plan.index is.own.entry is.own.there)) line;
+      narrow = narrow_by es s.stamp plan.index o.args (omega (arith, stamp_ends, s.written.within)) (omega (arith, size, lead_ends, rest_ends, o.written.within, started.kept.long));
+      written = subst (λ (l : Option (List ℕ)). Written old at new end (front_text es (stamp_of es) s.stamp l ++ text)) (sym (level_is es plan.index is.entry is.there))
+          (subst (λ (x : List ℕ). Written old at new end (front_text es (stamp_of es) s.stamp (level_text is.entry.tag) ++ x)) (sym o.text_is) line);
     }
 
 pub told_all : (t : Catalog) (plan : Plan) (head : Head) (bytes padding : List ℕ) (middle to : ℕ) (old mid begun new : List ℕ) (at m k end : ℕ) → at ≤ length old → length old ≤ 65536
@@ -146,4 +176,5 @@ pub told_all : (t : Catalog) (plan : Plan) (head : Head) (bytes padding : List �
 told_all t plan head bytes padding middle to old mid begun new at m k end le room same is h s f o pad p =
     subst (λ (i : ℕ). IsTold t bytes head.place i old at new end) same
     (told_at t plan head bytes padding middle to old mid begun new at m k end le room same is h s f
-    (own_passed t.entries plan.index plan.steps.items bytes middle to begun k new end is.own (o t.entries)) pad p)
+    (own_led t.entries plan.index is.entry is.own.lead is.pieces bytes middle to begun k new end is.there is.body
+    (passed_led t.entries is.own.lead is.pieces (pieces_of plan.steps.items) bytes middle to begun k new end is.own.pieces_are (o t.entries))) pad p)

@@ -1,5 +1,7 @@
 -- What the plans of a table's strings say.
 use Rattle.std.specs.Prelude.{◌≡◌, ℕ, codes, Bool, true, false, List, [], ◌∷◌, ◌++◌, Option, Some, None}
+use Rattle.defmt_grammar.specs.declared.piece.Piece.{Piece}
+use Rattle.defmt_grammar.specs.declared.piece.Piece.TheVariants.{Literal}
 use Rattle.defmt_intern.specs.Body.{body_of}
 use Rattle.defmt_intern.specs.Stamp.{stamp_of}
 use Rattle.defmt_intern.specs.Table.{Map}
@@ -24,16 +26,40 @@ abbrev pub space_if : Bool → List ℕ
 space_if true = codes " "
 space_if false = []
 
--- what stands between the stamp's text and that of a statement of a level; without a level there is neither
-abbrev pub front_in : Map → Option (List ℕ) → Option (List ℕ)
-front_in t None = None
-front_in t (Some level) = Some (stamp_space (stamp_of t) ++ (level ++ codes " "))
+-- pieces behind a literal, where there is one
+abbrev pub led : Option (List ℕ) → List Piece → List Piece
+led None ps = ps
+led (Some text) ps = Literal text ∷ ps
 
--- a statement of a level or of println: what stands in front of its text, and its own pieces
+abbrev pub lead_text : Option (List ℕ) → List ℕ
+lead_text None = []
+lead_text (Some text) = text
+
+-- these pieces begin with this literal, which is appended
+pub record Leads (pieces rest : List Piece) (old new : List ℕ) : Type 0 where
+  pub lead : Option (List ℕ)
+  pub pieces_are : pieces ≡ led lead rest
+  pub text : new ≡ old ++ lead_text lead
+
+-- what stands between the stamp's text and the rest of a statement of a level: the level, and the literal that its text begins
+-- with; without a level there is neither
+abbrev pub IsFront : Map → Option (List ℕ) → Option (List ℕ) → Option (List ℕ) → Type 0
+IsFront t None lead front = (lead ≡ None) × (front ≡ None)
+IsFront t (Some level) lead front = front ≡ Some (stamp_space (stamp_of t) ++ ((level ++ codes " ") ++ lead_text lead))
+
+pub record HasFront (t : Map) (level : Option (List ℕ)) (pieces : List Piece) (front : Option (List ℕ)) (rest : List Piece) : Type 0 where
+  pub lead : Option (List ℕ)
+  pub pieces_are : pieces ≡ led lead rest
+  pub front_is : IsFront t level lead front
+
+-- a statement of a level or of println: what stands in front of the rest of its text, and the pieces of that
 pub record IsPlanIn (t : Map) (plan : Plan) : Type 0 where
-  pub own : AreStepsOf t plan.index plan.steps.items
-  pub logged : is_logged own.entry.tag ≡ true
-  pub front_is : plan.front ≡ front_in t (level_text own.entry.tag)
+  pub entry : Entry
+  pub there : look t plan.index ≡ Some entry
+  pub pieces : List Piece
+  pub body : body_of entry ≡ One pieces
+  pub logged : is_logged entry.tag ≡ true
+  pub own : HasFront t (level_text entry.tag) pieces plan.front (pieces_of plan.steps.items)
 
 abbrev pub ArePlansIn : Map → List Plan → Type 0
 ArePlansIn t [] = Unit {0}

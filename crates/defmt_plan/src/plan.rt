@@ -3,10 +3,10 @@
 ghost use Rattle.std.specs.Prelude.{◌≡◌, ◌++◌, codes, IfSome, IfOk};
 ghost use Rattle.std.specs.Option.{option_copied};
 ghost use Rattle.defmt_eager.specs.Line.{level_text};
-ghost use Rattle.defmt_plan.specs.Plans.{AreStepsOf, ArePlansIn, IsPlanIn, SaysStamp, front_in, space_if};
+ghost use Rattle.defmt_plan.specs.Plans.{AreStepsOf, ArePlansIn, HasFront, IsPlanIn, Leads, SaysStamp, space_if};
 
 use crate::steps::{Step, steps_of};
-use defmt_grammar::{Memory, Text};
+use defmt_grammar::{Memory, Piece, Text};
 use defmt_intern::{Parsed, Table, Tag};
 use defmt_values::{is_logged, look_up};
 use std::alloc::Global;
@@ -15,7 +15,8 @@ use std::alloc::Global;
 #[derive(Drop)]
 pub(crate) struct Plan {
     pub index: u16,
-    /// What stands between the stamp's text and its own; of println neither stands in front of it.
+    /// What stands between the stamp's text and the steps: the level, and the literal that its own text begins with. Of println
+    /// neither stands in front of the steps, which have that literal.
     pub front: Option<Text>,
     pub steps: Vec<Step>,
 }
@@ -83,14 +84,37 @@ fn level_front(alloc: Global, stamped: bool, level: &str) -> Result<Text, Memory
     Ok(front)
 }
 
-// What stands in front of the text of a statement of this tag.
-fn front_of(alloc: Global, table: &Table, tag: &Tag) -> Result<Option<Text>, Memory>
-    ensures { IfOk result (λ front. front ≡ front_in table.now.entries (level_text tag.now)) }
+// Appends the literal that pieces begin with, where they do, and answers the others.
+fn take_lead<'a>(front: &mut Text, pieces: &'a [Piece]) -> Result<&'a [Piece], Memory>
+    ensures { IfOk result (λ rest. Leads pieces.now rest.now front.old front.new) }
 {
-    match level_text(tag) {
-        Some(level) => Ok(Some(level_front(alloc, table.stamp().is_some(), level)?)),
-        None => Ok(None),
+    let Some((first, rest)) = pieces.split_first() else {
+        return Ok(pieces);
+    };
+    match first {
+        Piece::Literal(text) => {
+            front.push_str(text.as_str())?;
+            Ok(rest)
+        }
+        Piece::Param(_) => Ok(pieces),
     }
+}
+
+// What stands in front of the rest of a statement of this tag, and the pieces of that.
+fn front_of<'a>(
+    alloc: Global,
+    table: &Table,
+    tag: &Tag,
+    pieces: &'a [Piece],
+) -> Result<(Option<Text>, &'a [Piece]), Memory>
+    ensures { IfOk result (λ r. HasFront table.now.entries (level_text tag.now) pieces.now r.0 r.1.now) }
+{
+    let Some(level) = level_text(tag) else {
+        return Ok((None, pieces));
+    };
+    let mut front = level_front(alloc, table.stamp().is_some(), level)?;
+    let rest = take_lead(&mut front, pieces)?;
+    Ok((Some(front), rest))
 }
 
 // The plan of the string at an index, where it is of a level or of println, and usual.
@@ -106,10 +130,10 @@ fn plan_of(alloc: Global, table: &Table, index: u16) -> Result<Option<Plan>, Mem
     let Parsed::One(pieces) = body else {
         return Ok(None);
     };
-    let Some(steps) = steps_of(alloc, pieces.as_slice())? else {
+    let (front, rest) = front_of(alloc, table, &entry.tag, pieces.as_slice())?;
+    let Some(steps) = steps_of(alloc, rest)? else {
         return Ok(None);
     };
-    let front = front_of(alloc, table, &entry.tag)?;
     Ok(Some(Plan {
         index,
         front,
