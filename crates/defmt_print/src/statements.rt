@@ -22,12 +22,16 @@ const WRITERS: u8 = 8;
 /// More bytes than most lines have.
 pub const LINE_ROOM: usize = 4_096;
 
+// Somewhat more bytes than lines have on average.
+const LINE_MEAN: usize = 64;
+
 /// The lines of all statements, writer by writer, with the stamps of their numbers.
 pub fn statement_lines(alloc: Global, script: &Script) -> Result<Bytes, Memory>
     ensures { IfOk result (λ out. out.items ≡ statement_lines script.now) }
 {
     script.lawful();
     let mut out = Bytes::new(alloc);
+    out.reserve(lines_room(script))?;
     let mut args = Args::new(alloc);
     let mut room = [0u8; LINE_ROOM];
     let mut number = 0u32;
@@ -38,6 +42,15 @@ pub fn statement_lines(alloc: Global, script: &Script) -> Result<Bytes, Memory>
         number = after;
     }
     Ok(out)
+}
+
+// Room for the lines of all statements, where they aren't long.
+fn lines_room(script: &Script) -> usize {
+    let mut count = 0u32;
+    for writer in 0..WRITERS {
+        count = count.saturating_add(script.count(writer));
+    }
+    count as usize * LINE_MEAN
 }
 
 // Appends the lines of a writer's statements, of which the first has this number. Answers the number behind them. The list takes
