@@ -1,11 +1,10 @@
-// The commands that print, record, write a table and generate. A row is the words and the script, and what is told of the session.
+//! The commands that print, record, write a table and generate. A row is the words and the script, and what is told of the session.
 use crate::rows::{Kind, each_block};
 use crate::sessions::put_status;
 use defmt_run::Outcome;
 use std::alloc::Global;
-use std::fmt::Write;
 use std::test::Fail;
-use test_rows::{put, put_digits};
+use test_rows::{put, put_hex, put_number};
 
 // The status, and the lines or the counts.
 const LINES: &str = "\
@@ -148,7 +147,8 @@ pub(crate) fn put_bytes(
 ) -> Result<(), Fail> {
     put_status(alloc, outcome, out)?;
     put(out, "\n");
-    put_digits(out, written)
+    put_hex(out, written);
+    Ok(())
 }
 
 // The status, and how many bytes the table's file has.
@@ -174,7 +174,9 @@ pub(crate) fn put_length(
     out: &mut String,
 ) -> Result<(), Fail> {
     put_status(alloc, outcome, out)?;
-    let _ = write!(out, ", {} bytes", written.len());
+    put(out, ", ");
+    put_number(out, written.len() as u64);
+    put(out, " bytes");
     Ok(())
 }
 

@@ -1,4 +1,4 @@
-// Recordings that are decoded. A row is the words and the digits of the recording, and the status and the lines.
+//! Recordings that are decoded. A row is the words and the digits of the recording, and the status and the lines.
 use crate::rows::{Kind, each_block};
 use crate::sessions::{Stage, add_table, put_session, set_stage, written_of};
 use defmt_run::OpenGate;
@@ -7,7 +7,7 @@ use std::alloc::Global;
 use std::sync::Wait;
 use std::test::Fail;
 use std::thread::Threads;
-use test_rows::{bytes_of, number_of, parted};
+use test_rows::{bytes_of, changed_of, number_of, parted};
 
 /// A script that logs one string.
 pub(crate) const HI: &str = "s hi defmt_info hello\nw 0 hi";
@@ -124,7 +124,7 @@ pub(crate) fn add_files<R: Threads + Wait + Sync>(
 ) -> Result<(), Fail> {
     add_table(rt, alloc, "hi.elf", HI, shelf)?;
     add_table(rt, alloc, "hi-at.elf", HI_AT, shelf)?;
-    let file = Bytes::from_slice(alloc, b"hello")?;
+    let file = Bytes::from_slice(alloc, "hello".as_bytes())?;
     Ok(shelf.put("no.elf", file)?)
 }
 
@@ -137,7 +137,7 @@ pub(crate) fn put_recording<R: Threads + Wait + Sync>(
     stage: &mut Stage,
     out: &mut String,
 ) -> Result<(), Fail> {
-    set_stage(alloc, recording, b"", stage)?;
+    set_stage(alloc, recording, "".as_bytes(), stage)?;
     add_files(rt, alloc, &mut stage.shelf)?;
     put_session(rt, alloc, &Kind::Decoded, line, stage, &OpenGate, out)
 }
@@ -181,30 +181,6 @@ status 9 events with faults 3
 -- E4 Unsupported
 INFO  hello";
 
-// Puts bytes, of which the one at this place is another.
-fn put_changed_bytes(bytes: &[u8], place: u64, text: &str, out: &mut Bytes) -> Result<(), Fail> {
-    for (at, byte) in bytes.iter().enumerate() {
-        if at as u64 == place {
-            out.extend_from_slice(text.as_bytes())?;
-        } else {
-            out.push(*byte)?;
-        }
-    }
-    Ok(())
-}
-
-fn add_changed_file(
-    alloc: Global,
-    bytes: &[u8],
-    place: u64,
-    text: &str,
-    shelf: &mut MemShelf,
-) -> Result<(), Fail> {
-    let mut changed = Bytes::new(alloc);
-    put_changed_bytes(bytes, place, text, &mut changed)?;
-    Ok(shelf.put("changed.elf", changed)?)
-}
-
 fn add_changed<R: Threads + Wait + Sync>(
     rt: &R,
     alloc: Global,
@@ -215,7 +191,8 @@ fn add_changed<R: Threads + Wait + Sync>(
     let (place, text) = parted(change, ' ');
     let place = number_of(place)?;
     let table = written_of(rt, alloc, "defmtl table", script)?;
-    add_changed_file(alloc, table.as_slice(), place, text, shelf)
+    let changed = changed_of(alloc, table.as_slice(), place, text)?;
+    Ok(shelf.put("changed.elf", Bytes::from_vec(changed))?)
 }
 
 fn put_by_changed<R: Threads + Wait + Sync>(
@@ -228,7 +205,7 @@ fn put_by_changed<R: Threads + Wait + Sync>(
     out: &mut String,
 ) -> Result<(), Fail> {
     let line = "defmtl decode --table changed.elf";
-    set_stage(alloc, recording, b"", stage)?;
+    set_stage(alloc, recording, "".as_bytes(), stage)?;
     add_changed(rt, alloc, change, script, &mut stage.shelf)?;
     put_session(rt, alloc, &Kind::Changed, line, stage, &OpenGate, out)
 }

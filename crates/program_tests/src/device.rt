@@ -1,16 +1,16 @@
-// A device with many strings and statements, whose recording is decoded as its script is printed.
+//! A device with many strings and statements, whose recording is decoded as its script is printed.
 use crate::rows::{Kind, each_block};
-use crate::scripts::put_repeated;
 use crate::sessions::{
-    Stage, add_table, put_played, put_session, put_status, set_stage, text_of, written_of,
+    Stage, add_table, put_played, put_session, put_status, set_stage, written_of,
 };
 use defmt_run::{OpenGate, Outcome};
 use std::alloc::Global;
-use std::fmt::Write;
 use std::sync::Wait;
 use std::test::Fail;
 use std::thread::Threads;
-use test_rows::{parted, put};
+use test_rows::{
+    is_same, line_count, parted, put, put_lines_of, put_number, put_repeated, text_of,
+};
 
 // A script with 40 strings, of whose last lines each string has one or two. These begin with the writer and a number, which has a repetition's number
 // in front of its last digit.
@@ -100,22 +100,6 @@ w 3 error0 3 %9 pt(num(3) opt:1(num(255)))
 =
 status 0 fine, 2000 lines, the same"#;
 
-// Puts a line without its stamp, if it is of this writer.
-fn put_line_of(line: &str, writer: &str, out: &mut String) {
-    let (_, rest) = parted(line, ' ');
-    let (_, text) = parted(rest, ' ');
-    if text.trim_start().starts_with(writer) {
-        put(out, "\n");
-        put(out, rest);
-    }
-}
-
-fn put_lines_of(lines: &str, writer: &str, out: &mut String) {
-    for line in lines.split('\n') {
-        put_line_of(line, writer, out);
-    }
-}
-
 /// Puts the status of an outcome and the lines without their stamps, those of a writer behind those of the writer before it.
 pub(crate) fn put_by_writer(
     alloc: Global,
@@ -124,9 +108,11 @@ pub(crate) fn put_by_writer(
     out: &mut String,
 ) -> Result<(), Fail> {
     put_status(alloc, outcome, out)?;
-    for writer in "0 ,1 ,2 ,3 ".split(',') {
-        put_lines_of(text_of(written), writer, out);
-    }
+    let lines = text_of(written);
+    put_lines_of(lines, "0 ", out);
+    put_lines_of(lines, "1 ", out);
+    put_lines_of(lines, "2 ", out);
+    put_lines_of(lines, "3 ", out);
     Ok(())
 }
 
@@ -140,7 +126,7 @@ fn put_decoded<R: Threads + Wait + Sync>(
     out: &mut String,
 ) -> Result<(), Fail> {
     let line = "defmtl decode --table device.elf";
-    set_stage(alloc, recording, b"", stage)?;
+    set_stage(alloc, recording, "".as_bytes(), stage)?;
     add_table(rt, alloc, "device.elf", script, &mut stage.shelf)?;
     put_session(rt, alloc, &Kind::Device, line, stage, &OpenGate, out)
 }
@@ -158,9 +144,17 @@ fn put_recorded<R: Threads + Wait + Sync>(
 
 fn put_compared(due: &str, got: &str, out: &mut String) {
     let (status, lines) = parted(due, '\n');
-    let count = lines.lines().count();
-    let verdict = if got == due { "the same" } else { "others" };
-    let _ = write!(out, "{status}, {count} lines, {verdict}");
+    put(out, status);
+    put(out, ", ");
+    put_number(out, line_count(lines));
+    put(
+        out,
+        if is_same(got, due) {
+            " lines, the same"
+        } else {
+            " lines, others"
+        },
+    );
 }
 
 fn put_both<R: Threads + Wait + Sync>(

@@ -1,4 +1,4 @@
-// Images of memory, of which the bytes of an up-buffer are decoded. A row is the words and the steps that make the image, and the status and the lines.
+//! Images of memory, of which the bytes of an up-buffer are decoded. A row is the words and the steps that make the image, and the status and the lines.
 use crate::decode::put_recording;
 use crate::rows::{Kind, each_block};
 use crate::sessions::Stage;
@@ -7,7 +7,7 @@ use std::alloc::Global;
 use std::sync::Wait;
 use std::test::Fail;
 use std::thread::Threads;
-use test_rows::{bytes_of, image_of, parted};
+use test_rows::{bytes_of, image_of, is_same, parted};
 
 // What waits, and all; bare images, core files and the image of a ring; other bases; bytes with faults.
 const IMAGES: &str = "\
@@ -147,7 +147,7 @@ fn ring_image(alloc: Global, digits: &str) -> Result<Vec<u8>, Fail> {
 // The image of a ring, or that of these steps.
 fn given_image(alloc: Global, steps: &str) -> Result<Vec<u8>, Fail> {
     let (what, rest) = parted(steps, ' ');
-    if what == "ring" {
+    if is_same(what, "ring") {
         ring_image(alloc, rest)
     } else {
         image_of(alloc, steps)

@@ -1,17 +1,16 @@
-// Writers that a gate holds, and what it is asked and told. A row is how many writers meet, at which place the writer 0 waits and for how many bytes, the
-// words and the script. Told are how many bytes the reader got, the status and the lines, how many statements the gate was asked for by the writers 0 and 1,
-// how many bytes it was told of at last, and how many of its calls came out of turn or waited in vain.
+//! Writers that a gate holds, and what it is asked and told. A row is how many writers meet, at which place the writer 0 waits and for how many bytes, the
+//! words and the script. Told are how many bytes the reader got, the status and the lines, how many statements the gate was asked for by the writers 0 and 1,
+//! how many bytes it was told of at last, and how many of its calls came out of turn or waited in vain.
 use crate::rows::{Kind, each_block};
 use crate::sessions::{Stage, put_session, set_stage};
 use defmt_run::Gate;
 use std::alloc::Global;
-use std::fmt::Write;
 use std::sync::Wait;
 use std::sync::atomic::{AtomicU64, Ordering};
 use std::test::Fail;
 use std::thread;
 use std::thread::Threads;
-use test_rows::{number_of, parted};
+use test_rows::{number_of, parted, put, put_number};
 
 // In the row before the last the writer 1 goes on once the writer 0 was asked, and the writer 0 once both frames of the writer 1 were taken. So a writer that
 // was asked behind its own frame would have it in front of the second of these. In the last the writer 1 goes on once the writer 0 was asked for the statement
@@ -256,7 +255,7 @@ fn put_behind<R: Threads + Wait + Sync>(
     stage: &mut Stage,
     out: &mut String,
 ) -> Result<(), Fail> {
-    set_stage(alloc, script.as_bytes(), b"", stage)?;
+    set_stage(alloc, script.as_bytes(), "".as_bytes(), stage)?;
     put_session(rt, alloc, &Kind::Held, line, stage, gate, out)
 }
 
@@ -266,10 +265,15 @@ fn put_counted(gate: &Holding, out: &mut String) {
     let second = gate.second.load(Ordering::SeqCst);
     let taken = gate.taken.load(Ordering::SeqCst);
     let stray = gate.stray.load(Ordering::SeqCst);
-    let _ = write!(
-        out,
-        "\n{first} and {second} asked, {taken} bytes told, {stray} out of turn"
-    );
+    put(out, "\n");
+    put_number(out, first);
+    put(out, " and ");
+    put_number(out, second);
+    put(out, " asked, ");
+    put_number(out, taken);
+    put(out, " bytes told, ");
+    put_number(out, stray);
+    put(out, " out of turn");
 }
 
 /// Puts what is told behind a gate, and of it: the gate's numbers, the words and the script.

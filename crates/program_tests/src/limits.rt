@@ -1,4 +1,4 @@
-// Inputs beyond their limits. A row is what the source gives and how often, and the words, and the status.
+//! Inputs beyond their limits. A row is what the source gives and how often, and the words, and the status.
 use crate::decode::HI;
 use crate::rows::{Kind, each_block};
 use crate::sessions::{Stage, add_table, outcome_of, put_lines};
@@ -8,7 +8,7 @@ use std::alloc::Global;
 use std::sync::Wait;
 use std::test::Fail;
 use std::thread::Threads;
-use test_rows::{number_of, parted};
+use test_rows::{is_same, number_of, parted, zeros_of};
 
 const LONG: &str = "\
 newlines 4194305 defmtl run
@@ -39,13 +39,13 @@ fn add_files<R: Threads + Wait + Sync>(
     shelf: &mut MemShelf,
 ) -> Result<(), Fail> {
     add_table(rt, alloc, "hi.elf", HI, shelf)?;
-    let long = vec![in alloc; 0u8; 67_108_865]?;
+    let long = zeros_of(alloc, 67_108_865)?;
     Ok(shelf.put("long.elf", Bytes::from_vec(long))?)
 }
 
 // A source of so many newlines or zeros.
 fn repeat_of(name: &str, count: &str) -> Result<RepeatSource, Fail> {
-    let byte = if name == "newlines" { b'\n' } else { 0 };
+    let byte = if is_same(name, "newlines") { b'\n' } else { 0 };
     Ok(RepeatSource::new(byte, number_of(count)?))
 }
 

@@ -1,12 +1,11 @@
-// Statements that are dropped beside a live reader. A row is the words and the script.
+//! Statements that are dropped beside a live reader. A row is the words and the script.
 use crate::rows::{Kind, each_block};
 use crate::sessions::put_lines;
 use defmt_run::{Mark, Outcome, Tape};
 use rtt_modes::Fate;
 use std::alloc::Global;
-use std::fmt::Write;
 use std::test::Fail;
-use test_rows::put;
+use test_rows::{is_same, put, put_number};
 
 const LIVE: &str = "\
 defmtl run
@@ -37,10 +36,10 @@ fn put_report(mark: &Mark, out: &mut String) {
             need: 4,
             room: room @ 0..=3,
         } => {
-            let _ = write!(
-                out,
-                "\n-- dropped writer 0 statement {place} need 4 room {room}"
-            );
+            put(out, "\n-- dropped writer 0 statement ");
+            put_number(out, u64::from(place));
+            put(out, " need 4 room ");
+            put_number(out, u64::from(room));
         }
         _ => put(out, "\nanother fate"),
     }
@@ -56,8 +55,9 @@ fn put_due(tape: &Tape, out: &mut String) {
 }
 
 fn put_compared(told: &str, due: &str, marks: usize, out: &mut String) {
-    if told == due {
-        let _ = write!(out, "{marks} marks, lines and reports as the tape says");
+    if is_same(told, due) {
+        put_number(out, marks as u64);
+        put(out, " marks, lines and reports as the tape says");
     } else {
         put(out, told);
     }

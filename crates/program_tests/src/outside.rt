@@ -1,15 +1,14 @@
-// Calls of the outside that fail.
+//! Calls of the outside that fail.
 use crate::decode::add_files;
 use crate::rows::{Kind, each_block};
 use crate::sessions::{Stage, put_session, set_failing};
 use crate::shares::{put_share, put_whole};
 use defmt_run::OpenGate;
 use std::alloc::Global;
-use std::fmt::Write;
 use std::sync::Wait;
 use std::test::Fail;
 use std::thread::Threads;
-use test_rows::parted;
+use test_rows::{is_same, parted, put, put_number};
 
 // Calls that fail one after the other, until none does; of a sink without room for all, room for one byte more after the other. A row is who fails, the
 // words and what the source gives. Told are of the sessions with a fault what each comes to, how many marks there are and how much was written, each once;
@@ -211,7 +210,7 @@ fn put_turn<R: Threads + Wait + Sync>(
     out: &mut String,
 ) -> Result<(), Fail> {
     let (line, given) = parted(rest, '\n');
-    set_failing(alloc, given.as_bytes(), b"\n", who, call, stage)?;
+    set_failing(alloc, given.as_bytes(), "\n".as_bytes(), who, call, stage)?;
     add_files(rt, alloc, &mut stage.shelf)?;
     put_session(rt, alloc, &Kind::Turns, line, stage, &OpenGate, out)
 }
@@ -229,7 +228,7 @@ fn put_call<R: Threads + Wait + Sync>(
     let (who, rest) = parted(row, ' ');
     let mut told = String::new(alloc);
     put_turn(rt, alloc, who, call, rest, stage, &mut told)?;
-    if told.as_str() == whole {
+    if is_same(told.as_str(), whole) {
         return Ok(true);
     }
     put_share(alloc, told.as_str(), whole, out)?;
@@ -247,7 +246,8 @@ fn put_calls<R: Threads + Wait + Sync>(
 ) -> Result<(), Fail> {
     for call in 0..=u8::MAX {
         if put_call(rt, alloc, row, call, whole, stage, out)? {
-            let _ = write!(out, "{call} calls\n");
+            put_number(out, u64::from(call));
+            put(out, " calls\n");
             put_whole(whole, out);
             return Ok(());
         }

@@ -1,4 +1,4 @@
-// The rows of the tests, by what is asked of their inputs.
+//! The rows of the tests, by what is asked of their inputs.
 use crate::decode::{put_changed, put_decoded};
 use crate::device::put_device;
 use crate::dump::put_dumped;

@@ -1,4 +1,4 @@
-// Scripts that are run. A row is the words and the script, and the status and the lines that are written.
+//! Scripts that are run. A row is the words and the script, and the status and the lines that are written.
 use crate::rows::{Kind, each_block};
 use std::test::Fail;
 

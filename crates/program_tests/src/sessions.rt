@@ -1,4 +1,4 @@
-// Sessions over sources, shelves and sinks in memory.
+//! Sessions over sources, shelves and sinks in memory.
 use crate::commands::{put_bytes, put_length};
 use crate::device::put_by_writer;
 use crate::live::put_verdict;
@@ -10,11 +10,10 @@ use crate::told::{put_account, put_got};
 use defmt_run::{Gate, OpenGate, Outcome, session};
 use dl_io::{Bytes, MemShelf, MemSink, MemSource, Source};
 use std::alloc::Global;
-use std::fmt::Write;
 use std::sync::Wait;
 use std::test::Fail;
 use std::thread::Threads;
-use test_rows::{put, words_of};
+use test_rows::{is_same, put, put_ended, put_number, text_of, words_of};
 
 /// What a session reads, where its files stand, and what it writes into.
 #[derive(Drop)]
@@ -36,7 +35,7 @@ pub(crate) fn empty_stage(alloc: Global) -> Stage {
 // The number of the call that fails, where it is this one of the three that fails.
 fn fails_of(alloc: Global, who: &str, name: &str, call: u8) -> Result<Bytes, Fail> {
     let mut fails = Bytes::new(alloc);
-    if who == name {
+    if is_same(who, name) {
         fails.push(call)?;
     }
     Ok(fails)
@@ -56,7 +55,7 @@ fn source_of(
 
 // The room of a sink: more than any output has, unless it is the room that there is too little of.
 fn room_of(who: &str, call: u8) -> usize {
-    if who == "room" {
+    if is_same(who, "room") {
         usize::from(call)
     } else {
         1_048_576
@@ -112,34 +111,11 @@ pub(crate) fn outcome_of<S: Source, G: Gate + Sync, R: Threads + Wait + Sync>(
 /// Puts the status of an outcome and its words, as `status 0 fine`.
 pub(crate) fn put_status(alloc: Global, outcome: &Outcome, out: &mut String) -> Result<(), Fail> {
     let said = outcome.say(alloc)?;
-    let _ = write!(out, "status {} {}", outcome.status, said.as_str());
+    put(out, "status ");
+    put_number(out, u64::from(outcome.status));
+    put(out, " ");
+    put(out, said.as_str());
     Ok(())
-}
-
-/// What was written, as text.
-pub(crate) fn text_of(written: &[u8]) -> &str {
-    match str::from_utf8(written) {
-        Ok(text) => text,
-        Err(_) => "no text",
-    }
-}
-
-fn put_ended(lines: &str, out: &mut String) {
-    match lines.strip_suffix("\n") {
-        Some(lines) => put(out, lines),
-        None => {
-            put(out, lines);
-            put(out, " without a newline");
-        }
-    }
-}
-
-/// Puts lines, which a newline ends, each behind one.
-pub(crate) fn put_written(lines: &str, out: &mut String) {
-    if !lines.is_empty() {
-        put(out, "\n");
-        put_ended(lines, out);
-    }
 }
 
 /// Puts the status of an outcome, and behind it the lines that were written.
@@ -150,7 +126,7 @@ pub(crate) fn put_lines(
     out: &mut String,
 ) -> Result<(), Fail> {
     put_status(alloc, outcome, out)?;
-    put_written(text_of(written), out);
+    put_ended(text_of(written), out);
     Ok(())
 }
 
@@ -219,16 +195,8 @@ fn written_in<R: Threads + Wait + Sync>(
     script: &str,
     stage: &mut Stage,
 ) -> Result<Bytes, Fail> {
-    set_stage(alloc, script.as_bytes(), b"\n", stage)?;
-    outcome_of(
-        rt,
-        alloc,
-        line,
-        &mut stage.source,
-        &mut stage.shelf,
-        &mut stage.sink,
-        &OpenGate,
-    )?;
+    let mut told = String::new(alloc);
+    put_played(rt, alloc, &Kind::Length, line, script, stage, &mut told)?;
     Ok(Bytes::from_slice(alloc, stage.sink.held())?)
 }
 

@@ -1,10 +1,9 @@
-// What sessions tell whose calls fail, beside the one without a fault.
-use crate::sessions::{put_status, put_written, text_of};
+//! What sessions tell whose calls fail, beside the one without a fault.
+use crate::sessions::put_status;
 use defmt_run::Outcome;
 use std::alloc::Global;
-use std::fmt::Write;
 use std::test::Fail;
-use test_rows::{parted, put, put_once};
+use test_rows::{begins_with, is_same, parted, put, put_ended, put_number, put_once, text_of};
 
 /// Puts the status of an outcome, how many marks there are, and behind a bar what was written.
 pub(crate) fn put_marked(
@@ -14,16 +13,18 @@ pub(crate) fn put_marked(
     out: &mut String,
 ) -> Result<(), Fail> {
     put_status(alloc, outcome, out)?;
-    let (marks, text) = (outcome.tape.len(), text_of(written));
-    let _ = write!(out, ", {marks} marks|{text}");
+    put(out, ", ");
+    put_number(out, outcome.tape.len() as u64);
+    put(out, " marks|");
+    put(out, text_of(written));
     Ok(())
 }
 
 // How much of what is due was written.
 fn share_of(written: &str, due: &str) -> &'static str {
-    if written.is_empty() {
+    if is_same(written, "") {
         "nothing"
-    } else if due.starts_with(written) {
+    } else if begins_with(due, written) {
         "a front"
     } else {
         "others"
@@ -39,7 +40,10 @@ pub(crate) fn put_share(
 ) -> Result<(), Fail> {
     let (front, written) = parted(told, '|');
     let (_, due) = parted(whole, '|');
-    let line = format!(in alloc; "{front}, {}", share_of(written, due))?;
+    let mut line = String::new(alloc);
+    put(&mut line, front);
+    put(&mut line, ", ");
+    put(&mut line, share_of(written, due));
     put_once(line.as_str(), out)
 }
 
@@ -48,5 +52,5 @@ pub(crate) fn put_whole(whole: &str, out: &mut String) {
     let (front, lines) = parted(whole, '|');
     let (status, _) = parted(front, ',');
     put(out, status);
-    put_written(lines, out);
+    put_ended(lines, out);
 }

@@ -1,10 +1,10 @@
-// Runs under orders. A row is the words and the script, and the status and the lines that are written.
+//! Runs under orders. A row is the words and the script, and the status and the lines that are written.
 use crate::rows::{Kind, each_block};
-use crate::sessions::{put_status, text_of};
+use crate::sessions::put_status;
 use defmt_run::Outcome;
 use std::alloc::Global;
-use std::fmt::Write;
 use std::test::Fail;
+use test_rows::{count_of, put, put_number, text_of};
 
 // Orders that are heard at the first turn, and one that comes too late; lines that are muted, of which gaps tell; other commands.
 const STEERED: &str = "\
@@ -231,13 +231,10 @@ status 0 fine, 400 turns
 
 // Puts how many lines begin so.
 fn put_count(lines: &str, front: &str, out: &mut String) {
-    let mut count = 0u64;
-    for line in lines.split("\n") {
-        if line.starts_with(front) {
-            count = count.saturating_add(1);
-        }
-    }
-    let _ = write!(out, "\n{count} lines {front}");
+    put(out, "\n");
+    put_number(out, count_of(lines, front));
+    put(out, " lines ");
+    put(out, front);
 }
 
 /// Puts how many turns there are, and how many lines are of orders and how many of errors.
@@ -248,7 +245,9 @@ pub(crate) fn put_heard(
     out: &mut String,
 ) -> Result<(), Fail> {
     put_status(alloc, outcome, out)?;
-    let _ = write!(out, ", {} turns", outcome.turns.len());
+    put(out, ", ");
+    put_number(out, outcome.turns.len() as u64);
+    put(out, " turns");
     put_count(text_of(written), "-- level", out);
     put_count(text_of(written), "ERROR e", out);
     Ok(())

@@ -1,10 +1,10 @@
-// Texts for terminals beside the log. A row is the words and the script, and the status and the lines that are written.
+//! Texts for terminals beside the log. A row is the words and the script, and the status and the lines that are written.
 use crate::rows::{Kind, each_block};
-use crate::sessions::{put_status, text_of};
+use crate::sessions::put_status;
 use defmt_run::Outcome;
 use std::alloc::Global;
-use std::fmt::Write;
 use std::test::Fail;
+use test_rows::{count_in_order, put, put_number, text_of};
 
 const TERMINALS: &str = "\
 defmtl term
@@ -118,22 +118,13 @@ status 0 fine, 200 marks, 200 words
 writer 0 said 100 in order
 writer 1 said 100 in order";
 
-// Whether a line names a writer and a place.
-fn is_of(alloc: Global, line: &str, writer: u8, place: u64) -> bool {
-    let mut due = String::new(alloc);
-    let _ = write!(due, "{writer} {place}");
-    line == due.as_str()
-}
-
-// Puts how many lines there are that name a writer and the places from 0 on, one after the other.
-fn put_writer(alloc: Global, lines: &str, writer: u8, out: &mut String) {
-    let mut place = 0u64;
-    for line in lines.split("\n") {
-        if is_of(alloc, line, writer, place) {
-            place = place.saturating_add(1);
-        }
-    }
-    let _ = write!(out, "\nwriter {writer} said {place} in order");
+// Puts how many lines there are with this front and the places from 0 on, one after the other.
+fn put_writer(alloc: Global, lines: &str, front: &str, out: &mut String) {
+    put(out, "\nwriter ");
+    put(out, front);
+    put(out, "said ");
+    put_number(out, count_in_order(alloc, lines, front));
+    put(out, " in order");
 }
 
 /// Puts how many marks and words there are, and how many lines of the writers 0 and 1 stand in their order.
@@ -144,10 +135,13 @@ pub(crate) fn put_order(
     out: &mut String,
 ) -> Result<(), Fail> {
     put_status(alloc, outcome, out)?;
-    let (marks, words) = (outcome.tape.len(), outcome.said.len());
-    let _ = write!(out, ", {marks} marks, {words} words");
-    put_writer(alloc, text_of(written), 0, out);
-    put_writer(alloc, text_of(written), 1, out);
+    put(out, ", ");
+    put_number(out, outcome.tape.len() as u64);
+    put(out, " marks, ");
+    put_number(out, outcome.said.len() as u64);
+    put(out, " words");
+    put_writer(alloc, text_of(written), "0 ", out);
+    put_writer(alloc, text_of(written), "1 ", out);
     Ok(())
 }
 

@@ -1,11 +1,10 @@
-// What a run tells beside its lines. A row is the words and the script, and what is told of its tape, its ring and its events.
+//! What a run tells beside its lines. A row is the words and the script, and what is told of its tape, its ring and its events.
 use crate::rows::{Kind, each_block};
 use crate::sessions::{put_lines, put_status};
 use defmt_run::{Event, Outcome, RingKind, Settled};
 use std::alloc::Global;
-use std::fmt::Write;
 use std::test::Fail;
-use test_rows::put;
+use test_rows::{put, put_number};
 
 const ACCOUNTS: &str = "\
 defmtl run
@@ -37,7 +36,9 @@ event 1 at 1 INFO  hello";
 
 fn put_marks(outcome: &Outcome, out: &mut String) {
     let marks = outcome.tape.len();
-    let _ = write!(out, "\n{marks} marks");
+    put(out, "\n");
+    put_number(out, marks as u64);
+    put(out, " marks");
     if marks > 0 && outcome.looks >= marks as u64 {
         put(out, ", at least as many looks");
     }
@@ -49,8 +50,12 @@ fn put_settled(settled: &Settled, done: &str, out: &mut String) {
         RingKind::Queue => "queue",
         RingKind::Plain => "plain",
     };
-    let sent = settled.sent_len();
-    let _ = write!(out, "\n{kind} ring, {sent} bytes {done}");
+    put(out, "\n");
+    put(out, kind);
+    put(out, " ring, ");
+    put_number(out, settled.sent_len());
+    put(out, " bytes ");
+    put(out, done);
 }
 
 fn put_ring(outcome: &Outcome, out: &mut String) {
@@ -62,7 +67,9 @@ fn put_ring(outcome: &Outcome, out: &mut String) {
 
 fn put_place(place: Option<u16>, out: &mut String) {
     if let Some(place) = place {
-        let _ = write!(out, "at {place} ");
+        put(out, "at ");
+        put_number(out, u64::from(place));
+        put(out, " ");
     }
 }
 
@@ -70,7 +77,9 @@ fn put_place(place: Option<u16>, out: &mut String) {
 fn put_terminals(outcome: &Outcome, out: &mut String) {
     if let Some(term) = &outcome.term {
         put_settled(term, "spoken", out);
-        let _ = write!(out, ", {} words", outcome.said.len());
+        put(out, ", ");
+        put_number(out, outcome.said.len() as u64);
+        put(out, " words");
     }
 }
 
@@ -78,14 +87,18 @@ fn put_terminals(outcome: &Outcome, out: &mut String) {
 fn put_orders(outcome: &Outcome, out: &mut String) {
     if let Some(orders) = &outcome.orders {
         put_settled(orders, "ordered", out);
-        let _ = write!(out, ", {} turns", outcome.turns.len());
+        put(out, ", ");
+        put_number(out, outcome.turns.len() as u64);
+        put(out, " turns");
     }
 }
 
 fn put_event(event: &Event, out: &mut String) {
     match event {
         Event::Line { index, place, text } => {
-            let _ = write!(out, "\nevent {index} ");
+            put(out, "\nevent ");
+            put_number(out, u64::from(*index));
+            put(out, " ");
             put_place(*place, out);
             put(out, text.as_str());
         }
@@ -117,7 +130,8 @@ pub(crate) fn put_got(
         Some(settled) => settled.got_len(),
         None => 0,
     };
-    let _ = write!(out, "{got} bytes got, ");
+    put_number(out, got);
+    put(out, " bytes got, ");
     put_lines(alloc, outcome, written, out)
 }
 

@@ -1,10 +1,9 @@
-// What words ask for. A row is the words, which single spaces part, and the job.
+//! What words ask for. A row is the words, which single spaces part, and the job.
 use crate::rows::{Kind, each_line};
 use defmt_words::{DumpOptions, Job, RunOptions, ScriptJob, job_of};
 use std::alloc::Global;
-use std::fmt::Write;
 use std::test::Fail;
-use test_rows::{put, words_of};
+use test_rows::{put, put_hexadecimal, put_number, words_of};
 
 const JOBS: &str = "\
 defmtl run = run
@@ -94,7 +93,8 @@ fn put_script_job(job: &ScriptJob, out: &mut String) {
         ScriptJob::Table => put(out, "table"),
         ScriptJob::Print => put(out, "print"),
         ScriptJob::Generate(count) => {
-            let _ = write!(out, "generate {}", count.number());
+            put(out, "generate ");
+            put_number(out, u64::from(count.number()));
         }
     }
 }
@@ -105,11 +105,13 @@ fn put_dump(table: &str, options: &DumpOptions, out: &mut String) {
     } else {
         "what waits in"
     };
-    let _ = write!(
-        out,
-        "{what} {} from {:x} by {table}",
-        options.up, options.base
-    );
+    put(out, what);
+    put(out, " ");
+    put_number(out, u64::from(options.up));
+    put(out, " from ");
+    put_hexadecimal(out, u64::from(options.base));
+    put(out, " by ");
+    put(out, table);
 }
 
 fn put_job(job: &Option<Job>, out: &mut String) {

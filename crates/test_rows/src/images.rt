@@ -1,4 +1,4 @@
-// Images of memory by the steps that make them, bare and in core files.
+//! Images of memory by the steps that make them, bare and in core files.
 use std::alloc::Global;
 use std::test::Fail;
 

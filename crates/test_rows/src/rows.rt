@@ -1,3 +1,4 @@
+//! How rows are asked, and answers put together.
 use std::alloc::Global;
 use std::test::Fail;
 
