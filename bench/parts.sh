@@ -7,7 +7,7 @@
 # Each row is one function with all that it calls: what its calls cost together, divided by their number, over the script of `gen 4096`.
 # The compiler puts a function that is called in one place into its caller, and then it has no count of its own. The two that are held:
 #   from a statement to its frame     `write_frame` of defmt_frames; or `message` and `frame`
-#   from a piece to its event         `tell_piece` of defmt_framing: the code, the message and its line, which a plan makes in one pass
+#   from a piece to its event         `hear` of the program's listener: the zeros, the code, the message and its line, which a plan makes in one pass
 
 . "$(dirname "$0")/common.sh"
 need valgrind
@@ -62,10 +62,11 @@ printf '%-44s %10s %10s\n' function calls "a call"
 row "$work/recorded" defmt_encode::writing::message; message=$cost
 row "$work/recorded" defmt_encode::framing::frame; frame=$cost
 row "$work/recorded" defmt_frames::framing::write_frame; encoding=$cost
-row "$work/decoded" defmt_framing::decoded::decode_piece
-row "$work/decoded" defmt_framing::framer::tell_piece; piece=$cost
+row "$work/decoded" defmt_framing::decoded::decode_piece_to_end
+row "$work/decoded" defmt_plan::planned::PlannedTable::message
+row "$work/decoded" defmt_recording::ear::EarListener::hear; piece=$cost
 
 [ -n "$encoding" ] || [ -z "$message" ] || [ -z "$frame" ] || encoding=$((message + frame))
 due "instructions from a statement to its frame" "$encoding" 600
-due "instructions from a piece to its event" "$piece" 1300
+due "instructions from a piece to its event" "$piece" 1200
 exit "$worst"
