@@ -10,7 +10,7 @@ use defmt_grammar::{Hint, IntSize, Kind};
 use defmt_put::{put, put_decimal, put_uint};
 use defmt_values::{is_signed, size_bits};
 
-// Writes an unsigned number, where 64 bits hold it.
+/// Writes an unsigned number, where 64 bits hold it.
 pub fn put_number(out: &mut [u8], at: usize, number: u128, hint: Hint) -> Option<usize>
     requires { at ≤ length out.old }
     ensures { Writes result out.old at out.new (printed_uint number hint) }
@@ -21,7 +21,7 @@ pub fn put_number(out: &mut [u8], at: usize, number: u128, hint: Hint) -> Option
     put_uint(out, at, number as u64, hint)
 }
 
-// Writes a signed number in the size of its kind, where it lies in that.
+/// Writes a signed number in the size of its kind, where it lies in that.
 pub fn put_sized(out: &mut [u8], at: usize, number: i128, kind: Kind, hint: Hint) -> Option<usize>
     requires { at ≤ length out.old }
     ensures { Writes result out.old at out.new (int_text kind number hint) }
@@ -112,7 +112,7 @@ fn low(number: u128, bits: u8) -> u128
     }
 }
 
-// Writes the bit field that the kind names.
+/// Writes the bit field that the kind names.
 pub fn put_bits(out: &mut [u8], at: usize, number: u128, kind: Kind, hint: Hint) -> Option<usize>
     requires { at ≤ length out.old }
     ensures { Writes result out.old at out.new (bits_text kind number hint) }

@@ -1,3 +1,4 @@
+//! The text of a generated script.
 ghost use Rattle.std.specs.Prelude.{◌≡◌, ◌≤◌, ℕ, IfOk, length};
 ghost use Rattle.defmt_generate.specs.Generated.{generated};
 

@@ -1,4 +1,4 @@
-// One statement of the generated script.
+//! One statement of the generated script.
 ghost use Rattle.std.specs.Prelude.{◌≡◌, ◌++◌, OnOk, string_bytes};
 ghost use Rattle.defmt_generate.specs.Generated.{boot, temp, link, fail, tick, call, drawn, less_thousand, hex, statement};
 
@@ -12,7 +12,7 @@ fn push_boot(text: &mut String, x: u32) -> Result<(), Memory>
     Ok(())
 }
 
-/// Appends the number less 1,000.
+// Appends the number less 1,000.
 fn push_less_thousand(text: &mut String, number: u32) -> Result<(), Memory>
     ensures { OnOk result (string_bytes text.new ≡ string_bytes text.old ++ less_thousand number) }
 {
@@ -24,7 +24,7 @@ fn push_less_thousand(text: &mut String, number: u32) -> Result<(), Memory>
     Ok(())
 }
 
-/// Appends the byte in two hexadecimal digits.
+// Appends the byte in two hexadecimal digits.
 #[tactic(auto, using(std::proofs::lemmas::Fmt::hex_byte))]
 fn push_hex(text: &mut String, byte: u8) -> Result<(), Memory>
     ensures { OnOk result (string_bytes text.new ≡ string_bytes text.old ++ hex byte) }
@@ -83,7 +83,7 @@ fn push_call(text: &mut String, turn: u32, x: u32) -> Result<(), Memory>
     }
 }
 
-/// The number that statement `i` draws its arguments from.
+// The number that statement `i` draws its arguments from.
 fn drawn(i: u32) -> u32
     ensures { result ≡ drawn i }
 {

@@ -6,6 +6,9 @@
 //!
 //! A [`Logger`] has a desk behind a lock, as the work that eight writers share. It gives a [`Pen`] to each writer, and only a
 //! pen can log. When all [`Pens`] are back, `close` gives the tape, and each writer has as many marks on it as its pen tells.
+//!
+//! After the defmt book, the display of log frames, and SEGGER RTT's modes. So of three frames of 7 bytes a skipping ring of 16 takes
+//! two, and drops the third with room for 1 (device_tests, `logger`).
 #![tactic(auto)]
 
 mod desk;

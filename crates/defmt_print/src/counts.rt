@@ -1,4 +1,4 @@
-// Counts of the statements of a run.
+//! Counts of the statements of a run.
 ghost use Rattle.std.specs.Prelude.{[], ◌≡◌, ◌≤◌, ◌++◌, ◌==◌, sum_by, length, IfOk, OnOk};
 ghost use Rattle.defmt_encode.specs.Placed.{place_in};
 ghost use Rattle.defmt_print.specs.Printed.{count_line, has_level, is_of_level, level_line, message_size, summary, writer_count_line};

@@ -1,4 +1,4 @@
-// What the host tells of what was sent.
+//! What the host tells of what was sent.
 ghost use Rattle.std.specs.Prelude.{◌≡◌, ◌++◌, List, IfOk};
 ghost use Rattle.defmt_decode.specs.Event.{events_of};
 ghost use Rattle.defmt_logger.specs.Tape.{IsLawful, stream_of};

@@ -4,6 +4,9 @@
 //! that were, in groups by writer, counts over its tape, the texts of its terminals, and a line for each of its orders. A script
 //! has the lines of all statements. `sent_events` is what the host tells of what was sent for a tape. What an event prints stands
 //! in `defmt_recording`.
+//!
+//! After docs/USER-GUIDE.md, "Output lines". So the statements of the writer 0 are printed in front of those of the writer 1
+//! (program_tests, `commands`).
 #![tactic(auto)]
 
 mod counts;

@@ -1,4 +1,4 @@
-// The reports of frames that weren't sent whole.
+//! The reports of frames that weren't sent whole.
 ghost use Rattle.std.specs.Prelude.{◌≡◌, ◌++◌, OnOk};
 ghost use Rattle.std.specs.Fmt.{decimal};
 ghost use Rattle.defmt_print.specs.Losses.{loss_line, loss_text};

@@ -1,4 +1,4 @@
-// The lines of orders.
+//! The lines of orders.
 ghost use Rattle.std.specs.Prelude.{◌≡◌, ◌++◌, IfOk, OnOk};
 ghost use Rattle.defmt_hooks.specs.Spelling.{word_of};
 ghost use Rattle.defmt_hooks.specs.declared.level.Floor.TheVariants.{At};

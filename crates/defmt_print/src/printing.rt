@@ -1,4 +1,4 @@
-// What is printed of the tape of a run.
+//! What is printed of the tape of a run.
 ghost use Rattle.std.specs.Prelude.{◌≡◌, ◌++◌, IfOk, OnOk};
 ghost use Rattle.defmt_print.specs.Losses.{loss_lines};
 ghost use Rattle.defmt_print.specs.Printed.{ArePlaced, IsPlaced};

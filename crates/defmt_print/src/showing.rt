@@ -1,4 +1,4 @@
-// What is printed of a run.
+//! What is printed of a run.
 ghost use Rattle.std.specs.Prelude.{◌≡◌, IfOk};
 ghost use Rattle.defmt_print.specs.RunLines.{heard_lines, run_lines, steered_lines};
 ghost use Rattle.defmt_print.specs.Printed.{ArePlaced};

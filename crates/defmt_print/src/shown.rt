@@ -1,4 +1,4 @@
-// Which lines of a tape are printed by rules.
+//! Which lines of a tape are printed by rules.
 ghost use Rattle.std.specs.Prelude.{◌≡◌, ◌<◌, List, Option, None, length};
 ghost use Rattle.defmt_hooks.specs.declared.rules.Rules.{Rules as AnyRules};
 ghost use Rattle.defmt_intern.specs.declared.table.Profile.TheVariants.{One, Two};

@@ -1,4 +1,4 @@
-// What the types of a script's statements say of them.
+//! What the types of a script's statements say of them.
 ghost use Rattle.std.specs.Prelude.{◌≡◌, ◌<◌, ℕ, Some, slice_get};
 ghost use Rattle.defmt_frames.specs.Frames.{statements_of};
 ghost use Rattle.defmt_values.specs.Sound.{AreSound};

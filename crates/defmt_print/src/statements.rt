@@ -1,4 +1,4 @@
-// The lines of a script's statements.
+//! The lines of a script's statements.
 ghost use Rattle.std.specs.Prelude.{◌≡◌, ◌≤◌, ◌<◌, ◌^◌, ◌+◌, ◌++◌, [], length, slice_index_or, IfOk, OnOk};
 ghost use Rattle.defmt_encode.specs.Carry.{stamp_args};
 ghost use Rattle.defmt_frames.specs.Frames.{first_stamp, stamp_number, stamp_step};

@@ -1,4 +1,4 @@
-// The texts of terminals.
+//! The texts of terminals.
 ghost use Rattle.std.specs.Prelude.{◌≡◌, ◌<◌, ◌++◌, flat_map, IfOk, OnOk};
 ghost use Rattle.defmt_recording.specs.Output.{ended};
 ghost use Rattle.defmt_print.specs.Terminals.{screen_lines, terminal_lines};

@@ -4,7 +4,7 @@ ghost use Rattle.std.specs.Prelude.{◌≡◌, ◌<◌, ◌∷◌, true, IfSome}
 ghost use Rattle.std.specs.Str.{IsUtf8};
 ghost use Rattle.defmt_shapes.specs.Shape.{EndsThere};
 
-// Whether a value may end before this rest: it is empty or begins with a space.
+/// Whether a value may end before this rest: it is empty or begins with a space.
 pub fn ends_there(rest: &str) -> bool
     ensures { result ≡ true → EndsThere rest.now }
 {
@@ -14,7 +14,7 @@ pub fn ends_there(rest: &str) -> bool
     }
 }
 
-// What stands behind this character, where the text begins with it.
+/// What stands behind this character, where the text begins with it.
 pub fn behind(text: &str, first: u8) -> Option<&str>
     requires { first < 128 }
     ensures text { IfSome result (λ rest. text.now ≡ first ∷ rest.now) }

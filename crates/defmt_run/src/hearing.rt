@@ -1,4 +1,4 @@
-// What the host tells of a run, and what is written of it.
+//! What the host tells of a run, and what is written of it.
 ghost use Rattle.std.specs.Prelude.{◌≡◌, ◌++◌, ℕ, IfOk};
 ghost use Rattle.defmt_decode.specs.Event.{events_of};
 ghost use Rattle.defmt_print.specs.Heard.{GapsIn, LinesIn, catalog_of};

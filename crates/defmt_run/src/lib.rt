@@ -7,6 +7,9 @@
 //! of frames, and prints what it tells by the table which the file names. `dump --table FILE` does so with the bytes of an
 //! up-buffer in an image of memory. `gen N` runs a script of N statements that a formula makes, and
 //! prints counts of them.
+//!
+//! After docs/USER-GUIDE.md. So a script with `hello` of the writer 0 is run with the status 0 and the line `INFO  hello`
+//! (program_tests, `run`).
 #![tactic(auto)]
 
 mod hearing;

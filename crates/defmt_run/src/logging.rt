@@ -1,4 +1,4 @@
-// The run of a script by threads.
+//! The run of a script by threads.
 ghost use Rattle.std.specs.Prelude.{◌≡◌, ◌≤◌, ◌+◌, ◌*◌, IfOk};
 ghost use Rattle.defmt_frames.specs.Frames.{pace_of};
 ghost use Rattle.defmt_run.specs.Making.{IsWordRun, IsWordSteered, IsWordTalk};

@@ -1,4 +1,4 @@
-// What is made of a script, before it is written.
+//! What is made of a script, before it is written.
 ghost use Rattle.std.specs.Prelude.{◌≡◌, ◌≤◌, ◌^◌, IfOk, Ok};
 ghost use Rattle.elf_table.specs.Listed.{size_of};
 ghost use Rattle.defmt_run.specs.Making.{IsLogged, Makes};

@@ -1,3 +1,4 @@
+//! What a session came to.
 ghost use Rattle.std.specs.Prelude.{◌≡◌, IfOk};
 ghost use Rattle.defmt_recording.specs.Status.{status_of, said};
 ghost use Rattle.defmt_run.specs.Told.{IsUntold, told};

@@ -1,4 +1,4 @@
-// A job on a script.
+//! A job on a script.
 ghost use Rattle.std.specs.Prelude.{◌≡◌, ◌≤◌, ◌^◌, false, true, length, None, Some, Ok, IfOk, IfErr, IfSome};
 ghost use Rattle.std.specs.Str.Lines.{lines};
 ghost use Rattle.elf_table.specs.Listed.{size_of};

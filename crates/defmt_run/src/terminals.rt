@@ -1,4 +1,4 @@
-// What is printed of terminals.
+//! What is printed of terminals.
 ghost use Rattle.std.specs.Prelude.{◌≡◌, ◌++◌, IfOk};
 ghost use Rattle.defmt_print.specs.Terminals.{screen_lines};
 ghost use Rattle.defmt_talk.specs.Talks.{IsTalk};

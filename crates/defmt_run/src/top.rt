@@ -1,4 +1,4 @@
-// The top call.
+//! The top call.
 ghost use Rattle.std.specs.Prelude.{◌≡◌, ◌⊎◌, ◌≤◌, IfOk, Option, Some, None, map, string_bytes};
 ghost use Rattle.defmt_listen.specs.Streams.{input_of, output_of};
 ghost use Rattle.defmt_recording.specs.Calls.{files_of};

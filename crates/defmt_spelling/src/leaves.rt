@@ -31,7 +31,7 @@ pub fn index_of(names: &Names, name: &str) -> Result<u16, ArgFault>
     }
 }
 
-/// A number of an unsigned kind.
+// A number of an unsigned kind.
 fn uint_value(slot: Slot, number: Number) -> Result<Value, ArgFault>
     ensures { (n : ℕ) → Holds number n → GivesLeaf result (uint n) (uint_cause slot n) }
 {
@@ -44,7 +44,7 @@ fn uint_value(slot: Slot, number: Number) -> Result<Value, ArgFault>
     }
 }
 
-/// A number of a signed kind that isn't negative.
+// A number of a signed kind that isn't negative.
 fn positive_value(slot: Slot, number: Number) -> Result<Value, ArgFault>
     ensures { (n : ℕ) → Holds number n → GivesLeaf result (int (pos n)) (int_cause slot (pos n)) }
 {
@@ -95,7 +95,7 @@ fn is_within(n: u128, first: u8, width: u8) -> bool
     is_below(n, u32::from(first) + u32::from(width)) && is_multiple(n, u32::from(first))
 }
 
-/// A number of bit fields.
+// A number of bit fields.
 fn bits_value(slot: Slot, number: Number) -> Result<Value, ArgFault>
     requires { IsSound slot }
     ensures { (n : ℕ) → Holds number n → GivesLeaf result (bits n) (bits_cause slot n) }

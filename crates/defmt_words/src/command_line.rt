@@ -1,4 +1,4 @@
-// The command line, and what `clap` finds in words by it.
+//! The command line, and what `clap` finds in words by it.
 ghost use Rattle.std.specs.Prelude.{◌≡◌, false, map, option_map, IfOk, string_bytes};
 ghost use Rattle.clap.specs.Words.{app_of, found_of, rows_of, rule_of};
 ghost use Rattle.defmt_words.specs.Words.{command_line as line_of, rule_by, with_rules, found};

@@ -1,4 +1,7 @@
 //! What the words of the program ask for, read by `clap` as one simple command.
+//!
+//! After `clap`, and docs/USER-GUIDE.md, "Words". So `decode --table=t.elf` asks for a recording by that file, and `print --group` for
+//! nothing (program_tests, `words`).
 #![tactic(auto)]
 
 mod command_line;

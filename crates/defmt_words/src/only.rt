@@ -1,4 +1,4 @@
-// Which lines are asked for.
+//! Which lines are asked for.
 ghost use Rattle.std.specs.Prelude.{◌≡◌, IfOk};
 ghost use Rattle.defmt_words.specs.Only.{only_in};
 ghost use Rattle.defmt_words.specs.View.{text_in};

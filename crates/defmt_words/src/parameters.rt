@@ -1,4 +1,4 @@
-// What `clap` found of the parameters, and whether they go with a command.
+//! What `clap` found of the parameters, and whether they go with a command.
 ghost use Rattle.std.specs.Prelude.{◌≡◌, map};
 ghost use Rattle.clap.specs.Words.{found_of, rows_of, first_of};
 ghost use Rattle.defmt_words.specs.Words.{is_set, is_there, is_among, goes, all_go};

@@ -1,4 +1,4 @@
-// The job by what was found in the words.
+//! The job by what was found in the words.
 ghost use Rattle.std.specs.Prelude.{◌≡◌, map, IfOk, string_bytes};
 ghost use Rattle.clap.specs.Words.{found_of, rows_of};
 ghost use Rattle.defmt_words.specs.Words.{chosen, job, choice, base_in, decode_by, dump_by, dump_options, generate_by, only_by, run_by, up_in};

@@ -5,6 +5,8 @@
 //! [`serve_here`] logs what one pen has left on the calling thread, which in blocking mode reads where the ring has no room.
 //!
 //! The other calls are the parts of a run, for the crates that run a script with more than a logger.
+//!
+//! Threads and locks are std's. So two writers that wait for each other both log, in each mode (device_tests, `writers`).
 #![tactic(auto)]
 
 mod drain;

@@ -1,4 +1,4 @@
-// Macros with their arguments one by one: a proved caller of each, and messages that they put.
+//! Macros with their arguments one by one: a proved caller of each, and messages that they put.
 ghost use Rattle.std.specs.Prelude.{◌≡◌, ◌≤◌, ◌<◌, ◌^◌, ◌∷◌, [], length, take};
 ghost use Rattle.defmt_encode.specs.Carry.{bytes_val, bytes_vals, message_of, stamp_args};
 ghost use Rattle.defmt_encode.specs.Placed.{HasPlace};

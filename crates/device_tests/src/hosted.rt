@@ -1,4 +1,4 @@
-// Scripts whose orders the reading thread sends. A row is the script, the turns of its statements, and what was sent both ways.
+//! Scripts whose orders the reading thread sends. A row is the script, the turns of its statements, and what was sent both ways.
 ghost use Rattle.std.specs.Prelude.{◌≡◌, true};
 
 use crate::rows::{Kind, each_block};

@@ -1,4 +1,4 @@
-// A logger over a plain ring, on one thread.
+//! A logger over a plain ring, on one thread.
 ghost use Rattle.std.specs.Prelude.{◌≡◌, [], true, ⊤};
 ghost use Rattle.defmt_frames.specs.Frames.{pace_of};
 ghost use Rattle.rtt_ring.specs.PlainView.{up_of};

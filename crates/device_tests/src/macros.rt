@@ -1,4 +1,4 @@
-// The messages that the macros put.
+//! The messages that the macros put.
 ghost use Rattle.defmt_macros.specs.Sites.{IsSite};
 
 use crate::rows::{Kind, each_block};

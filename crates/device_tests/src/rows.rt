@@ -1,4 +1,4 @@
-// The rows of the tests, by what is asked of their inputs.
+//! The rows of the tests, by what is asked of their inputs.
 use crate::forms::put_form;
 use crate::hooks::{put_packages, put_rules, put_stamps};
 use crate::hosted::put_hosted;

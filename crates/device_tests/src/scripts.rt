@@ -1,4 +1,4 @@
-// Scripts of rows, their stamps and sites, and what rows tell of a run.
+//! Scripts of rows, their stamps and sites, and what rows tell of a run.
 ghost use Rattle.std.specs.Prelude.{◌≡◌, ◌≤◌, ◌+◌, ◌*◌, IfOk};
 ghost use Rattle.defmt_frames.specs.Frames.{pace_of};
 ghost use Rattle.defmt_macros.specs.Sites.{IsSite};

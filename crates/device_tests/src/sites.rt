@@ -1,4 +1,4 @@
-// Sites that are made and refused, and lists of slots.
+//! Sites that are made and refused, and lists of slots.
 use crate::rows::{Kind, each_line};
 use defmt_grammar::{Mode, Pieces, Slot, Text, parse};
 use defmt_intern::{Entry, Table, Tag};

@@ -1,4 +1,4 @@
-// Orders by an ear, and a steered logger over two rings, on one thread.
+//! Orders by an ear, and a steered logger over two rings, on one thread.
 ghost use Rattle.std.specs.Prelude.{◌≡◌, []};
 ghost use Rattle.defmt_frames.specs.Frames.{pace_of};
 ghost use Rattle.rtt_ring.specs.PlainView.{up_of};

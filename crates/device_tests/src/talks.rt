@@ -1,4 +1,4 @@
-// Scripts whose texts for terminals are said by threads. A row is the script, what came of its statements, and what was said.
+//! Scripts whose texts for terminals are said by threads. A row is the script, what came of its statements, and what was said.
 ghost use Rattle.defmt_writers.specs.Runs.{ModeFits};
 
 use crate::rows::{Kind, each_block};

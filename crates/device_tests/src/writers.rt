@@ -1,4 +1,4 @@
-// Scripts that are run by threads, under gates that hold some of them.
+//! Scripts that are run by threads, under gates that hold some of them.
 ghost use Rattle.std.specs.Prelude.{◌≡◌, [], IfOk};
 ghost use Rattle.defmt_frames.specs.Frames.{pace_of};
 ghost use Rattle.defmt_logger.specs.Kept.{TellsIn};

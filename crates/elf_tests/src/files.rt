@@ -4,14 +4,14 @@ use std::fmt::Write;
 use std::test::Fail;
 use test_rows::{bytes_of, parted};
 
-/// The number in so many bytes, at most eight, the lowest first.
+// The number in so many bytes, at most eight, the lowest first.
 fn put(out: &mut Vec<u8>, len: usize, number: u64) -> Result<(), Fail> {
     let bytes = number.to_le_bytes();
     out.extend_from_slice(&bytes[..len.min(8)])?;
     Ok(())
 }
 
-/// The names of the sections.
+// The names of the sections.
 const NAMES: &[u8] = b"\0.dynsym\0.text\0.defmt\0.shstrtab\0.symtab\0.strtab\0";
 
 // Fields, each with its length and its number; `w` is the length of an address.

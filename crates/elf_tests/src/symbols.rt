@@ -19,7 +19,7 @@ fn put_symbol(symbol: &Symbol, out: &mut String) -> Result<(), Fail> {
     put_str(out, str::from_utf8(symbol.name.as_slice())?)
 }
 
-/// How many symbols there are, and the value and the name of each.
+// How many symbols there are, and the value and the name of each.
 fn put_listing(symbols: &[Symbol], out: &mut String) -> Result<(), Fail> {
     write!(out, "{} symbols", symbols.len())?;
     for symbol in symbols {
@@ -37,7 +37,7 @@ fn put_refusal(fault: ElfFault, out: &mut String) -> Result<(), Fail> {
     }
 }
 
-/// The profile of a file that has symbols, where it is the second.
+// The profile of a file that has symbols, where it is the second.
 fn put_profile(alloc: Global, file: &[u8], out: &mut String) -> Result<(), Fail>
     requires { length file.now < 2 ^ 32 }
 {
@@ -48,7 +48,7 @@ fn put_profile(alloc: Global, file: &[u8], out: &mut String) -> Result<(), Fail>
     }
 }
 
-/// The symbols of a file and its profile, or its refusal.
+// The symbols of a file and its profile, or its refusal.
 fn put_symbols(alloc: Global, file: &[u8], out: &mut String) -> Result<(), Fail> {
     if file.len() >= 1 << 32 {
         return Err(Fail::new("the file is too long"));
@@ -62,14 +62,14 @@ fn put_symbols(alloc: Global, file: &[u8], out: &mut String) -> Result<(), Fail>
     }
 }
 
-/// The symbols behind the markers: three of `.defmt`, of which one has another name, and one of another section.
+// The symbols behind the markers: three of `.defmt`, of which one has another name, and one of another section.
 const OTHERS: &str =
     r#"3 3 {"package":"app","tag":"defmt_info","data":"hello","disambiguator":"7","crate_name":"app","x":[1,{"y":null}]}
 2 4 {"out":0}
 3 0 {"zero":0}
 3 2 main"#;
 
-/// Pushes the symbols of a file with these markers, of which the first lies in `.defmt`.
+// Pushes the symbols of a file with these markers, of which the first lies in `.defmt`.
 fn push_marked(linked: &mut Linked, markers: &str) -> Result<(), Fail> {
     let Some((version, others)) = markers.split_once('\n') else {
         return Err(Fail::new("no markers"));
@@ -330,7 +330,7 @@ pub fn put_answer_to_header(alloc: Global, change: &str, out: &mut String) -> Re
     put_symbols(alloc, &file, out)
 }
 
-/// 65,536 symbols more, whose names begin like quoted markers and all end at the end of one text of 4 MB.
+// 65,536 symbols more, whose names begin like quoted markers and all end at the end of one text of 4 MB.
 fn push_crowd(alloc: Global, linked: &mut Linked) -> Result<(), Fail> {
     const FRONT: &str = "\"_defmt_version_ = ";
     push_marked(linked, SOUND)?;
@@ -362,14 +362,14 @@ fn many_names_in_one_long_text_take_no_longer(rt: HostRuntime) -> Result<(), Fai
     Ok(())
 }
 
-/// Whether no byte is zero.
+// Whether no byte is zero.
 fn is_text(name: &[u8]) -> bool
     ensures { OnTrue result (All (λ b. b ≢ 0) name.now) }
 {
     name.iter().all(|b| *b != 0)
 }
 
-/// Symbols of short names without a zero and of small values.
+// Symbols of short names without a zero and of small values.
 fn list_of(alloc: Global, lines: &[&str]) -> Result<Vec<Symbol>, Fail>
     requires { length lines.now ≤ 16 }
     ensures { IfOk result (λ v. IsWritable (plain_all v.items)) }
@@ -388,7 +388,7 @@ fn list_of(alloc: Global, lines: &[&str]) -> Result<Vec<Symbol>, Fail>
     Ok(list)
 }
 
-/// The lines of a text.
+// The lines of a text.
 fn lines_of(alloc: Global, text: &str) -> Result<Vec<&str>, Fail> {
     let mut lines = Vec::new(alloc);
     for line in text.lines() {
@@ -397,7 +397,7 @@ fn lines_of(alloc: Global, text: &str) -> Result<Vec<&str>, Fail> {
     Ok(lines)
 }
 
-/// The file of symbols, each with its value and name.
+// The file of symbols, each with its value and name.
 fn written(alloc: Global, profile: Profile, text: &str) -> Result<Bytes, Fail> {
     let lines = lines_of(alloc, text)?;
     if lines.len() > 16 {
@@ -410,7 +410,7 @@ fn written(alloc: Global, profile: Profile, text: &str) -> Result<Bytes, Fail> {
 const HELLO: &str =
     r#"1 {"data":"hello","disambiguator":"1","package":"script","tag":"defmt_info"}"#;
 
-/// The file of that symbol in the first profile.
+// The file of that symbol in the first profile.
 const FILE: &str = "\
 7f 45 4c 46 01 01 01 00 00 00 00 00 00 00 00 00 \
 02 00 28 00 01 00 00 00 00 00 00 00 00 00 00 00 10 01 00 00 00 00 00 00 34 00 00 00 00 00 28 00 05 00 04 00 \
@@ -427,7 +427,7 @@ const FILE: &str = "\
 10 00 00 00 03 00 00 00 00 00 00 00 00 00 00 00 74 00 00 00 7a 00 00 00 00 00 00 00 00 00 00 00 01 00 00 00 00 00 00 00 \
 18 00 00 00 03 00 00 00 00 00 00 00 00 00 00 00 ee 00 00 00 22 00 00 00 00 00 00 00 00 00 00 00 01 00 00 00 00 00 00 00";
 
-/// And in the second, whose marker stands behind the two.
+// And in the second, whose marker stands behind the two.
 const FILE_OF_TWO: &str = "\
 7f 45 4c 46 01 01 01 00 00 00 00 00 00 00 00 00 \
 02 00 28 00 01 00 00 00 00 00 00 00 00 00 00 00 34 01 00 00 00 00 00 00 34 00 00 00 00 00 28 00 05 00 04 00 \

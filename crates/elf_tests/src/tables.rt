@@ -23,8 +23,8 @@ fn put_entry(index: u16, entry: &Entry, out: &mut String) -> Result<(), Fail> {
     put_word(entry.text.as_str(), out)
 }
 
-/// How many entries there are, the profile where it is the second, the index of the timestamp, and each entry's index, tag,
-/// package, disambiguator and text.
+// How many entries there are, the profile where it is the second, the index of the timestamp, and each entry's index, tag,
+// package, disambiguator and text.
 fn put_listing(table: &Table, out: &mut String) -> Result<(), Fail> {
     write!(out, "{} entries", table.len())?;
     if let Profile::Two = table.profile() {
@@ -49,7 +49,7 @@ fn put_refusal(fault: LoadFault, out: &mut String) -> Result<(), Fail> {
     }
 }
 
-/// The table of a file, or its refusal.
+// The table of a file, or its refusal.
 fn put_table(alloc: Global, file: &[u8], out: &mut String) -> Result<(), Fail> {
     if file.len() >= 1 << 32 {
         return Err(Fail::new("the file is too long"));
@@ -77,7 +77,7 @@ fn entry_of(alloc: Global, tag: &str, text: &str) -> Result<Entry, Fail> {
     Ok(entry)
 }
 
-/// Puts the entry of a line, which has its index, tag and text, into a table.
+// Puts the entry of a line, which has its index, tag and text, into a table.
 fn insert_line(alloc: Global, line: &str, table: &mut Table) -> Result<(), Fail> {
     let (index, rest) = parted(line, ' ');
     let (tag, text) = parted(rest, ' ');
@@ -177,7 +177,7 @@ fn a_damaged_file_is_refused_with_its_cause_and_place(rt: HostRuntime) -> Result
     each_line(rt.alloc(), NAMES, 3, &Kind::TableAnswerToDamage)
 }
 
-/// The first symbols of each linked file: one of a section, one of a mapping, and the first marker.
+// The first symbols of each linked file: one of a section, one of a mapping, and the first marker.
 const FRONT: &str = "3 0\n3 0 $d\n3 0 \"_defmt_version_ = 4\"\n";
 
 // The other symbols of a linked file, each with its section, value and name, and what is read in files of both classes.

@@ -91,7 +91,7 @@ trait Stepped {
     fn looks(&self) -> u64;
 }
 
-// A plain ring with nothing staged.
+/// A plain ring with nothing staged.
 #[derive(Drop)]
 pub struct Plain {
     pub ring: PlainRing,

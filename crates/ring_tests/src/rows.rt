@@ -1,4 +1,4 @@
-// The rows of the tests, by what is asked of their inputs.
+//! The rows of the tests, by what is asked of their inputs.
 use crate::blocks::{put_blocks, put_ids, put_waiting, put_written};
 use crate::modes::put_frames;
 use crate::rings::{put_rings, put_sizes};

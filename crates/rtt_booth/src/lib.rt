@@ -6,6 +6,9 @@
 //! A [`Booth`] has a stand behind a lock, as the work that eight writers share. It gives a voice to each writer, which is a
 //! [`Pen`], and only a voice can say a text. When all voices are back, `close` gives the words that were said, and each
 //! writer has as many as its voice tells.
+//!
+//! After SEGGER RTT's virtual terminals. So `tick` on the terminal 10 and `ready` on 0 are
+//! `ff 41 74 69 63 6b 0a ff 30 72 65 61 64 79 0a` (terminal_tests, `booths`).
 #![tactic(auto)]
 
 mod booth;

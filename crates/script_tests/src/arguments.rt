@@ -1,4 +1,4 @@
-// What texts of arguments read as, and how arguments are written.
+//! What texts of arguments read as, and how arguments are written.
 use crate::rows::Kind;
 use crate::texts::{inside_of, put_args, script_of};
 use defmt_grammar::Text;

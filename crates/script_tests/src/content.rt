@@ -1,4 +1,4 @@
-// The lines of scripts: where they are cut, what each says, and what the first lines set.
+//! The lines of scripts: where they are cut, what each says, and what the first lines set.
 use crate::rows::Kind;
 use crate::texts::{inside_of, put_digits_or_nothing, put_profile, put_settings};
 use defmt_intern::Tag;

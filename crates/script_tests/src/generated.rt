@@ -1,4 +1,4 @@
-// Generated scripts.
+//! Generated scripts.
 use defmt_generate::generate;
 use dl_io::Memory;
 

@@ -1,4 +1,4 @@
-// The rows of the tests, by what is asked of their inputs.
+//! The rows of the tests, by what is asked of their inputs.
 use crate::arguments::{put_answers_of, put_written_by_script, put_written_of_kind};
 use crate::content::{
     put_cut, put_name, put_said_by_bytes, put_said_by_text, put_setting, put_verdict,

@@ -1,4 +1,4 @@
-// What scripts say, and the first line for which a text is none.
+//! What scripts say, and the first line for which a text is none.
 use crate::rows::Kind;
 use crate::texts::{put_args, put_lines, put_profile, put_settings, put_whole, script_of};
 use defmt_intern::Entry;

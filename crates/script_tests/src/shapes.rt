@@ -1,4 +1,4 @@
-// What texts spell as values and as items, without any table.
+//! What texts spell as values and as items, without any table.
 use crate::rows::Kind;
 use crate::texts::{inside_of, put_digits_or_nothing};
 use defmt_shapes::{

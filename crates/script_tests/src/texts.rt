@@ -1,4 +1,4 @@
-// The texts of rows, and their scripts. Texts that begin or end with a space, or are empty, stand between `<` and `>`.
+//! The texts of rows, and their scripts. Texts that begin or end with a space, or are empty, stand between `<` and `>`.
 use defmt_intern::{Profile, Table};
 use defmt_lines::RingMode;
 use defmt_script::{Script, read};

@@ -1,4 +1,4 @@
-// The books of the writers, and the writers.
+//! The books of the writers, and the writers.
 ghost use Rattle.std.specs.Prelude.{◌≡◌, ℕ, ◌+◌, ◌<◌, List, [], ◌∷◌, length, slice_index_or, slice_set};
 
 use std::marker::{Brand, PhantomData};

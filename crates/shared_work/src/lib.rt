@@ -7,6 +7,8 @@
 //!
 //! What a work keeps of its own, such as the names of what it was made of, stands in its type: it holds each time the lock is
 //! taken, and of the work that `close` gives. Nothing here takes memory.
+//!
+//! The lock and the ledgers are std's. A logger is such a work: three steps of its pens leave three marks (device_tests, `logger`).
 #![tactic(auto)]
 
 mod books;

@@ -1,4 +1,4 @@
-// Pens.
+//! Pens.
 ghost use Rattle.std.specs.Prelude.{◌≡◌, ◌≤◌};
 
 use crate::books::{Ledgers, W0, W1, W2, W3, W4, W5, W6, W7, Writer};

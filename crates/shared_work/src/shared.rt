@@ -1,4 +1,4 @@
-// A work behind a lock.
+//! A work behind a lock.
 ghost use Rattle.std.specs.Prelude.{◌≡◌, ℕ, ◌+◌, ◌<◌, [], ◌∷◌, slice_index_or};
 ghost use Rattle.shared_work.specs.Names.{AreNamed};
 

@@ -1,4 +1,4 @@
-// What the writers share.
+//! What the writers share.
 use rtt_modes::Relief;
 use std::sync::Wait;
 

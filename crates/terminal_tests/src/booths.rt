@@ -1,4 +1,4 @@
-// A booth over a plain ring, on one thread.
+//! A booth over a plain ring, on one thread.
 ghost use Rattle.std.specs.Prelude.{◌≡◌, [], ⊤};
 ghost use Rattle.rtt_ring.specs.PlainView.{up_of};
 ghost use Rattle.rtt_ring.specs.Views.{new_up};

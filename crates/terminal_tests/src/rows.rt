@@ -1,4 +1,4 @@
-// The rows of the tests, by what is asked of their inputs.
+//! The rows of the tests, by what is asked of their inputs.
 use crate::booths::put_said;
 use crate::terminals::{put_long, put_named, put_sayable, put_screens, put_spoken};
 use std::alloc::Global;

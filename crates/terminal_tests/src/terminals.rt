@@ -1,4 +1,4 @@
-// Text terminals: which texts may be spoken, the lines that are written for them, and what a stream shows on each.
+//! Text terminals: which texts may be spoken, the lines that are written for them, and what a stream shows on each.
 ghost use Rattle.std.specs.Prelude.{◌<◌, ◌≤◌, IfOk, length};
 
 use crate::rows::{Kind, each_line};

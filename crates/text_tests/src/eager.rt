@@ -1,4 +1,4 @@
-// Lines and texts of scripts, and of tables by hand.
+//! Lines and texts of scripts, and of tables by hand.
 ghost use Rattle.std.specs.Prelude.{OnOk};
 ghost use Rattle.defmt_values.specs.Fits.{IsLogged};
 
@@ -128,7 +128,7 @@ fn put_first_line(alloc: Global, script: &Script, out: &mut String) -> Result<()
     put_line(alloc, script.table(), stamp, statement, out)
 }
 
-// Puts the line of a script's first statement with its first stamp.
+/// Puts the line of a script's first statement with its first stamp.
 pub fn put_line_in(alloc: Global, text: &str, out: &mut String) -> Result<(), Fail> {
     let script = script_of(alloc, text)?;
     put_first_line(alloc, &script, out)
@@ -145,7 +145,7 @@ fn put_text_in(alloc: Global, text: &str, out: &mut String) -> Result<(), Fail> 
     put_first_text(alloc, &script, out)
 }
 
-// Puts the text of a statement of this format string, behind which its arguments stand.
+/// Puts the text of a statement of this format string, behind which its arguments stand.
 pub fn put_shown(alloc: Global, input: &str, out: &mut String) -> Result<(), Fail> {
     let (format, args) = input.split_once(", ").ok_or("no arguments")?;
     let text = format!(in alloc;
@@ -182,7 +182,7 @@ fn put_length(
     Ok(write!(out, ", wide {wide}")?)
 }
 
-// Puts how long the text of so many bytes is, each of which fills 255 places.
+/// Puts how long the text of so many bytes is, each of which fills 255 places.
 pub fn put_length_for(alloc: Global, count: &str, out: &mut String) -> Result<(), Fail> {
     let args = ones(alloc, count.parse::<u16>()?)?;
     let table = table_of(alloc, "1 defmt_info {=[u8]:#0255b}")?;

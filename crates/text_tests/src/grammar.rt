@@ -1,4 +1,4 @@
-// Format strings: their refusals, spellings, pieces and slots.
+//! Format strings: their refusals, spellings, pieces and slots.
 use crate::rows::Kind;
 use crate::shared::pieces_of;
 use defmt_grammar::{Cause, GrammarFault, Mode, Piece, Pieces, Slot, Text, print};
@@ -190,7 +190,7 @@ fn put_list(pieces: &[Piece], out: &mut String) -> Result<(), Fail> {
     Ok(())
 }
 
-// Puts the pieces of a text, as a copy has them.
+/// Puts the pieces of a text, as a copy has them.
 pub fn put_pieces_text(alloc: Global, text: &str, out: &mut String) -> Result<(), Fail> {
     let pieces = copied(alloc, text)?;
     put_list(pieces.as_slice(), out)
@@ -210,7 +210,7 @@ pub fn put_slots(alloc: Global, text: &str, out: &mut String) -> Result<(), Fail
     put_slot_list(pieces.slots(), out)
 }
 
-// Puts how often each of the first four positions is used.
+/// Puts how often each of the first four positions is used.
 pub fn put_uses(alloc: Global, text: &str, out: &mut String) -> Result<(), Fail> {
     let pieces = copied(alloc, text)?;
     Ok(write!(

@@ -1,4 +1,4 @@
-// Values under their hints: a format string and its arguments as a script spells them, and the text.
+//! Values under their hints: a format string and its arguments as a script spells them, and the text.
 use crate::rows;
 use crate::shared::{put_visible, script_of};
 use defmt_grammar::{Base, Hint, Kind, Memory, Param, Piece, Text};
@@ -144,7 +144,7 @@ fn is_filled(alloc: Global, least: u8, front: &str, width: u8) -> Result<bool, M
     )
 }
 
-// Puts at how many widths 5 in binary is filled up, where its least width and its front are told.
+/// Puts at how many widths 5 in binary is filled up, where its least width and its front are told.
 pub fn put_filled(alloc: Global, input: &str, out: &mut String) -> Result<(), Fail> {
     let (least, front) = input.split_once(' ').unwrap_or((input, ""));
     let least = least.parse::<u8>()?;

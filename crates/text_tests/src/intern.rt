@@ -1,4 +1,4 @@
-// Tables, what their texts stand for, and symbol names.
+//! Tables, what their texts stand for, and symbol names.
 use crate::rows;
 use crate::shared::{entry_of, pieces_of, put, put_visible, table_of};
 use defmt_grammar::{Kind, Mode, Param, Piece, Text};
@@ -112,7 +112,7 @@ fn put_table(table: &Table, out: &mut String) -> Result<(), Fail> {
     Ok(write!(out, "1 is {first}\n3 is {third}")?)
 }
 
-// Puts what each entry is answered that is put into one table, and then the table.
+/// Puts what each entry is answered that is put into one table, and then the table.
 pub fn put_answers(alloc: Global, lines: &str, out: &mut String) -> Result<(), Fail> {
     let mut table = Table::new(alloc);
     for line in lines.lines() {
@@ -236,7 +236,7 @@ fn put_name(alloc: Global, tag: &str, text: &str, out: &mut String) -> Result<()
     Ok(write!(out, "{} bytes {}", name.len(), name.as_str())?)
 }
 
-// Puts the symbol name of an entry of this tag, whose text's bytes are given.
+/// Puts the symbol name of an entry of this tag, whose text's bytes are given.
 pub fn put_written(alloc: Global, input: &str, out: &mut String) -> Result<(), Fail> {
     let (tag, digits) = input.split_once(' ').ok_or("no text")?;
     let bytes = bytes_of(alloc, digits)?;
@@ -280,7 +280,7 @@ fn put_read(alloc: Global, name: &[u8], out: &mut String) -> Result<(), Fail> {
     }
 }
 
-// Puts what a name reads as, which stands as it is or as `hex` and the digits of its bytes.
+/// Puts what a name reads as, which stands as it is or as `hex` and the digits of its bytes.
 pub fn put_name_text(alloc: Global, input: &str, out: &mut String) -> Result<(), Fail> {
     match input.strip_prefix("hex ") {
         Some(digits) => put_read(alloc, bytes_of(alloc, digits)?.as_slice(), out),

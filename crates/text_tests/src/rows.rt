@@ -1,4 +1,4 @@
-// The rows of the tests, by what is asked of their inputs.
+//! The rows of the tests, by what is asked of their inputs.
 use crate::eager::{put_length_for, put_line_in};
 use crate::grammar::{put_pieces_text, put_slots, put_spelling, put_uses};
 use crate::hints::put_filled;

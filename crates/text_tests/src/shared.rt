@@ -1,4 +1,4 @@
-// Scripts, tables and printed texts of rows.
+//! Scripts, tables and printed texts of rows.
 use defmt_grammar::{GrammarFault, Mode, Pieces, Text, parse};
 use defmt_intern::{Entry, Table, TableFault, Tag};
 use defmt_script::{Script, ScriptFault, read};

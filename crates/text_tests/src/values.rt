@@ -1,4 +1,4 @@
-// What fits a small table, and each cause for which a statement doesn't.
+//! What fits a small table, and each cause for which a statement doesn't.
 use crate::rows::Kind;
 use crate::shared::{script_of, table_of, text_of};
 use defmt_intern::Table;
@@ -175,7 +175,7 @@ fn put_bare_verdict(alloc: Global, input: &str, out: &mut String) -> Result<(), 
     put_verdict(check(&table, &Statement { index, args }), out)
 }
 
-// Puts what is said of a statement of a text, behind which its arguments stand.
+/// Puts what is said of a statement of a text, behind which its arguments stand.
 pub fn put_verdict_of(alloc: Global, input: &str, out: &mut String) -> Result<(), Fail> {
     let Some((text, spelled)) = input.split_once(", ") else {
         return put_bare_verdict(alloc, input, out);
@@ -191,7 +191,7 @@ fn put_first_verdict(script: &Script, out: &mut String) -> Result<(), Fail> {
     Ok(write!(out, " with {}", statement.args.len())?)
 }
 
-// Puts what is said of a script's first statement, and how many arguments it has.
+/// Puts what is said of a script's first statement, and how many arguments it has.
 pub fn put_verdict_in(alloc: Global, text: &str, out: &mut String) -> Result<(), Fail> {
     let script = script_of(alloc, text)?;
     put_first_verdict(&script, out)

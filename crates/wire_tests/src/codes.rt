@@ -1,4 +1,4 @@
-// Codes: what messages are written as, and what pieces stand for.
+//! Codes: what messages are written as, and what pieces stand for.
 use crate::rows::Kind;
 use crate::runs::{bytes_of, put_words};
 use rzcobs_core::{bound, decode, encode};

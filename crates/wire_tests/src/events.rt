@@ -1,4 +1,4 @@
-// The events of streams: lines, faults, and fronts and tails that are cut off.
+//! The events of streams: lines, faults, and fronts and tails that are cut off.
 use crate::rows::Kind;
 use crate::runs::{bytes_of, put_count};
 use crate::strings::{end_line, script_of, table_of};
@@ -211,7 +211,7 @@ fn put_both(alloc: Global, table: &Table, place: &str, out: &mut String) -> Resu
     put_stream(alloc, table, behind, out)
 }
 
-// What two frames tell that are cut at a place.
+/// What two frames tell that are cut at a place.
 pub fn put_told_of_both(alloc: Global, place: &str, out: &mut String) -> Result<(), Fail> {
     let script = script_of(alloc, HELLO)?;
     put_both(alloc, script.table(), place, out)

@@ -1,3 +1,4 @@
+//! Recordings heard by a listener of letters.
 ghost use Rattle.std.specs.Prelude.{[], ◌∷◌, true, false, None};
 
 // Recordings that a listener hears, which has a letter for each part.

@@ -1,4 +1,4 @@
-// Messages and frames of the statements of scripts, what messages are read as, and each cause for which bytes are none.
+//! Messages and frames of the statements of scripts, what messages are read as, and each cause for which bytes are none.
 use crate::rows::Kind;
 use crate::runs::{bytes_of, put_words};
 use crate::strings::{end_line, script_of, table_of};

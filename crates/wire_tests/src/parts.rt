@@ -1,4 +1,4 @@
-// The parts of streams of bytes: what comes before the first zero, the pieces between zeros, and what follows the last.
+//! The parts of streams of bytes: what comes before the first zero, the pieces between zeros, and what follows the last.
 ghost use Rattle.std.specs.Prelude.{length};
 ghost use Rattle.wire_tests.specs.declared.parts.Part.TheVariants.{Front, Piece, Long, Tail};
 

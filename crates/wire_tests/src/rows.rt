@@ -1,4 +1,4 @@
-// The rows of the tests, by what is asked of their inputs.
+//! The rows of the tests, by what is asked of their inputs.
 use crate::{codes, events, hearing, messages, parts, screens};
 use std::alloc::Global;
 use std::test::Fail;

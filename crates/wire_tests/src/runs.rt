@@ -1,4 +1,4 @@
-// Bytes as words of two hexadecimal digits, in which a run of one value may be one word, as `01*134`; no bytes are the word `nothing`.
+//! Bytes as words of two hexadecimal digits, in which a run of one value may be one word, as `01*134`; no bytes are the word `nothing`.
 use std::alloc::Global;
 use std::fmt::Write;
 use std::test::Fail;

@@ -1,4 +1,4 @@
-// Which events a screen shows.
+//! Which events a screen shows.
 ghost use Rattle.std.specs.Prelude.{◌≡◌};
 ghost use Rattle.defmt_hooks.specs.Judging.{JudgesBy};
 ghost use Rattle.defmt_hooks.specs.Kept.{keeps};

@@ -1,4 +1,4 @@
-// The strings that rows of messages and events are told by.
+//! The strings that rows of messages and events are told by.
 use defmt_grammar::Text;
 use defmt_intern::{Entry, Profile, Table, Tag};
 use defmt_script::{Script, read};
