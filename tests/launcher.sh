@@ -153,7 +153,7 @@ is 'each crate is proved once, test crates and those aside are not' "$(proofs)" 
 has 'the program is the proved one' "$said" 'proved one'
 has 'how far a build is' "$said" 'crate 2 of 6 is done: '
 has 'how long it will take' "$said" 'About '
-has 'how long the first build takes' "$said" 'half an hour on four processors, an hour on two'
+has 'how long the first build takes' "$said" 'about twenty minutes on four processors, forty on two'
 is 'a crate that stands alone has two jobs, and the program one' "$(grep -c '^low lib --jobs 2$\|^top lib --jobs 2$\|^defmt_cli run --jobs 1 ' "$kit/calls")" 3
 is 'two side by side share the processors' "$(grep '^left\|^right' "$kit/calls" | grep -o '[0-9]*$' | sort | tr '\n' ' ')" '2 2 '
 is 'each crate has one call, but the last library has none of its own' "$(calls)" 5
