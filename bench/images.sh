@@ -3,10 +3,9 @@
 #
 #   bench/images.sh        at the repository's top, once ./defmtl has built the program; needs valgrind, GNU time and python3
 #
-# The images are zeros, or bytes by chance, with one control block at the end, whose buffer holds a few frames. Instructions are counted at 16 and at
-# 64 MiB, and their difference is divided by the bytes between them; so they are, with no bound, of an image that is made of IDs alone, of which the
-# search may pass over none. Peak memory is that of 256 MiB, the longest image that is read, beside its bytes. The core files have 16,383 and 65,535
-# program headers that all show the same 16 MiB.
+# The images are zeros, or bytes by chance, with one control block at the end, whose buffer holds a few frames, or IDs alone. Instructions are counted
+# at 16 and at 64 MiB, and their difference is divided by the bytes between them. Peak memory is that of 256 MiB, the longest image that is read, beside
+# its bytes. The core files have 16,383 and 65,535 program headers that all show the same 16 MiB.
 
 . "$(dirname "$0")/common.sh"
 need valgrind time python3
@@ -48,7 +47,7 @@ for kind in zeros chance ids; do
     small=$(dumped "$work/small" "$due") && large=$(dumped "$work/large" "$due") || exit 1
     echo "$kind: $small instructions at 16 MiB, $large at 64 MiB"
     each=$(ratio "$between" $((large - small)))
-    if [ "$kind" = ids ]; then echo "instructions a byte of an image of ids: $each"; else judge "instructions a byte of an image of $kind" "$each" 10; fi
+    judge "instructions a byte of an image of $kind" "$each" 10
 done
 
 image zeros 268435456 > "$work/longest" || exit 1

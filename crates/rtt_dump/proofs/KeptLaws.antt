@@ -1,13 +1,14 @@
 -- The IDs that are kept of a file: of each start of a segment the first two that aren't below it.
-use Rattle.std.proofs.Common.{◌≡◌, ◌∙◌, ℕ, ◌+◌, ◌<◌, ◌≤◌, List, [], ◌∷◌, ◌++◌, length, take, get_or, refl, sym, ap, subst, arith, inl, inr, append_assoc, append-nil, length-append}
+use Rattle.std.proofs.Common.{◌≡◌, ◌∙◌, ℕ, zero, suc, ◌+◌, ◌<◌, ◌≤◌, List, [], ◌∷◌, ◌++◌, length, take, drop, get_or, refl, sym, ap, subst, arith, inl, inr, append_assoc, append-nil, length-append, length-drop}
 use Rattle.std.specs.Prelude.{nat_le}
 use Rattle.std.specs.List.{filter}
-use Rattle.std.proofs.lemmas.Bool.{cases_lt, le-leb, lt-leb}
+use Rattle.std.proofs.lemmas.Bool.{cases_Bool, cases_lt, le-leb, lt-leb}
 use Rattle.std.proofs.lemmas.List.{take-append-le}
 use Rattle.std.proofs.lemmas.List.Elements.{filter-append}
 use Rattle.rtt_control.specs.Control.{id_places}
+use Rattle.rtt_control.specs.Layout.{starts_with_id}
 use Rattle.rtt_dump.specs.Ids.{Rises, first_two}
-use Rattle.rtt_dump.proofs.PartLemmas.{places_rise, rises_weaken}
+use Rattle.rtt_dump.proofs.PartLemmas.{here_is, here_not, places_rise, rises_weaken}
 
 abbrev above : ℕ → List ℕ → List ℕ
 above s places = filter (nat_le s) places
@@ -103,6 +104,59 @@ module _ (starts file kept left cut : List ℕ) (at k before last begun : ℕ) (
 
   pub kept_still : (more : List ℕ) → more ≡ kept → begun ≤ before → IsKept starts file more cut (at + (k + 1)) last begun
   kept_still more same few = subst (λ (l : List ℕ). IsKept starts file l cut (at + (k + 1)) last begun) (sym same) (kept_same few)
+
+-- where two IDs stand behind each start so far, none counts in front of the next start
+kept_step : (starts file kept left : List ℕ) (b at before last : ℕ) → last ≤ before → ((j d : ℕ) → last ≤ j → j < length starts → at < get_or starts j d)
+    → IsKept starts file kept (b ∷ left) at before last → IsKept starts file kept left (at + 1) before last
+kept_step starts file kept left b at before last few behind was =
+    let below : (j d : ℕ) → j < last → get_or starts j d ≤ at + 1 = λ j d lt. let le = was.below j d lt in omega (arith, le) in
+    let here_below : (j d : ℕ) → j < last → get_or starts j d ≤ at + 0 = λ j d lt. let le = was.below j d lt in omega (arith, le) in
+    let here_behind : (j d : ℕ) → last ≤ j → j < length starts → at + 0 < get_or starts j d = λ j d more lt. let far = behind j d more lt in omega (arith, far) in
+    elim (cases_Bool (starts_with_id (b ∷ left))) [
+      | inl is ↦
+          let here : at ≡ at + 0 = omega arith in
+          let next : id_places at (b ∷ left) ≡ (at + 0) ∷ id_places (at + (0 + 1)) left = here_is at b left is ∙ ap (λ (p : ℕ). p ∷ id_places (at + 1) left) here in
+          let past = kept_same starts file kept (b ∷ left) left at 0 before last last was.most here_below here_behind next was few in
+          record { most = was.most; below = below; one = was.one; two = was.two; same = past.same; rises = past.rises }
+      | inr not ↦
+          let next : kept ++ id_places at (b ∷ left) ≡ kept ++ id_places (at + 1) left = ap (λ (l : List ℕ). kept ++ l) (here_not at b left not) in
+          record {
+            most = was.most;
+            below = below;
+            one = was.one;
+            two = was.two;
+            same = λ j d lt. ap (first_two (get_or starts j d)) (sym next) ∙ was.same j d lt;
+            rises = subst (λ (l : List ℕ). Rises 0 l) next was.rises;
+          }
+    ]
+
+kept_steps : (starts file kept left : List ℕ) (at before last n : ℕ) → n ≤ length left → (0 < n → last ≤ before)
+    → ((j d : ℕ) → 0 < n → last ≤ j → j < length starts → at + n ≤ get_or starts j d)
+    → IsKept starts file kept left at before last → IsKept starts file kept (drop n left) (at + n) before last
+kept_steps starts file kept left at before last zero fits few below was =
+    let same : at ≡ at + 0 = omega arith in subst (λ (p : ℕ). IsKept starts file kept left p before last) same was
+kept_steps starts file kept [] at before last (suc n) fits few below was = absurd (omega (arith, fits))
+kept_steps starts file kept (b ∷ left) at before last (suc n) fits few below was =
+    let enough : last ≤ before = few (omega arith) in
+    let same : at + 1 + n ≡ at + suc n = omega arith in
+    let fits_left : n ≤ length left = omega (arith, fits) in
+    let here : (j d : ℕ) → last ≤ j → j < length starts → at < get_or starts j d = λ j d more lt. let far = below j d (omega arith) more lt in omega (arith, far) in
+    let later : (j d : ℕ) → 0 < n → last ≤ j → j < length starts → at + 1 + n ≤ get_or starts j d = λ j d pos more lt.
+    let far = below j d (omega arith) more lt in omega (arith, far) in
+    let step = kept_step starts file kept left b at before last enough here was in
+    subst (λ (p : ℕ). IsKept starts file kept (drop n left) p before last) same
+    (kept_steps starts file kept left (at + 1) before last n fits_left (λ pos. enough) later step)
+
+-- so many bytes are passed over
+pub kept_past : (starts file kept left cut : List ℕ) (at to before last n : ℕ) → cut ≡ drop n left → to ≡ at + n → n ≤ length left → (0 < n → last ≤ before)
+    → ((j d : ℕ) → 0 < n → last ≤ j → j < length starts → at + n ≤ get_or starts j d)
+    → IsKept starts file kept left at before last → IsKept starts file kept cut to before last
+kept_past starts file kept left cut at to before last n cut_is to_is fits few below was =
+    subst (λ (l : List ℕ). IsKept starts file kept l to before last) (sym cut_is)
+    (subst (λ (p : ℕ). IsKept starts file kept (drop n left) p before last) (sym to_is) (kept_steps starts file kept left at before last n fits few below was))
+
+pub past_length : (left cut : List ℕ) (at to n end : ℕ) → cut ≡ drop n left → to ≡ at + n → n ≤ length left → at + length left ≡ end → to + length cut ≡ end
+past_length left cut at to n end cut_is to_is fits was = omega (arith, ap length cut_is, length-drop n left)
 
 -- all was searched
 pub all_kept : (starts file kept left : List ℕ) (at before last : ℕ) → id_places at left ≡ [] → IsKept starts file kept left at before last

@@ -46,6 +46,24 @@ fn starts_up_to(starts: &[usize], place: usize) -> usize
     starts.partition_point(|start| *start <= place)
 }
 
+// How many of the bytes from a place on no start needs: all up to the next start, where so many starts have
+// two IDs behind them and no other is up to the place.
+fn passed_over(starts: &[usize], before: usize, last: usize, at: usize, len: usize) -> usize
+    requires { IsNonDecreasingBy (λ start. start) starts.now }
+    ensures within { result ≤ len }
+    ensures full { 0 < result → last ≤ before }
+    ensures below { (k d : ℕ) → 0 < result → last ≤ k → k < length starts.now
+        → at + result ≤ slice_index_or starts.now k d }
+{
+    if before < last {
+        return 0;
+    }
+    match starts.get(last) {
+        Some(start) => len.min(start.saturating_sub(at)),
+        None => len,
+    }
+}
+
 // Of the places of the ID in the file, for each start the first two that aren't below it.
 fn kept_places(alloc: Global, file: &[u8], starts: &[usize]) -> Result<Vec<u32>, Memory>
     requires short { length file.now < 2 ^ 32 }
@@ -70,6 +88,9 @@ fn kept_places(alloc: Global, file: &[u8], starts: &[usize]) -> Result<Vec<u32>,
         last = begun;
         at += gap + 1;
         rest = &rest[gap + 1..];
+        let passed = passed_over(starts, before, last, at, rest.len());
+        at += passed;
+        rest = &rest[passed..];
     }
     Ok(places)
 }
