@@ -1,5 +1,5 @@
 //! The writers' threads.
-ghost use Rattle.std.specs.Prelude.{◌≡◌};
+ghost use Rattle.std.specs.Prelude.{◌≡◌, ◌≤◌, ◌<◌};
 
 use crate::gate::Gate;
 use rtt_modes::Relief;
@@ -46,7 +46,8 @@ pub fn write<
     }
 }
 
-/// Does the steps that the pen has left until so many are done, and asks the gate before each.
+/// Does the steps that the pen has left until so many are done, and asks the gate before each. Where as many were done before,
+/// or more, it does none.
 pub fn write_until<
     B: Books,
     Q: Quota,
@@ -58,7 +59,10 @@ pub fn write_until<
     W: Wait,
 >(rt: &W, shared: &Shared<B, Q, T>, pen: &mut Pen<S, L, Q>, count: u32, gate: &G, relief: &mut R)
     requires { R.kept relief.old }
-    ensures { R.kept relief.new }
+    ensures until { pen.new.place < pen.new.total → count ≤ pen.new.place }
+    ensures no_further { pen.old.place < pen.new.place → pen.new.place ≤ count }
+    ensures forth { pen.old.place ≤ pen.new.place }
+    ensures relief { R.kept relief.new }
 {
     while pen.place() < pen.total() && pen.place() < count {
         gate.pass(pen.writer(), pen.place());
