@@ -3,7 +3,7 @@
 //! Each call answers the place behind its text, or `None` where the buffer ends before, or where it leaves the value to the calls of
 //! defmt_hints. What stands in front of the place is as before in any case. No call takes memory.
 //!
-//! So `put_uint` writes 10 under `{=u8:#04x}` as `0x0a`, as defmt_hints says (docs/FORMATS.md, "Display hints"); tests/guide.sh
+//! So `put_uint` writes 10 under `{=u8:#04x}` as `0x0a`, as defmt_hints says (docs/FORMATS.md, "Printed values"); tests/guide.sh
 //! runs it by the program.
 #![tactic(auto)]
 
@@ -15,4 +15,4 @@ mod texts;
 
 pub use lists::put_bytes;
 pub use numbers::{half_of, put_decimal, put_int, put_uint};
-pub use texts::{put, put_bool, put_char, put_str};
+pub use texts::{put, put_bool, put_char, put_str, put_text};

@@ -46,6 +46,18 @@ pub fn put_decimal(out: &mut [u8], at: usize, number: u64) -> Option<usize>
     requires { at ≤ length out.old }
     ensures { Writes result out.old at out.new (decimal_text number) }
 {
+    if number < 10 {
+        return put(out, at, &[b'0' + number as u8]);
+    }
+    put_all_digits(out, at, number)
+}
+
+// The same, of any number. It stands apart, so that a single digit is written at once.
+#[inline(never)]
+fn put_all_digits(out: &mut [u8], at: usize, number: u64) -> Option<usize>
+    requires { at ≤ length out.old }
+    ensures { Writes result out.old at out.new (decimal_text number) }
+{
     let count = digit_count(number);
     if out.len() - at < count {
         return None;

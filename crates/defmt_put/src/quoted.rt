@@ -5,7 +5,7 @@ ghost use Rattle.std.specs.List.{flat_map};
 ghost use Rattle.defmt_hints.specs.Escapes.{escape_of, escaped, quoted_text};
 ghost use Rattle.defmt_put.specs.Written.{Writes};
 
-use crate::texts::put;
+use crate::texts::{put, put_text};
 
 // Whether a byte stands for itself between double quotes.
 #[tactic(auto, unfolding(defmt_hints::specs::Escapes::escape_of))]
@@ -36,6 +36,6 @@ pub(crate) fn put_quoted(out: &mut [u8], at: usize, text: &str) -> Option<usize>
         return None;
     }
     let start = put(out, at, b"\"")?;
-    let end = put(out, start, text.as_bytes())?;
+    let end = put_text(out, start, text.as_bytes())?;
     put(out, end, b"\"")
 }

@@ -21,6 +21,15 @@ pub fn put(out: &mut [u8], at: usize, text: &[u8]) -> Option<usize>
     Some(end)
 }
 
+/// The same by a call, for bytes whose number isn't known where they are written.
+#[inline(never)]
+pub fn put_text(out: &mut [u8], at: usize, text: &[u8]) -> Option<usize>
+    requires { at ≤ length out.old }
+    ensures { Writes result out.old at out.new text.now }
+{
+    put(out, at, text)
+}
+
 /// Writes `true` or `false`.
 pub fn put_bool(out: &mut [u8], at: usize, value: bool) -> Option<usize>
     requires { at ≤ length out.old }
@@ -56,7 +65,7 @@ pub fn put_str(out: &mut [u8], at: usize, text: &str, hint: Hint) -> Option<usiz
     match hint {
         Hint::Debug => put_quoted(out, at, text),
         Hint::Plain | Hint::Radix { .. } | Hint::Ascii | Hint::Micros | Hint::Millis => {
-            put(out, at, text.as_bytes())
+            put_text(out, at, text.as_bytes())
         }
     }
 }
