@@ -1,15 +1,13 @@
 -- A code read from its end.
-use Rattle.std.proofs.Common.{◌≡◌, ◌≢◌, inl, inr, ℕ, zero, suc, ◌+◌, ◌-◌, ◌*◌, ◌/◌, ◌%◌, ◌^◌, ◌<◌, ◌≤◌, ◌==◌, false, List, [], ◌∷◌, ◌++◌, length, get_or, take, drop, set, All, Option, Some, None, refl, sym, ◌∙◌, ap, subst, arith, length-append, append_assoc}
+use Rattle.std.proofs.Common.{◌≡◌, ◌≢◌, inl, inr, ℕ, zero, suc, ◌+◌, ◌-◌, ◌*◌, ◌/◌, ◌%◌, ◌^◌, ◌<◌, ◌≤◌, ◌==◌, false, List, [], ◌∷◌, ◌++◌, length, get_or, take, drop, set, All, refl, sym, ◌∙◌, ap, subst, arith, length-append, append_assoc}
 use Rattle.std.proofs.lemmas.Bool.{cases_eq}
 use Rattle.std.proofs.lemmas.Bool.Decides.{nat_tests}
 use Rattle.std.proofs.lemmas.List.{append-nil, take_more_set, take_more, take_all, drop_all, drop-set, get_or-append-add, get_or_append_left, length-take-le, length-drop, get_or-take, get_or-drop, same_lists, nil_from_length, drop_at, drop-drop, take-append-drop}
 use Rattle.std.proofs.Math.Nat.{pow-succ'}
 use Rattle.std.specs.Int.Count.{ones, ones_step, ones-le}
-use Rattle.std.specs.Borrow.{Bor}
-use Rattle.std.specs.Prelude.{MatchOption}
 use borrow.Rule.Slice.PartMut.{put_mid, post_of}
 use Rattle.rzcobs_core.specs.Blocks.{zero_bits, nonzero, first_form, second_form, third_form, IsBlock, few, zero_after, none_zero, Blocks, end, block}
-use Rattle.rzcobs_core.specs.Reading.{clear_bits, EndsInZero, ReadsRun, ReadsLast, EndsInNoBlock}
+use Rattle.rzcobs_core.specs.Reading.{clear_bits, ReadsRun, ReadsLast, EndsInNoBlock}
 use Rattle.rzcobs_core.proofs.Bits.{nonzero-zero, nonzero-other, zero_bits-zero, zero_bits-other, nonzero-append, zero_bits-append}
 use Rattle.rzcobs_core.proofs.OneReading.{last_of, same_ends, same_last, small_code, block_some}
 
@@ -27,6 +25,13 @@ NoZero-left xs ys all k d within = subst (λ (n : ℕ). n ≢ 0) (get_or_append_
 
 pub NoZero-right : (xs ys : List ℕ) → NoZero (xs ++ ys) → NoZero ys
 NoZero-right xs ys all k d within = subst (λ (n : ℕ). n ≢ 0) (get_or-append-add xs ys k d) (all (length xs + k) d (omega (arith, length-append xs ys)))
+
+-- of the two parts of a list without a zero
+pub NoZero-before : (whole front back : List ℕ) → whole ≡ front ++ back → NoZero whole → NoZero front
+NoZero-before whole front back is non = NoZero-left front back (subst NoZero is non)
+
+pub NoZero-behind : (whole front back : List ℕ) → whole ≡ front ++ back → NoZero whole → NoZero back
+NoZero-behind whole front back is non = NoZero-right front back (subst NoZero is non)
 
 pub NoZero-append : (xs ys : List ℕ) → NoZero xs → NoZero ys → NoZero (xs ++ ys)
 NoZero-append [] ys none more = more
@@ -204,31 +209,6 @@ no_zero_code before code none front _ _ (none_zero ys non size) same =
     let e = same_ends before (front ++ ys) code 255 (same ∙ sym (append_assoc front ys (255 ∷ []))) in
     absurd (omega (arith, e.1))
 
-zero_in_last : (before front last bytes : List ℕ) (code stored : ℕ) → EndsInZero before stored → IsBlock last bytes → before ++ code ∷ [] ≡ front ++ last → length last ≡ suc stored → ⊥
-zero_in_last before front last bytes code stored z is same size =
-    let whole : length front + length last ≡ suc (length before) = omega (arith, ap length same, length-append before (code ∷ []), length-append front last) in
-    let k = z.place - length front in
-    let place : length front + k ≡ z.place = omega (arith, size, whole, z.late) in
-    let here : get_or last k 0 ≡ 0 = sym (get_or-append-add front last k 0) ∙ ap (λ (n : ℕ). get_or (front ++ last) n 0) place
-    ∙ ap (λ (l : List ℕ). get_or l z.place 0) (sym same) ∙ get_or_append_left before (code ∷ []) 0 z.place z.within ∙ z.zero in
-    NoZero-block last bytes is k 0 (omega (arith, size, whole, place, z.within)) here
-
-pub zero_few : (before : List ℕ) (code stored : ℕ) → code < 128 → stored ≡ clear_bits 7 code → EndsInZero before stored → EndsInNoBlock (before ++ code ∷ [])
-zero_few before code stored small count z front last bytes is same =
-    zero_in_last before front last bytes code stored z is same (few_size before code small front last bytes is same ∙ ap suc (sym count))
-
-pub zero_behind : (before front kept : List ℕ) (stored k : ℕ) → before ≡ front ++ kept → length kept ≡ stored → k < length kept → get_or kept k 0 ≡ 0 → EndsInZero before stored
-zero_behind before front kept stored k is size within none = record {
-  place = length front + k;
-  late = omega (arith, ap length is, length-append front kept);
-  within = omega (arith, ap length is, length-append front kept);
-  zero = ap (λ (l : List ℕ). get_or l (length front + k) 0) is ∙ get_or-append-add front kept k 0 ∙ none;
-}
-
--- the last bytes, where all but so many are cut off
-pub kept_size : (xs back : List ℕ) (n stored : ℕ) → back ≡ drop n xs → n ≡ length xs - stored → stored ≤ length xs → length back ≡ stored
-kept_size xs back n stored is e small = ap length is ∙ length-drop n xs ∙ (let k : length xs - n ≡ stored = omega arith in k)
-
 pub reads_few : (before front kept seven out after : List ℕ) (code at : ℕ) → before ≡ front ++ kept → nonzero seven ≡ kept → zero_bits seven ≡ code → length seven ≡ 7
     → 0 < code → 7 ≤ at → drop (at - 7) after ≡ seven ++ drop at out → ReadsLast (before ++ code ∷ []) out at front after (at - 7)
 reads_few before front kept seven out after code at is stored mask all some room put = record {
@@ -242,45 +222,31 @@ reads_few before front kept seven out after code at is stored mask all some room
   within = omega arith;
 }
 
-pub reads_zero_after : (before out front after : List ℕ) (code stored at begin : ℕ) → 128 ≤ code → code < 255 → stored ≡ code - 121 → 0 < at → at ≤ length out
+pub reads_zero_after : (before out front after : List ℕ) (code stored at begin : ℕ) → NoZero before → 128 ≤ code → code < 255 → stored ≡ code - 121 → 0 < at → at ≤ length out
     → ReadsRun before stored (set out (at - 1) 0) (at - 1) front after begin → ReadsLast (before ++ code ∷ []) out at front after begin
-reads_zero_after before out front after code stored at begin large small is some within run =
+reads_zero_after before out front after code stored at begin non large small is some within run =
     let mark : code ≡ length run.kept + 121 = omega (arith, run.size) in
     let left : drop (at - 1) (set out (at - 1) 0) ≡ 0 ∷ drop at out = drop-set out (at - 1) 0 (omega arith) ∙ ap (λ (n : ℕ). 0 ∷ drop n out) (let e : at - 1 + 1 ≡ at = omega arith in e) in
     record {
       last = second_form run.kept;
       bytes = run.kept ++ 0 ∷ [];
-      is = zero_after run.kept run.non (omega (arith, run.size)) (omega (arith, run.size));
+      is = zero_after run.kept (NoZero-behind before front run.kept run.before_is non) (omega (arith, run.size)) (omega (arith, run.size));
       code_is = ap (λ (l : List ℕ). l ++ code ∷ []) run.before_is ∙ append_assoc front run.kept (code ∷ []) ∙ ap (λ (n : ℕ). front ++ (run.kept ++ n ∷ [])) mark;
       put = run.put ∙ ap (λ (l : List ℕ). run.kept ++ l) left ∙ sym (append_assoc run.kept (0 ∷ []) (drop at out));
       room = omega (arith, run.place, run.size, length-append run.kept ((length run.kept + 121) ∷ []));
       within = omega (arith, run.place);
     }
 
-pub reads_none_zero : (before out front after : List ℕ) (at begin : ℕ) → ReadsRun before 134 out at front after begin → ReadsLast (before ++ 255 ∷ []) out at front after begin
-reads_none_zero before out front after at begin run = record {
+pub reads_none_zero : (before out front after : List ℕ) (at begin : ℕ) → NoZero before → ReadsRun before 134 out at front after begin → ReadsLast (before ++ 255 ∷ []) out at front after begin
+reads_none_zero before out front after at begin non run = record {
   last = third_form run.kept;
   bytes = run.kept;
-  is = none_zero run.kept run.non run.size;
+  is = none_zero run.kept (NoZero-behind before front run.kept run.before_is non) run.size;
   code_is = ap (λ (l : List ℕ). l ++ 255 ∷ []) run.before_is ∙ append_assoc front run.kept (255 ∷ []);
   put = run.put;
   room = omega (arith, run.place, run.size, length-append run.kept (255 ∷ []));
   within = omega (arith, run.place);
 }
-
--- a run of the second or the third form, or a zero in it
-
-pub run_zero_after : (before out after : List ℕ) (code stored at : ℕ) → 128 ≤ code → code < 255 → stored ≡ code - 121 → 0 < at → at ≤ length out
-    → (r : Option (Bor (List ℕ) × ℕ)) → MatchOption r (EndsInZero before stored) (λ p. ReadsRun before stored (set out (at - 1) 0) (at - 1) p.0.now after p.1)
-    → MatchOption r (EndsInNoBlock (before ++ code ∷ [])) (λ p. ReadsLast (before ++ code ∷ []) out at p.0.now after p.1)
-run_zero_after before out after code stored at large small is some within None z =
-    λ front last bytes b same. zero_in_last before front last bytes code stored z b same (zero_after_size before code large small front last bytes b same ∙ ap suc (sym is))
-run_zero_after before out after code stored at large small is some within (Some p) run = reads_zero_after before out p.0.now after code stored at p.1 large small is some within run
-
-pub run_none_zero : (before out after : List ℕ) (at : ℕ) (r : Option (Bor (List ℕ) × ℕ)) → MatchOption r (EndsInZero before 134) (λ p. ReadsRun before 134 out at p.0.now after p.1)
-    → MatchOption r (EndsInNoBlock (before ++ 255 ∷ [])) (λ p. ReadsLast (before ++ 255 ∷ []) out at p.0.now after p.1)
-run_none_zero before out after at None z = λ front last bytes b same. zero_in_last before front last bytes 255 134 z b same (none_zero_size before front last bytes b same)
-run_none_zero before out after at (Some p) run = reads_none_zero before out p.0.now after at p.1 run
 
 -- the whole code
 

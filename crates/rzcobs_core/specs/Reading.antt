@@ -1,5 +1,5 @@
 -- What the parts of the decoder do, which reads a code from its end.
-use Rattle.std.specs.Prelude.{◌≡◌, ◌≢◌, ◌+◌, ◌*◌, ◌/◌, ◌%◌, ◌<◌, ◌≤◌, ◌==◌, ℕ, zero, suc, List, ◌++◌, length, drop, All, slice_index, if◌then◌else◌}
+use Rattle.std.specs.Prelude.{◌≡◌, ◌+◌, ◌*◌, ◌/◌, ◌%◌, ◌≤◌, ◌==◌, ℕ, zero, suc, List, ◌++◌, length, drop, if◌then◌else◌}
 use Rattle.rzcobs_core.specs.Blocks.{IsBlock}
 
 -- how many of the lowest n bits are clear
@@ -7,18 +7,10 @@ unfoldable pub clear_bits : ℕ → ℕ → ℕ
 clear_bits zero code = 0
 clear_bits (suc n) code = (if code % 2 == 1 then 0 else 1) + clear_bits n (code / 2)
 
--- one of the last bytes of a list is zero
-pub record EndsInZero (before : List ℕ) (stored : ℕ) : Type 0 where
-  pub place : ℕ
-  pub late : length before ≤ place + stored
-  pub within : place < length before
-  pub zero : slice_index before place ≡ 0
-
--- The last bytes of a list, none of which is zero, were put in front of what stood at the buffer's end.
+-- The last bytes of a list were put in front of what stood at the buffer's end.
 pub record ReadsRun (before : List ℕ) (stored : ℕ) (out : List ℕ) (at : ℕ) (front after : List ℕ) (begin : ℕ) : Type 0 where
   pub kept : List ℕ
   pub size : length kept ≡ stored
-  pub non : All (λ b. b ≢ 0) kept
   pub before_is : before ≡ front ++ kept
   pub put : drop begin after ≡ kept ++ drop at out
   pub place : begin + stored ≡ at

@@ -1,7 +1,7 @@
 //! A piece read as a code, from its end.
 ghost use Rattle.std.specs.Prelude.{◌≡◌, ◌≢◌, ◌+◌, ◌*◌, ◌-◌, ◌<◌, ◌≤◌, ℕ, length, take, drop, All, IfOk, IsErr, MatchOption, MatchBool, slice_index, ◌++◌, ◌∷◌, []};
 ghost use Rattle.rzcobs_core.specs.Blocks.{Blocks, IsNoCode, zero_bits, nonzero};
-ghost use Rattle.rzcobs_core.specs.Reading.{clear_bits, ReadsRun, ReadsLast, EndsInNoBlock, EndsInZero};
+ghost use Rattle.rzcobs_core.specs.Reading.{clear_bits, ReadsRun, ReadsLast, EndsInNoBlock};
 
 use memchr::memchr;
 
@@ -35,6 +35,21 @@ pub fn decode_to_end(piece: &[u8], out: &mut [u8]) -> Result<usize, Malformed>
         (λ begin. (begin ≤ length out.new) × Blocks piece.now (drop begin out.new)) }
     ensures malformed { IsErr result → IsNoCode piece.now }
 {
+    if has_zero(piece) {
+        return Err(Malformed);
+    }
+    decode_zeroless_to_end(piece, out)
+}
+
+/// The same of a piece without a zero, as it stands between two zeros of a stream.
+#[inline(never)]
+pub fn decode_zeroless_to_end(piece: &[u8], out: &mut [u8]) -> Result<usize, Malformed>
+    requires room { 7 * length piece.now ≤ length out.old }
+    requires non { All (λ b. b ≢ 0) piece.now }
+    ensures found { IfOk result
+        (λ begin. (begin ≤ length out.new) × Blocks piece.now (drop begin out.new)) }
+    ensures malformed { IsErr result → IsNoCode piece.now }
+{
     let mut rest = piece;
     let mut at = out.len();
     'blocks: while !rest.is_empty() {
@@ -64,6 +79,7 @@ fn has_zero(bytes: &[u8]) -> bool
 // Reads the last block, and puts what it stands for in front of the place. None where no block
 // stands at the end.
 fn read_last<'a>(piece: &'a [u8], out: &mut [u8], at: usize) -> Option<(&'a [u8], usize)>
+    requires non { All (λ b. b ≢ 0) piece.now }
     requires within { at ≤ length out.old }
     requires room { 7 * length piece.now ≤ at }
     ensures { MatchOption result (EndsInNoBlock piece.now)
@@ -82,6 +98,7 @@ fn read_last<'a>(piece: &'a [u8], out: &mut [u8], at: usize) -> Option<(&'a [u8]
 
 // Reads a last block of the first form.
 fn read_few<'a>(before: &'a [u8], code: u8, out: &mut [u8], at: usize) -> Option<(&'a [u8], usize)>
+    requires non { All (λ b. b ≢ 0) before.now }
     requires small { code < 128 }
     requires within { at ≤ length out.old }
     requires room { 7 ≤ at }
@@ -96,11 +113,8 @@ fn read_few<'a>(before: &'a [u8], code: u8, out: &mut [u8], at: usize) -> Option
         return None;
     }
     let (front, kept) = before.split_at(before.len() - stored);
-    if put_seven(code, kept, &mut out[at - 7..at]) {
-        Some((front, at - 7))
-    } else {
-        None
-    }
+    put_seven(code, kept, &mut out[at - 7..at]);
+    Some((front, at - 7))
 }
 
 // Reads a last block of the second form.
@@ -110,6 +124,7 @@ fn read_zero_after<'a>(
     out: &mut [u8],
     at: usize,
 ) -> Option<(&'a [u8], usize)>
+    requires non { All (λ b. b ≢ 0) before.now }
     requires large { 128 ≤ code }
     requires small { code < 255 }
     requires within { at ≤ length out.old }
@@ -122,11 +137,12 @@ fn read_zero_after<'a>(
         return None;
     }
     out[at - 1] = 0;
-    read_run(before, stored, out, at - 1)
+    Some(read_run(before, stored, out, at - 1))
 }
 
 // Reads a last block of the third form.
 fn read_none_zero<'a>(before: &'a [u8], out: &mut [u8], at: usize) -> Option<(&'a [u8], usize)>
+    requires non { All (λ b. b ≢ 0) before.now }
     requires within { at ≤ length out.old }
     requires room { 7 * length before.now + 7 ≤ at }
     ensures { MatchOption result (EndsInNoBlock (before.now ++ 255 ∷ []))
@@ -135,28 +151,21 @@ fn read_none_zero<'a>(before: &'a [u8], out: &mut [u8], at: usize) -> Option<(&'
     if before.len() < 134 {
         return None;
     }
-    read_run(before, 134, out, at)
+    Some(read_run(before, 134, out, at))
 }
 
-// Puts the last bytes in front of the place. None where one of them is zero.
-fn read_run<'a>(
-    before: &'a [u8],
-    stored: usize,
-    out: &mut [u8],
-    at: usize,
-) -> Option<(&'a [u8], usize)>
+// Puts the last bytes in front of the place. It stands apart, so that what reads short blocks has none of the copying's registers.
+#[inline(never)]
+fn read_run<'a>(before: &'a [u8], stored: usize, out: &mut [u8], at: usize) -> (&'a [u8], usize)
+    requires non { All (λ b. b ≢ 0) before.now }
     requires stored { stored ≤ length before.now }
     requires within { at ≤ length out.old }
     requires room { stored ≤ at }
-    ensures { MatchOption result (EndsInZero before.now stored)
-        (λ r. ReadsRun before.now stored out.old at r.0.now out.new r.1) }
+    ensures { ReadsRun before.now stored out.old at result.0.now out.new result.1 }
 {
     let (front, kept) = before.split_at(before.len() - stored);
-    if has_zero(kept) {
-        return None;
-    }
     out[at - stored..at].copy_from_slice(kept);
-    Some((front, at - stored))
+    (front, at - stored)
 }
 
 // How many bytes a block of the first form stores: one for each clear bit.
@@ -169,15 +178,14 @@ fn stored_of(code: u8) -> usize
     7 - code.count_ones() as usize
 }
 
-// Puts seven bytes: a zero for each set bit, and the stored bytes in their order. Answers whether none of
-// these is zero.
-fn put_seven(code: u8, stored: &[u8], seven: &mut [u8]) -> bool
+// Puts seven bytes: a zero for each set bit, and the stored bytes, of which none is zero, in their order.
+fn put_seven(code: u8, stored: &[u8], seven: &mut [u8])
+    requires non { All (λ b. b ≢ 0) stored.now }
     requires small { code < 128 }
     requires count { length stored.now ≡ clear_bits 7 code }
     requires seven { length seven.old ≡ 7 }
-    ensures { MatchBool result
-        ((zero_bits seven.new ≡ code) × (nonzero seven.new ≡ stored.now))
-        ((k : ℕ) × (k < length stored.now) × (slice_index stored.now k ≡ 0)) }
+    ensures mask { zero_bits seven.new ≡ code }
+    ensures done { nonzero seven.new ≡ stored.now }
 {
     let mut bits = code;
     let mut taken = 0usize;
@@ -185,16 +193,11 @@ fn put_seven(code: u8, stored: &[u8], seven: &mut [u8]) -> bool
         if bits % 2 == 1 {
             seven[i] = 0;
         } else {
-            let byte = stored[taken];
-            if byte == 0 {
-                return false;
-            }
-            seven[i] = byte;
+            seven[i] = stored[taken];
             taken += 1;
         }
         bits /= 2;
     }
-    true
 }
 
 // Moves what stands from the place `at` on to the front.
