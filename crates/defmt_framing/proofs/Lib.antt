@@ -6,3 +6,4 @@ pub mod FrameCodes
 pub mod Decides
 pub mod Agree
 pub mod InFrames
+mod Whole

@@ -14,3 +14,7 @@ pub record IsWhole (framer : Framing) (bytes : List ℕ) (start size : ℕ) : Ty
   pub short : size ≤ 65536
   pub within : start + size < length bytes
   pub zero : slice_index (drop start bytes) size ≡ 0
+
+-- there is no such piece
+abbrev pub HasNoWhole : Framing → List ℕ → Type 0
+HasNoWhole framer bytes = (start size : ℕ) → IsWhole framer bytes start size → ⊥

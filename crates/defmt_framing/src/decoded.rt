@@ -1,9 +1,10 @@
 //! What a piece stands for.
-ghost use Rattle.std.specs.Prelude.{◌≡◌, ◌≤◌, ◌*◌, List, ℕ, Some, None, length, take, drop, option_map, IfSome};
+ghost use Rattle.std.specs.Prelude.{◌≡◌, ◌≤◌, ◌*◌, List, ℕ, Some, None, false, length, take, drop, option_map, IfSome};
 ghost use Rattle.rzcobs_core.specs.Blocks.{Blocks, IsNoCode};
+ghost use Rattle.defmt_framing.specs.Cut.{has_zero};
 ghost use Rattle.defmt_framing.specs.Decoded.{decoded};
 
-use rzcobs_core::{Malformed, decode, decode_to_end};
+use rzcobs_core::{Malformed, decode, decode_to_end, decode_zeroless_to_end};
 
 /// What a piece stands for as a function of it, and as a sequence of blocks, agree.
 pub fn decoded_is()
@@ -39,6 +40,19 @@ pub fn decode_piece_to_end(piece: &[u8], out: &mut [u8]) -> Option<usize>
     ensures within { IfSome result (λ begin. begin ≤ length out.new) }
 {
     match decode_to_end(piece, out) {
+        Ok(begin) => Some(begin),
+        Err(Malformed) => None,
+    }
+}
+
+/// The same of a piece without a zero, as it stands between two zeros of a stream.
+pub fn decode_zeroless_piece(piece: &[u8], out: &mut [u8]) -> Option<usize>
+    requires room { 7 * length piece.now ≤ length out.old }
+    requires none { has_zero piece.now ≡ false }
+    ensures decoded { decoded piece.now ≡ option_map (λ begin. drop begin out.new) result }
+    ensures within { IfSome result (λ begin. begin ≤ length out.new) }
+{
+    match decode_zeroless_to_end(piece, out) {
         Ok(begin) => Some(begin),
         Err(Malformed) => None,
     }

@@ -1,5 +1,5 @@
 //! A stream that is fed in parts, cut at its zeros.
-ghost use Rattle.std.specs.Prelude.{◌≡◌, ◌≢◌, ◌+◌, ◌-◌, ◌^◌, ◌≤◌, ◌<◌, ◌++◌, ◌∷◌, [], List, ℕ, length, take, drop, replicate, IfOk, IfSome, OnOk, OnErr, option_to_list, slice_index, true, false};
+ghost use Rattle.std.specs.Prelude.{◌≡◌, ◌≢◌, ◌+◌, ◌-◌, ◌^◌, ◌≤◌, ◌<◌, ◌++◌, ◌∷◌, [], List, ℕ, length, take, drop, replicate, IfOk, MatchOption, OnOk, OnErr, option_to_list, slice_index, true, false};
 ghost use Rattle.defmt_framing.specs.Cut.{has_zero};
 ghost use Rattle.defmt_framing.specs.Told.{Tells, events, begun, of_piece};
 
@@ -34,7 +34,7 @@ impl Model for Framer {
 
 impl Framer {
     ghost use Rattle.defmt_framing.specs.Framing.{Stands, Hears, GoesOn};
-    ghost use Rattle.defmt_framing.specs.Wholes.{IsWhole};
+    ghost use Rattle.defmt_framing.specs.Wholes.{HasNoWhole, IsWhole};
 
     /// A framer that has heard nothing. Takes no memory.
     pub fn new(alloc: Global) -> Self
@@ -86,9 +86,10 @@ impl Framer {
     }
 
     /// Where the next piece stands in the bytes and how long it is, where nothing was heard of it yet, and the bytes have it
-    /// whole, with the zero behind it, and it has at most 65,536 bytes. Takes no memory.
+    /// whole, with the zero behind it, and it has at most 65,536 bytes; else `None`. Takes no memory.
     pub fn whole_piece(&self, bytes: &[u8]) -> Option<(usize, usize)>
-        ensures { IfSome result (λ piece. IsWhole self.now bytes.now piece.0 piece.1) }
+        ensures { MatchOption result (HasNoWhole self.now bytes.now)
+            (λ piece. IsWhole self.now bytes.now piece.0 piece.1) }
     {
         if self.since != 0 || !self.kept.is_empty() {
             return None;
