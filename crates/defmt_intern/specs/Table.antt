@@ -1,5 +1,6 @@
 -- The entries of a table: a finite map from indexes to entries (defmt book, "Interning": the table of format strings and their indexes).
-use Rattle.std.specs.Prelude.{◌≡◌, ◌≤◌, ◌<◌, ◌+◌, ◌^◌, ◌⊎◌, ℕ, List, [], ◌∷◌, length, Option, Some, None, IsSome, Result, Ok, Err}
+use Rattle.std.specs.Prelude.{◌≡◌, ◌≤◌, ◌<◌, ◌+◌, ◌^◌, ◌⊎◌, ℕ, List, [], ◌∷◌, length, map as map_list, Box, Option, Some, None, IsSome, Result, Ok, Err}
+use Rattle.std.specs.declared.alloc.Global.{Global}
 use Rattle.std.specs.Ordering.{nat_cmp}
 use Rattle.std.specs.FinMap as map
 use Rattle.defmt_intern.specs.declared.entry.Entry.{Entry}
@@ -14,14 +15,26 @@ use Rattle.std.specs.Prelude.{⊤}
 abbrev pub Map : Type 0
 Map = map.FinMap nat_cmp Entry
 
--- the indexes and entries of what is kept
-abbrev pub pairs : List (ℕ × Kept) → List (ℕ × Entry)
-pairs [] = []
-pairs (p ∷ ps) = (p.0, p.1.entry) ∷ pairs ps
+-- a place for what is kept at one index
+abbrev pub Slot : Type 0
+Slot = Option (Box Kept Global)
 
--- the map of what is kept
-abbrev pub map_of : List (ℕ × Kept) → Map
-map_of kept = map.from_entries (pairs kept)
+abbrev pub entry_in : Slot → Option Entry
+entry_in None = None
+entry_in (Some kept) = Some kept.value.entry
+
+abbrev pub entries_in : List Slot → List (Option Entry)
+entries_in slots = map_list entry_in slots
+
+-- the entries that are there, where the first place is that of this index
+abbrev pub listed : ℕ → List (Option Entry) → List (ℕ × Entry)
+listed index [] = []
+listed index (None ∷ rest) = listed (index + 1) rest
+listed index (Some entry ∷ rest) = (index, entry) ∷ listed (index + 1) rest
+
+-- the map of what is kept in the slots of the indexes from 0 on
+abbrev pub map_of : List Slot → Map
+map_of slots = map.from_entries (listed 0 (entries_in slots))
 
 abbrev pub cause_number : Cause → ℕ
 cause_number causes.Full = 1
@@ -50,6 +63,12 @@ StampIs table (Some i) = IsStamp table i
 pub record IsKept (table : Map) (stamp : Option ℕ) : Type 0 where
   pub lawful : IsLawful table
   pub stamp_is : StampIs table stamp
+
+-- what holds of the slots of a table, of the count of its entries and of its timestamp's index
+pub record IsWhole (slots : List Slot) (count : ℕ) (stamp : Option ℕ) : Type 0 where
+  pub kept : IsKept (map_of slots) stamp
+  pub counted : count ≡ map.len (map_of slots)
+  pub few : length slots ≤ 65536
 
 abbrev pub IsGreatest : Map → ℕ → Type 0
 IsGreatest table i = IsSome (map.get table i) × ((j : ℕ) → IsSome (map.get table j) → j ≤ i)

@@ -8,14 +8,12 @@ ghost use Rattle.defmt_intern.specs.Stamp.{stamp_of};
 ghost use Rattle.defmt_intern.specs.Table.{IsLawful, IsGreatest, IsNext, InsertRefused, AddRefused, EntryRefused, Puts, PutsUnlessMemory, Adds, RefusesOnly, cause_number};
 
 use crate::entry::Entry;
-use crate::keeping::{keep, keep_copy, kept_of};
+use crate::keeping::{copy_slots, keep, kept_at, kept_of, last_kept};
 use crate::kept::Kept;
 use crate::parsed::Parsed;
 use crate::table::TableFault;
 use dl_io::Memory;
 use std::alloc::Global;
-use std::collections::BTreeMap;
-use std::collections::btree_map::Iter;
 use std::marker::Model;
 
 // The most bytes of a text.
@@ -47,7 +45,10 @@ impl Cause {
 #[derive(Drop)]
 pub(crate) struct EntryMap {
     alloc: Global,
-    entries: BTreeMap<u16, Kept>,
+    // What is kept at each index from 0 on.
+    slots: Vec<Option<Box<Kept>>>,
+    // How many entries there are.
+    count: u32,
     stamp: Option<u16>,
 }
 
@@ -55,15 +56,15 @@ impl Model for EntryMap {
     ghost use Rattle.std.specs.FinMap as map;
     ghost use Rattle.std.specs.Coded.{coded_ℕ};
     ghost use Rattle.defmt_intern.specs.contracts.entry.Entry.{the_row as entry_row};
-    ghost use Rattle.defmt_intern.specs.Table.{Map, IsKept, map_of};
+    ghost use Rattle.defmt_intern.specs.Table.{Map, IsWhole, map_of};
 
     ghost Value = { Map };
 
     ghost coded = { map.code coded_ℕ entry_row.coded };
 
-    ghost view = { λ t. map_of t.entries.entries };
+    ghost view = { λ t. map_of t.slots.items };
 
-    ghost invariant = { λ t. IsKept (map_of t.entries.entries) t.stamp };
+    ghost invariant = { λ t. IsWhole t.slots.items t.count t.stamp };
 }
 
 impl EntryMap {
@@ -73,7 +74,8 @@ impl EntryMap {
     {
         EntryMap {
             alloc,
-            entries: BTreeMap::new(alloc),
+            slots: Vec::new(alloc),
+            count: 0,
             stamp: None,
         }
     }
@@ -82,14 +84,21 @@ impl EntryMap {
     pub fn lawful(&self)
         ensures { IsLawful self.now }
     {
-        let _ = &self.entries;
+        let _ = &self.slots;
+    }
+
+    // What is kept at an index.
+    fn kept(&self, index: u16) -> Option<&Kept>
+        ensures { option_map (λ kept. kept.now.entry) result ≡ map.get self.now index }
+    {
+        kept_at(self.slots.as_slice(), index)
     }
 
     /// The entry at an index. Takes no memory.
     pub fn get(&self, index: u16) -> Option<&Entry>
         ensures { option_copied result ≡ map.get self.now index }
     {
-        match self.entries.get(&index) {
+        match self.kept(index) {
             Some(kept) => Some(&kept.entry),
             None => None,
         }
@@ -99,7 +108,7 @@ impl EntryMap {
     pub fn parsed(&self, index: u16) -> Option<&Parsed>
         ensures { option_copied result ≡ option_map body_of (map.get self.now index) }
     {
-        match self.entries.get(&index) {
+        match self.kept(index) {
             Some(kept) => Some(&kept.parsed),
             None => None,
         }
@@ -110,14 +119,7 @@ impl EntryMap {
         ensures { MatchOption result (map.get self.now index ≡ None)
             (λ p. (map.get self.now index ≡ Some p.0.now) × (p.1.now ≡ body_of p.0.now)) }
     {
-        // The entry at the greatest index is found without a search: that is where a script's timestamp stands, which
-        // each statement asks for.
-        if let Some((last, kept)) = self.entries.last_key_value()
-            && *last == index
-        {
-            return Some((&kept.entry, &kept.parsed));
-        }
-        match self.entries.get(&index) {
+        match self.kept(index) {
             Some(kept) => Some((&kept.entry, &kept.parsed)),
             None => None,
         }
@@ -135,7 +137,7 @@ impl EntryMap {
         ensures value { result ≡ map.len self.now }
         ensures few { result ≤ 65536 }
     {
-        self.entries.len() as u32
+        self.count
     }
 
     /// The entries in the order of their indexes. Takes no memory.
@@ -143,7 +145,8 @@ impl EntryMap {
         ensures { result ≡ map.entries self.now }
     {
         Entries {
-            left: self.entries.iter(),
+            slots: self.slots.as_slice(),
+            index: 0,
         }
     }
 
@@ -168,7 +171,8 @@ impl EntryMap {
     {
         let is_stamp = entry.is_stamp();
         let kept = kept_of(self.alloc, entry)?;
-        keep(&mut self.entries, index, kept)?;
+        keep(self.alloc, &mut self.slots, index, kept)?;
+        self.count += 1;
         if is_stamp {
             self.stamp = Some(index);
         }
@@ -203,9 +207,9 @@ impl EntryMap {
             (λ n. IsNext self.now n × (IsSome (map.get self.now n) → ⊥)
             × (IsGreatest self.now 65535 → ⊥)) }
     {
-        match self.entries.last_key_value() {
+        match last_kept(self.slots.as_slice()) {
             None => Some(1),
-            Some((greatest, _)) => greatest.checked_add(1),
+            Some(greatest) => greatest.checked_add(1),
         }
     }
 
@@ -235,13 +239,10 @@ impl EntryMap {
     pub fn copy(&self) -> Result<EntryMap, Memory>
         ensures { IfOk result (λ copy. copy ≡ self.now) }
     {
-        let mut entries = BTreeMap::new(self.alloc);
-        for (index, kept) in self.entries.iter() {
-            keep_copy(self.alloc, &mut entries, *index, &kept.entry)?;
-        }
         Ok(EntryMap {
             alloc: self.alloc,
-            entries,
+            slots: copy_slots(self.alloc, self.slots.as_slice())?,
+            count: self.count,
             stamp: self.stamp,
         })
     }
@@ -250,17 +251,21 @@ impl EntryMap {
 /// The entries of a table that are still to come, in the order of their indexes.
 #[derive(Drop)]
 pub struct Entries<'a> {
-    left: Iter<'a, u16, Kept>,
+    slots: &'a [Option<Box<Kept>>],
+    // The index of the first of these slots.
+    index: u32,
 }
 
 impl<'a> Model for Entries<'a> {
-    ghost use Rattle.std.specs.Prelude.{ℕ, List};
+    ghost use Rattle.std.specs.Prelude.{◌+◌, ◌≤◌, ℕ, List, length};
     ghost use Rattle.defmt_intern.specs.declared.entry.Entry.{Entry as AnyEntry};
-    ghost use Rattle.defmt_intern.specs.Table.{pairs};
+    ghost use Rattle.defmt_intern.specs.Table.{entries_in, listed};
 
     ghost Value = { List (ℕ × AnyEntry) };
 
-    ghost view = { λ e. pairs e.left };
+    ghost view = { λ e. listed e.index (entries_in e.slots.now) };
+
+    ghost invariant = { λ e. e.index + length e.slots.now ≤ 65536 };
 }
 
 impl<'a> Iterator for Entries<'a> {
@@ -273,7 +278,14 @@ impl<'a> Iterator for Entries<'a> {
     ghost remaining = { item_count (λ s. s) };
 
     fn next(&mut self) -> Option<(u16, &'a Entry)> {
-        let (index, kept) = self.left.next()?;
-        Some((*index, &kept.entry))
+        'each: while let Some((slot, rest)) = self.slots.split_first() {
+            let index = self.index;
+            self.slots = rest;
+            self.index += 1;
+            if let Some(kept) = slot {
+                return Some((index as u16, &kept.entry));
+            }
+        }
+        None
     }
 }

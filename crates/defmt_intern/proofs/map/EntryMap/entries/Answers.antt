@@ -1,7 +1,9 @@
-use Rattle.std.proofs.Common.{◌∙◌, ap}
-use Rattle.defmt_intern.specs.Table.{pairs}
-use Rattle.defmt_intern.proofs.TableLaws.{listed}
+use Rattle.std.proofs.Common.{arith, ap, length}
+use Rattle.defmt_intern.proofs.Slots.{entries_are}
 use Rattle.defmt_intern.proofs.map.EntryMap.entries.Goals as goal
 
+pub invariant_of-result : goal.invariant_of-result
+invariant_of-result c = omega (arith, ap length c.as_slice.ensures.value, c.self.invariant.few)
+
 pub returns : goal.returns
-returns c = ap pairs c.iter.ensures.rest ∙ listed c.self.inside.entries.entries c.args.self.now c.self.view_is c.iter.ensures.ordered
+returns c = entries_are c.self.inside.slots.items c.as_slice.result.now c.args.self.now c.self.view_is c.as_slice.ensures.value

@@ -1,12 +1,11 @@
-use Rattle.std.proofs.Common.{◌∙◌, arith}
-use Rattle.defmt_intern.proofs.TableLaws.{len_is, few_entries}
+use Rattle.std.proofs.Common.{◌∙◌, ap, arith}
+use Rattle.std.specs.FinMap as map
+use Rattle.defmt_intern.specs.Table.{Map}
+use Rattle.defmt_intern.proofs.Slots.{few_kept}
 use Rattle.defmt_intern.proofs.map.EntryMap.len.Goals as goal
 
-pub overflow_cast-result : goal.overflow_cast-result
-overflow_cast-result c = omega (arith, c.len.ensures.len, few_entries c.self.inside.entries.entries (λ i e h. c.self.invariant.lawful.small i e h) c.len.ensures.ordered)
-
 pub returns-clause-value : goal.returns-clause-value
-returns-clause-value c = c.len.ensures.len ∙ len_is c.self.inside.entries.entries c.args.self.now c.self.view_is c.len.ensures.ordered
+returns-clause-value c = c.self.invariant.counted ∙ ap (λ (t : Map). map.len t) c.self.view_is
 
 pub returns-clause-few : goal.returns-clause-few
-returns-clause-few c = omega (arith, c.len.ensures.len, few_entries c.self.inside.entries.entries (λ i e h. c.self.invariant.lawful.small i e h) c.len.ensures.ordered)
+returns-clause-few c = omega (arith, c.self.invariant.counted, few_kept c.self.inside.slots.items c.self.invariant.few)

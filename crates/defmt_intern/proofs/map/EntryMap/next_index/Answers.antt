@@ -1,12 +1,17 @@
-use Rattle.std.proofs.Common.{subst}
+use Rattle.std.proofs.Common.{◌∙◌, ap, sym, subst}
+use Rattle.defmt_intern.specs.Table.{Map, IsLawful, IsGreatest, map_of}
 use Rattle.defmt_intern.proofs.TableLaws.{next_none, next_some}
-use Rattle.defmt_intern.specs.Table.{IsLawful}
 use Rattle.defmt_intern.proofs.map.EntryMap.next_index.Goals as goal
 
+pub last_kept-requires : goal.last_kept-requires
+last_kept-requires c = rw c.as_slice.ensures.value c.self.invariant.few
+
 pub returns-in-None : goal.returns-in-None
-returns-in-None c = next_none c.self.inside.entries.entries c.args.self.now c.self.view_is (λ l. let k = c.in-None.ensures.variant.1 l in absurd cc)
+returns-in-None c = next_none c.args.self.now (sym (ap map_of c.as_slice.ensures.value ∙ c.self.view_is) ∙ c.in-None.ensures)
 
 pub returns-in-Some : goal.returns-in-Some
 returns-in-Some c =
-    let lawful : IsLawful c.args.self.now = subst IsLawful c.self.view_is c.self.invariant.lawful in
-    next_some c.self.inside.entries.entries c.args.self.now c.in-Some.greatest.now c.in-Some.field-0-1.now c.checked_add.result c.self.view_is lawful c.in-Some.ensures.value c.in-Some.ensures.greatest c.checked_add.ensures
+    let same = ap map_of c.as_slice.ensures.value ∙ c.self.view_is in
+    let lawful : IsLawful c.args.self.now = subst IsLawful c.self.view_is c.self.invariant.kept.lawful in
+    let top : IsGreatest c.args.self.now c.in-Some.greatest = subst (λ (t : Map). IsGreatest t c.in-Some.greatest) same c.in-Some.ensures in
+    next_some c.args.self.now c.in-Some.greatest c.checked_add.result top lawful c.checked_add.ensures

@@ -1,9 +1,9 @@
-use Rattle.std.proofs.Common.{Some, None}
-use Rattle.defmt_intern.proofs.TableLaws.{parsed_at}
+use Rattle.std.proofs.Common.{◌∙◌, Some, ap, option_map}
+use Rattle.defmt_intern.specs.Body.{body_of}
 use Rattle.defmt_intern.proofs.map.EntryMap.parsed.Goals as goal
 
 pub returns-in-Some : goal.returns-in-Some
-returns-in-Some c = parsed_at c.self.inside.entries.entries c.args.self.now c.args.index (Some c.in-Some.kept.now) c.self.view_is c.in-Some.ensures.value
+returns-in-Some c = ap Some c.in-Some.kept.now.is_body ∙ ap (option_map body_of) c.in-Some.ensures
 
 pub returns-in-None : goal.returns-in-None
-returns-in-None c = parsed_at c.self.inside.entries.entries c.args.self.now c.args.index None c.self.view_is c.in-None.ensures.value
+returns-in-None c = ap (option_map body_of) c.in-None.ensures
