@@ -1,5 +1,5 @@
 -- Steps on their way, and as they are made.
-use Rattle.std.proofs.Common.{◌≡◌, ◌<◌, ◌≤◌, ◌+◌, ℕ, suc, List, [], ◌∷◌, ◌++◌, length, drop, drop-cons, get_or, refl, sym, ap, subst, ◌∙◌, arith, append_assoc, Option, None}
+use Rattle.std.proofs.Common.{◌≡◌, ◌<◌, ◌≤◌, ◌+◌, ℕ, suc, List, [], ◌∷◌, ◌++◌, length, drop, drop-cons, get_or, refl, sym, ap, subst, ◌∙◌, arith, append_assoc, Option, Some, None}
 use Rattle.std.proofs.lemmas.List.{append-nil}
 use Rattle.defmt_grammar.specs.declared.piece.Piece.{Piece}
 use Rattle.defmt_intern.specs.Table.{Map}
@@ -44,6 +44,21 @@ module _ (all : List Step) (bytes : List ℕ) (from : ℕ) (old : List ℕ) (at 
       → ((t : Map) (next : ℕ) → PassesPiece q t next (piece_of next step) bytes now out new) → (t : Map) → Passes r t (pieces_of all) bytes from old at new
   running_fails rest now out new r q step h e f k t =
       passing_fails (pieces_of all) bytes from old at (pieces_from h.next rest) h.next now out new r q (piece_of h.next step) h.passing e f (λ t. k t h.next) t
+
+-- no step
+pub no_step : (ss : List Step) (bytes : List ℕ) (from : ℕ) (old : List ℕ) (at : ℕ) → from ≤ length bytes → at ≤ length old → ss ≡ [] → (t : Map) → Passed t (pieces_of ss) bytes from from old at old at
+no_step ss bytes from old at le most e t =
+    let now : Progress = record { read = from; written = at } in
+    running_all ss bytes from old at ss now old (running_none ss bytes from old at now refl refl le most) e t
+
+-- one step alone
+pub one_step : (r : Option Progress) (step : Step) (bytes : List ℕ) (from : ℕ) (old : List ℕ) (at : ℕ) (new : List ℕ) → from ≤ length bytes → at ≤ length old
+    → ((t : Map) (next : ℕ) → PassesPiece r t next (piece_of next step) bytes (record { read = from; written = at }) old new) → (t : Map) → Passes r t (pieces_of (step ∷ [])) bytes from old at new
+one_step None step bytes from old at new le most k t = k t 0
+one_step (Some after) step bytes from old at new le most k t =
+    let before : Progress = record { read = from; written = at } in
+    let start : Running (step ∷ []) (step ∷ []) bytes from before old at old = running_none (step ∷ []) bytes from old at before refl refl le most in
+    running_all (step ∷ []) bytes from old at [] after new (running_more (step ∷ []) bytes from old at step (step ∷ []) [] before after old new start refl k) refl t
 
 -- ---- the steps that are made
 

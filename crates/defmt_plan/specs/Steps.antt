@@ -1,9 +1,16 @@
 -- The pieces that the steps of a plan are.
 use Rattle.std.specs.Prelude.{◌+◌, ℕ, List, [], ◌∷◌}
+use Rattle.defmt_grammar.specs.declared.hint.Hint.{Hint}
+use Rattle.defmt_grammar.specs.declared.kind.IntSize.{IntSize}
+use Rattle.defmt_grammar.specs.declared.kind.Kind.TheVariants.{Uint}
 use Rattle.defmt_grammar.specs.declared.piece.Piece.{Piece}
 use Rattle.defmt_grammar.specs.declared.piece.Piece.TheVariants.{Literal, Param}
 use Rattle.defmt_plan.specs.declared.steps.Step.{Step}
 use Rattle.defmt_plan.specs.declared.steps.Step.TheVariants as steps
+
+-- the step of an unsigned number
+abbrev pub number_step : IntSize → Hint → Step
+number_step size hint = steps.Value (Uint size) hint
 
 -- the piece of a step: a value has the position that is next
 abbrev pub piece_of : ℕ → Step → Piece

@@ -1,13 +1,12 @@
 //! Values that hold no others, each read and written before the next.
 
-ghost use Rattle.std.specs.Prelude.{◌≡◌, ◌≤◌, length, IfSome};
-ghost use Rattle.defmt_encode.specs.Carry.{size_bytes};
+ghost use Rattle.std.specs.Prelude.{◌≤◌, length};
 ghost use Rattle.defmt_grammar.specs.declared.hint.Hint.{Hint as Shape};
 ghost use Rattle.defmt_grammar.specs.declared.kind.Kind.TheVariants as kinds;
 ghost use Rattle.defmt_intern.specs.Table.{Map};
 ghost use Rattle.defmt_plan.specs.Passed.{PassesOne};
 
-use crate::take::{take_bool, take_char, take_chunk, take_str, take_uint};
+use crate::take::{take_bool, take_char, take_chunk, take_sized, take_str, take_uint, width_of};
 use defmt_grammar::{Hint, IntSize, Kind};
 use defmt_put::{half_of, put_bool, put_bytes, put_char, put_int, put_str, put_uint};
 
@@ -18,21 +17,9 @@ pub(crate) struct Progress {
     pub written: usize,
 }
 
-// The number of bytes of an integer of up to 8.
-fn width_of(size: IntSize) -> Option<usize>
-    ensures { IfSome result (λ width. (width ≡ size_bytes size) × (width ≤ 8)) }
-{
-    match size {
-        IntSize::W8 => Some(1),
-        IntSize::W16 => Some(2),
-        IntSize::W32 | IntSize::Native => Some(4),
-        IntSize::W64 => Some(8),
-        IntSize::W128 => None,
-    }
-}
-
-// An unsigned number.
-fn pass_uint(
+/// An unsigned number.
+#[inline(always)]
+pub(crate) fn pass_uint(
     size: IntSize,
     hint: Hint,
     bytes: &[u8],
@@ -43,11 +30,10 @@ fn pass_uint(
     requires written { before.written ≤ length out.old }
     ensures { (t : Map) → PassesOne result t (kinds.Uint size) hint bytes.now before out.old out.new }
 {
-    let width = width_of(size)?;
-    let number = take_uint(bytes, before.read, width)?;
+    let number = take_sized(bytes, before.read, size)?;
     let written = put_uint(out, before.written, number, hint)?;
     Some(Progress {
-        read: before.read + width,
+        read: before.read + width_of(size),
         written,
     })
 }
@@ -92,12 +78,11 @@ fn pass_int(
     requires written { before.written ≤ length out.old }
     ensures { (t : Map) → PassesOne result t (kinds.Int size) hint bytes.now before out.old out.new }
 {
-    let width = width_of(size)?;
     let half = half_of(size)?;
-    let number = take_uint(bytes, before.read, width)?;
+    let number = take_sized(bytes, before.read, size)?;
     let written = put_int(out, before.written, number, half, hint)?;
     Some(Progress {
-        read: before.read + width,
+        read: before.read + width_of(size),
         written,
     })
 }

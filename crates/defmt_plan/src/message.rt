@@ -24,6 +24,7 @@ pub struct Told {
 }
 
 /// The front of a message in a profile.
+#[inline(always)]
 pub(crate) fn read_head(profile: Profile, bytes: &[u8]) -> Option<Head>
     ensures { IfSome result (λ head. IsHead profile bytes.now head) }
 {

@@ -107,7 +107,8 @@ fn front_of<'a>(
     tag: &Tag,
     pieces: &'a [Piece],
 ) -> Result<(Option<Text>, &'a [Piece]), Memory>
-    ensures { IfOk result (λ r. HasFront table.now.entries (level_text tag.now) pieces.now r.0 r.1.now) }
+    ensures { IfOk result (λ r. HasFront table.now.entries (level_text tag.now)
+        pieces.now r.0 r.1.now) }
 {
     let Some(level) = level_text(tag) else {
         return Ok((None, pieces));

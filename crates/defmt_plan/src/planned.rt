@@ -59,6 +59,7 @@ fn numbers_of(alloc: Global, plans: &[Plan]) -> Result<Vec<u16>, Memory> {
 }
 
 // Writes what stands between the stamp's text and the statement's, and answers where the latter begins.
+#[inline(always)]
 fn put_front(front: &Option<Text>, out: &mut [u8], stamped: usize, at: usize) -> Option<usize>
     requires { stamped ≤ length out.old }
     ensures { Fronts front.now result out.old stamped at out.new }
@@ -93,6 +94,7 @@ impl PlannedTable {
     }
 
     /// The plan of the string at an index, where it has one.
+    #[inline(always)]
     fn plan(&self, index: u16) -> Option<&Plan>
         ensures at { IfSome result (λ plan. plan.now.index ≡ index) }
         ensures is { IfSome result (λ plan. IsPlanIn self.now.entries plan.now) }
@@ -107,6 +109,7 @@ impl PlannedTable {
     }
 
     /// The stamp, where the table has one.
+    #[inline(always)]
     fn stamp(&self, bytes: &[u8], from: usize, out: &mut [u8], at: usize) -> Option<Progress>
         requires read { from ≤ length bytes.now }
         requires written { at ≤ length out.old }
@@ -125,6 +128,7 @@ impl PlannedTable {
     /// The line of a message whose plan there is, written behind a place of the buffer. Where it is answered, the message is
     /// heard, and neither its stamp's text nor its own is too wide. What stands in front of the place is as before in any case.
     /// Takes no memory.
+    #[inline(always)]
     pub fn message(&self, bytes: &[u8], out: &mut [u8], at: usize) -> Option<Told>
         requires { at ≤ length out.old }
         ensures { Tells result self.now bytes.now out.old at out.new }

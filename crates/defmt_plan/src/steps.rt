@@ -1,13 +1,13 @@
 //! The pieces of a string as steps, made once.
 
-ghost use Rattle.std.specs.Prelude.{◌≡◌, ◌≤◌, ◌+◌, ◌<◌, ℕ, length, IfSome, IfOk};
+ghost use Rattle.std.specs.Prelude.{◌≡◌, ◌≤◌, ◌+◌, ◌<◌, ◌∷◌, [], ℕ, length, IfSome, IfOk};
 ghost use Rattle.defmt_intern.specs.Table.{Map};
 ghost use Rattle.defmt_plan.specs.Passed.{PassesPiece, Passes};
-ghost use Rattle.defmt_plan.specs.Steps.{behind, piece_of, pieces_of};
+ghost use Rattle.defmt_plan.specs.Steps.{behind, number_step, piece_of, pieces_of};
 
-use crate::leaves::{Progress, pass_value};
-use defmt_grammar::{Hint, Kind, Memory, Piece, Text};
-use defmt_put::put;
+use crate::leaves::{Progress, pass_uint, pass_value};
+use defmt_grammar::{Hint, IntSize, Kind, Memory, Piece, Text};
+use defmt_put::put_text;
 use std::alloc::Global;
 
 /// A step of a plan.
@@ -73,7 +73,7 @@ fn stride(step: &Step, bytes: &[u8], before: Progress, out: &mut [u8]) -> Option
 {
     match step {
         Step::Text(text) => {
-            let written = put(out, before.written, text.as_str().as_bytes())?;
+            let written = put_text(out, before.written, text.as_str().as_bytes())?;
             Some(Progress {
                 read: before.read,
                 written,
@@ -83,9 +83,29 @@ fn stride(step: &Step, bytes: &[u8], before: Progress, out: &mut [u8]) -> Option
     }
 }
 
-/// All steps. The text of the pieces that they are stands behind the place, with arguments that the bytes carry for
-/// their slots.
-pub(crate) fn run(
+// The size and the hint of an unsigned number that is the only step.
+#[inline(always)]
+fn lone_number(steps: &[Step]) -> Option<(IntSize, Hint)>
+    ensures { IfSome result (λ number. steps.now ≡ number_step number.0 number.1 ∷ []) }
+{
+    let Some((first, rest)) = steps.split_first() else {
+        return None;
+    };
+    if !rest.is_empty() {
+        return None;
+    }
+    let Step::Value(kind, hint) = first else {
+        return None;
+    };
+    match kind {
+        Kind::Uint(size) => Some((*size, *hint)),
+        _ => None,
+    }
+}
+
+// Steps, one after another.
+#[inline(never)]
+fn run_all(
     steps: &[Step],
     bytes: &[u8],
     from: usize,
@@ -104,4 +124,31 @@ pub(crate) fn run(
         progress = stride(step, bytes, progress, out)?;
     }
     Some(progress)
+}
+
+/// All steps. The text of the pieces that they are stands behind the place, with arguments that the bytes carry for
+/// their slots. Where there is none, or a number alone, nothing is called for them.
+#[inline(always)]
+pub(crate) fn run(
+    steps: &[Step],
+    bytes: &[u8],
+    from: usize,
+    out: &mut [u8],
+    at: usize,
+) -> Option<Progress>
+    requires read { from ≤ length bytes.now }
+    requires written { at ≤ length out.old }
+    ensures { (t : Map) → Passes result t (pieces_of steps.now) bytes.now from out.old at out.new }
+{
+    let before = Progress {
+        read: from,
+        written: at,
+    };
+    if steps.is_empty() {
+        return Some(before);
+    }
+    match lone_number(steps) {
+        Some((size, hint)) => pass_uint(size, hint, bytes, before, out),
+        None => run_all(steps, bytes, from, out, at),
+    }
 }

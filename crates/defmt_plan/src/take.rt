@@ -2,16 +2,18 @@
 
 ghost use Rattle.std.specs.Prelude.{◌≡◌, ◌≤◌, ◌<◌, ◌+◌, ◌^◌, ◌∷◌, ◌++◌, [], length, IfSome};
 ghost use Rattle.byteorder.specs.Endian.{little_bytes};
-ghost use Rattle.defmt_encode.specs.Carry.{flag_byte};
+ghost use Rattle.defmt_encode.specs.Carry.{flag_byte, size_bytes};
 ghost use Rattle.defmt_plan.specs.Carried.{Carried};
 ghost use Rattle.std.specs.Char.{IsScalar};
 ghost use Rattle.std.specs.List.{AllByRecursion};
 ghost use Rattle.std.specs.Str.{IsUtf8};
 
 use byteorder::{ByteOrder, LittleEndian};
+use defmt_grammar::IntSize;
 use std::str;
 
 /// The number in the bytes behind a place, of which there are 1, 2, 4 or 8.
+#[inline(always)]
 pub(crate) fn take_uint(bytes: &[u8], at: usize, width: usize) -> Option<u64>
     requires within { at ≤ length bytes.now }
     ensures carried { IfSome result (λ n. Carried bytes.now at (at + width) (little_bytes width n)) }
@@ -27,6 +29,37 @@ pub(crate) fn take_uint(bytes: &[u8], at: usize, width: usize) -> Option<u64>
         4 => Some(u64::from(LittleEndian::read_u32(part))),
         8 => Some(LittleEndian::read_u64(part)),
         _ => None,
+    }
+}
+
+/// The number of bytes of an integer.
+#[inline(always)]
+pub(crate) fn width_of(size: IntSize) -> usize
+    ensures { result ≡ size_bytes size }
+{
+    match size {
+        IntSize::W8 => 1,
+        IntSize::W16 => 2,
+        IntSize::W32 | IntSize::Native => 4,
+        IntSize::W64 => 8,
+        IntSize::W128 => 16,
+    }
+}
+
+/// The number of a size of up to 64 bits in the bytes behind a place.
+#[inline(always)]
+pub(crate) fn take_sized(bytes: &[u8], at: usize, size: IntSize) -> Option<u64>
+    requires within { at ≤ length bytes.now }
+    ensures carried { IfSome result (λ n. Carried bytes.now at (at + size_bytes size)
+        (little_bytes (size_bytes size) n)) }
+    ensures small { IfSome result (λ n. n < 256 ^ size_bytes size) }
+{
+    match size {
+        IntSize::W8 => take_uint(bytes, at, 1),
+        IntSize::W16 => take_uint(bytes, at, 2),
+        IntSize::W32 | IntSize::Native => take_uint(bytes, at, 4),
+        IntSize::W64 => take_uint(bytes, at, 8),
+        IntSize::W128 => None,
     }
 }
 

@@ -1,15 +1,23 @@
-use Rattle.std.proofs.Common.{◌+◌, drop, drop_of_length-le}
-use Rattle.defmt_plan.proofs.Striding.{running_more, running_all, running_fails, next_step}
+use Rattle.std.proofs.Common.{List, sym, ◌∙◌, subst}
+use Rattle.std.proofs.lemmas.Bool.{eqb-true}
+use Rattle.std.proofs.lemmas.List.{nil_from_length}
+use Rattle.defmt_grammar.specs.declared.kind.Kind.TheVariants.{Uint}
+use Rattle.defmt_plan.proofs.Striding.{no_step, one_step}
+use Rattle.defmt_plan.proofs.Values.{piece_of_value}
+use Rattle.defmt_plan.specs.Passed.{Passes}
+use Rattle.defmt_plan.specs.Steps.{number_step, pieces_of}
+use Rattle.defmt_plan.specs.declared.leaves.Progress.{Progress}
+use Rattle.defmt_plan.specs.declared.steps.Step.{Step}
 use Rattle.defmt_plan.proofs.steps.run.Goals as goal
 
-pub returns-in_err-progress : goal.returns-in_err-progress
-returns-in_err-progress c = running_fails c.args.steps.now c.args.bytes.now c.args.from c.args.out.now c.args.at _ c.loop-step.progress c.loop-step.out c.stride.new.out c.from_residual.result c.stride.result c.step-item.result c.loop-step.invariant c.in_err-progress.was c.from_residual.ensures c.stride.ensures
+pub returns-then-is_empty : goal.returns-then-is_empty
+returns-then-is_empty c =
+    no_step c.args.steps.now c.args.bytes.now c.args.from c.args.out.now c.args.at c.requires.read c.requires.written
+    (nil_from_length c.args.steps.now (eqb-true _ 0 (sym c.is_empty.ensures ∙ c.if-is_empty.true)))
 
-pub loop-step-preserved : goal.loop-step-preserved
-loop-step-preserved c =
-    running_more c.args.steps.now c.args.bytes.now c.args.from c.args.out.now c.args.at c.step-item.result _ (drop (c.loop-step.step-index + 1) c.args.steps.now) c.loop-step.progress c.in_ok-progress.progress c.loop-step.out c.stride.new.out c.loop-step.invariant
-    (next_step c.args.steps.now c.loop-step.step-index c.step-item.result c.loop-step-test.true c.step-item.is)
-    c.in_ok-progress.ensures
-
-pub returns : goal.returns
-returns c = running_all c.args.steps.now c.args.bytes.now c.args.from c.args.out.now c.args.at _ c.loop-step.progress c.loop-step.out c.loop-step.invariant (drop_of_length-le c.args.steps.now c.loop-step-test.false)
+pub returns-in-Some : goal.returns-in-Some
+returns-in-Some c = λ t.
+    let before : Progress = record { read = c.args.from; written = c.args.at } in
+    subst (λ (ss : List Step). Passes c.pass_uint.result t (pieces_of ss) c.args.bytes.now c.args.from c.args.out.now c.args.at c.pass_uint.new.out) (sym c.in-Some.ensures)
+    (one_step c.pass_uint.result (number_step c.in-Some.size c.in-Some.hint) c.args.bytes.now c.args.from c.args.out.now c.args.at c.pass_uint.new.out c.requires.read c.requires.written
+    (λ t next. piece_of_value t next (Uint c.in-Some.size) c.in-Some.hint c.args.bytes.now before c.args.out.now c.pass_uint.new.out c.pass_uint.result (c.pass_uint.ensures t)) t)
