@@ -105,13 +105,7 @@ fn lone_number(steps: &[Step]) -> Option<(IntSize, Hint)>
 
 // Steps, one after another.
 #[inline(never)]
-fn run_all(
-    steps: &[Step],
-    bytes: &[u8],
-    from: usize,
-    out: &mut [u8],
-    at: usize,
-) -> Option<Progress>
+fn run_all(steps: &[Step], bytes: &[u8], from: usize, out: &mut [u8], at: usize) -> Option<Progress>
     requires read { from ≤ length bytes.now }
     requires written { at ≤ length out.old }
     ensures { (t : Map) → Passes result t (pieces_of steps.now) bytes.now from out.old at out.new }
