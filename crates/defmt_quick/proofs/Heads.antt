@@ -6,7 +6,7 @@ use Rattle.std.proofs.lemmas.Str.{IsCharBoundary-after_ascii}
 use Rattle.std.specs.Str.Parse.{AllDigits, digits_value}
 use Rattle.std.proofs.lemmas.Int.Digits.{digits_more, digits_value_more}
 use Rattle.std.proofs.lemmas.Bool.{le-ltb, lt-ltb}
-use Rattle.std.proofs.lemmas.List.{take-append-drop, length-take-le}
+use Rattle.std.proofs.lemmas.List.{take-append-drop}
 use Rattle.defmt_shapes.specs.Shape.{EndsThere, HeadShape, SpellsBytes, SpellsQuoted, decimal, negative, quoted, bytes}
 
 -- up to this place stand digits alone, which stand for the number
@@ -33,16 +33,6 @@ digit_more text items i number digit u same lt low high is h =
       place = IsCharBoundary-after_ascii text i u within ascii;
       digits = digits_more 10 text i within h.digits small;
       value = digits_value_more 10 text i within ∙ ap (λ (n : ℕ). digits_value 10 (take i text) * 10 + n) value ∙ ap (λ (n : ℕ). n * 10 + digit) h.value;
-    }
-
-pub decimal_there : (text rest : List ℕ) (at n : ℕ) → 0 < at → at ≤ length text → AllDigits 10 (take at text) → digits_value 10 (take at text) ≡ n → rest ≡ drop at text → EndsThere rest → HeadShape text (decimal n) rest
-decimal_there text rest at n some within all value is ends =
-    let size : length (take at text) ≡ at = length-take-le at text within in
-    record {
-      front = take at text;
-      spelled = record { some = omega (arith, size, some); all = all; value = value };
-      ends = ends;
-      text_is = sym (ap (λ (t : List ℕ). take at text ++ t) is ∙ take-append-drop at text);
     }
 
 pub negative_there : (text digits rest : List ℕ) (n : ℕ) → text ≡ 45 ∷ digits → HeadShape digits (decimal n) rest → HeadShape text (negative n) rest
