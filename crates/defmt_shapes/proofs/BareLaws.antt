@@ -10,5 +10,5 @@ other c k n = grind (arith, nat_tests)
 pub bare_lead : (text : List ℕ) (o : Option (Lead × List ℕ)) → IsBare text → o ≡ or_word text (decimal_lead text) → IsLead text o
 unfolding behind strip marked_lead plain_lead
 bare_lead [] o b e = absurd b
-bare_lead (c ∷ cs) o (quote, apostrophe, minus, at, hash, bracket, zero) e =
-    rw (other c 34 quote, other c 39 apostrophe, other c 45 minus, other c 64 at, other c 35 hash, other c 91 bracket, other c 48 zero) e
+bare_lead (c ∷ cs) o b e =
+    rw (other c 34 b.0, other c 39 b.1.0, other c 45 b.1.1.0, other c 64 b.1.1.1.0, other c 35 b.1.1.1.1.0, other c 91 b.1.1.1.1.1.0, other c 48 b.1.1.1.1.1.1.0) e

@@ -15,7 +15,8 @@ use Rattle.defmt_shapes.specs.Escapes.{IsCharacter, IsQuotedEnd}
 use Rattle.defmt_shapes.specs.Leads.{Lead, decimal, hexadecimal, negative, flag, character, quoted, interned, bytes, empty, call, sequence, some_digits, decimal_lead, hexadecimal_lead, negative_lead, interned_lead, bytes_lead, variant_lead, flag_lead, named_lead, word_lead, plain_lead, marked_lead, quoted_lead, character_lead, IsCharacterLead, IsQuotedLead, IsLead, IsMark, Leads}
 use Rattle.defmt_shapes.proofs.NameLaws.{name_parts}
 use Rattle.defmt_shapes.proofs.RunLaws.{FailsThere, run_again, digits_pass}
-use Rattle.defmt_shapes.proofs.EscapeLaws.{behind_other, character_again, reads}
+use Rattle.defmt_shapes.proofs.CharacterLaws.{character_again, reads}
+use Rattle.defmt_shapes.proofs.EscapeLaws.{behind_other}
 use Rattle.defmt_shapes.proofs.LeadForms.{StopsThere, stops_behind, stops_class, letter_range, letter_no_digit, name_words, variant_again, bytes_pass, pairs_again}
 
 abbrev pub begins : Lead → List ℕ → Option (Lead × List ℕ)
@@ -60,15 +61,15 @@ some_again make digits rest h = rw (ne_eqb (length digits) 0 (λ e. omega arith)
 
 decimal_again : (digits rest : List ℕ) → 0 < length digits → AllDigits 10 digits → StopsThere rest → decimal_lead (digits ++ rest) ≡ begins (decimal digits) rest
 unfolding decimal_lead
-decimal_again digits rest some all stops = rw (run_again (in_class Decimal) digits rest (digits_pass 10 digits all) (stops_class Decimal rest stops)) (some_again decimal digits rest some)
+decimal_again digits rest some all stops = rw (run_again (in_class Decimal) digits rest (digits_pass 10 digits all) (stops_class Decimal rest refl stops)) (some_again decimal digits rest some)
 
 hexadecimal_again : (digits rest : List ℕ) → 0 < length digits → AllDigits 16 digits → StopsThere rest → hexadecimal_lead (digits ++ rest) ≡ begins (hexadecimal digits) rest
 unfolding hexadecimal_lead
-hexadecimal_again digits rest some all stops = rw (run_again (in_class Hexadecimal) digits rest (digits_pass 16 digits all) (stops_class Hexadecimal rest stops)) (some_again hexadecimal digits rest some)
+hexadecimal_again digits rest some all stops = rw (run_again (in_class Hexadecimal) digits rest (digits_pass 16 digits all) (stops_class Hexadecimal rest refl stops)) (some_again hexadecimal digits rest some)
 
 negative_again : (digits rest : List ℕ) → 0 < length digits → AllDigits 10 digits → StopsThere rest → negative_lead (digits ++ rest) ≡ begins (negative digits) rest
 unfolding negative_lead
-negative_again digits rest some all stops = rw (run_again (in_class Decimal) digits rest (digits_pass 10 digits all) (stops_class Decimal rest stops)) (some_again negative digits rest some)
+negative_again digits rest some all stops = rw (run_again (in_class Decimal) digits rest (digits_pass 10 digits all) (stops_class Decimal rest refl stops)) (some_again negative digits rest some)
 
 both_none : {A : Type 0} (b : Bool) (o : Option A) → o ≡ None → cond b o None ≡ None
 both_none true o e = e
@@ -124,7 +125,7 @@ marked_interned more = refl
 
 interned_again : (name rest : List ℕ) → IsName name → StopsThere rest → interned_lead (name ++ rest) ≡ begins (interned name) rest
 unfolding interned_lead
-interned_again name rest h stops = rw (run_again (in_class Word) name rest (name_words name h) (stops_class Word rest stops)) (rw h refl)
+interned_again name rest h stops = rw (run_again (in_class Word) name rest (name_words name h) (stops_class Word rest refl stops)) (rw h refl)
 
 pub interned_leads : (name rest : List ℕ) → IsName name → StopsThere rest → IsLead (64 ∷ (name ++ rest)) (begins (interned name) rest)
 interned_leads name rest h stops =
@@ -139,7 +140,7 @@ bytes_again : (digits rest bs : List ℕ) → SpellsBytes digits bs → StopsThe
 unfolding bytes_lead
 bytes_again digits rest bs h stops =
     let k = bytes_pass digits bs h in
-    rw (run_again (in_class Hexadecimal) digits rest k.0 (stops_class Hexadecimal rest stops)) (rw (pairs_again (length digits) (length bs) k.1) refl)
+    rw (run_again (in_class Hexadecimal) digits rest k.0 (stops_class Hexadecimal rest refl stops)) (rw (pairs_again (length digits) (length bs) k.1) refl)
 
 pub bytes_leads : (digits rest bs : List ℕ) → SpellsBytes digits bs → StopsThere rest → IsLead (35 ∷ (digits ++ rest)) (begins (bytes digits) rest)
 bytes_leads digits rest bs h stops =
@@ -184,7 +185,7 @@ flag_name true = refl
 flag_name false = refl
 
 pub flag_leads : (b : Bool) (rest : List ℕ) → StopsThere rest → IsLead (flag_word b ++ rest) (begins (flag b) rest)
-flag_leads b rest stops = named_leads (flag_word b) rest (begins (flag b) rest) (flag_name b) (stops_class Word rest stops) (named_flag b rest stops)
+flag_leads b rest stops = named_leads (flag_word b) rest (begins (flag b) rest) (flag_name b) (stops_class Word rest refl stops) (named_flag b rest stops)
 
 named_call : (name after : List ℕ) → named_lead name (40 ∷ after) ≡ begins (call name None) after
 unfolding named_lead behind

@@ -9,7 +9,7 @@ use Rattle.defmt_grammar.specs.Cut.{behind}
 use Rattle.defmt_grammar.specs.Param.{HasLeadingZero, has_leading_zero}
 use Rattle.defmt_grammar.proofs.Cuts.{behind_again, behind_found}
 use Rattle.defmt_shapes.specs.declared.parts.Class.{Class}
-use Rattle.defmt_shapes.specs.declared.parts.Class.TheVariants.{Decimal, Hexadecimal, Word}
+use Rattle.defmt_shapes.specs.declared.parts.Class.TheVariants.{Decimal, Hexadecimal, Word, Numbers}
 use Rattle.defmt_shapes.specs.Shape.{IsVariant, IsName, is_word, SpellsBytes}
 use Rattle.defmt_shapes.specs.Runs.{in_class, is_variant}
 use Rattle.defmt_shapes.proofs.NameLaws.{NameParts, name_parts}
@@ -26,15 +26,17 @@ stops_behind c [] n m h = refl
 stops_behind c (d ∷ ds) n m (inl e) = rw (ne_eqb d c (λ k. n (sym k ∙ e))) refl
 stops_behind c (d ∷ ds) n m (inr e) = rw (ne_eqb d c (λ k. m (sym k ∙ e))) refl
 
-class_stops : (class : Class) → (in_class class 32 ≡ false) × (in_class class 41 ≡ false)
-class_stops Decimal = (refl, refl)
-class_stops Hexadecimal = (refl, refl)
-class_stops Word = (refl, refl)
+class_shut : (class : Class) → in_class class 41 ≡ false
+class_shut Decimal = refl
+class_shut Hexadecimal = refl
+class_shut Word = refl
+class_shut Numbers = refl
 
-pub stops_class : (class : Class) (rest : List ℕ) → StopsThere rest → FailsThere (in_class class) rest
-stops_class class [] h = tt
-stops_class class (c ∷ cs) (inl e) = subst (λ (x : ℕ). in_class class x ≡ false) (sym e) (class_stops class).0
-stops_class class (c ∷ cs) (inr e) = subst (λ (x : ℕ). in_class class x ≡ false) (sym e) (class_stops class).1
+-- a class without the space
+pub stops_class : (class : Class) (rest : List ℕ) → in_class class 32 ≡ false → StopsThere rest → FailsThere (in_class class) rest
+stops_class class [] no_space h = tt
+stops_class class (c ∷ cs) no_space (inl e) = subst (λ (x : ℕ). in_class class x ≡ false) (sym e) no_space
+stops_class class (c ∷ cs) no_space (inr e) = subst (λ (x : ℕ). in_class class x ≡ false) (sym e) (class_shut class)
 
 -- ---- letters
 

@@ -13,7 +13,9 @@ use Rattle.defmt_shapes.specs.Runs.{in_class, run, either, is_variant}
 use Rattle.defmt_shapes.specs.Escapes.{IsCharacter, IsQuotedEnd}
 use Rattle.defmt_shapes.specs.Leads.{Lead, decimal, hexadecimal, negative, flag, character, quoted, interned, bytes, empty, call, sequence, some_digits, decimal_lead, hexadecimal_lead, negative_lead, interned_lead, bytes_lead, variant_lead, flag_lead, named_lead, word_lead, or_word, plain_lead, marked_lead, quoted_lead, character_lead, IsCharacterLead, IsQuotedLead, IsLead, IsMark, Leads, IsWhole}
 use Rattle.defmt_shapes.proofs.RunLaws.{run_found, pass_digits}
-use Rattle.defmt_shapes.proofs.EscapeLaws.{either_found, guarded, character_found, character_one, quoted_one}
+use Rattle.defmt_shapes.proofs.CharacterLaws.{character_found, character_one}
+use Rattle.defmt_shapes.proofs.EscapeLaws.{either_found, guarded}
+use Rattle.defmt_shapes.proofs.QuoteLaws.{quoted_one}
 use Rattle.defmt_shapes.proofs.LeadForms.{variant_found, pairs_found}
 
 -- a value that is read whole

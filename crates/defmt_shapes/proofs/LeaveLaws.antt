@@ -187,18 +187,12 @@ has_step Round bs After rest end o h s = round_after bs h.stands.0 h.inside h.af
 has_step Square bs Before rest end o h s = square_before bs h.stands.0 h.inside h.after rest end o h.stands.1 h.stands.2 h.rest_is h.outer s
 has_step Square bs After rest end o h s = square_after bs h.stands.0 h.inside h.after rest end o h.stands.1 h.stands.2 h.rest_is h.outer s
 
-step_left : (b : Bracket) (bs : List Bracket) (place : Place) (rest end : List ℕ) (p : Step × List ℕ) → LeavesAt b bs place rest end → IsStep b place rest (Some p) → LeavesNext b bs p.0 p.1 end
+pub step_left : (b : Bracket) (bs : List Bracket) (place : Place) (rest end : List ℕ) (p : Step × List ℕ) → LeavesAt b bs place rest end → IsStep b place rest (Some p) → LeavesNext b bs p.0 p.1 end
 step_left b bs place rest end p h s =
     let m = has_step b bs place rest end (Some p) h s in
     subst (λ (q : Step × List ℕ). LeavesNext b bs q.0 q.1 end) (sym (same_Some p (m.step, m.after) m.goes)) m.leaves
 
 -- ---- the reader
-
-pub begin_brackets : (first : Bracket) (text : List ℕ) → InBrackets first text first [] Before text
-begin_brackets first text = record {
-  sound = λ inside after e m. (inside, record { stands = m; text_is = e });
-  complete = λ inside end k. record { inside = inside; after = end; rest_is = k.text_is; stands = k.stands; outer = refl };
-}
 
 pub go_begin : (first b : Bracket) (text : List ℕ) (bs : List Bracket) (place : Place) (rest after : List ℕ) → InBrackets first text b bs place rest → IsStep b place rest (goes_on Begin after) → InBrackets first text b bs Before after
 go_begin first b text bs place rest after h s = record {

@@ -2,13 +2,17 @@ pub mod RunLaws
 pub mod NumberLaws
 pub mod NameLaws
 pub mod EscapeLaws
+mod CharacterLaws
+mod QuoteLaws
 pub mod LeadForms
 pub mod LeadAgain
 pub mod LeadFound
 pub mod ShapeLaws
 pub mod ScanLaws
 pub mod LeaveLaws
+mod OneLead
 pub mod OneLaws
+pub mod FlatLaws
 pub mod ValueLaws
 pub mod OrderLaws
 pub mod MeaningLaws

@@ -7,7 +7,8 @@ use Rattle.std.proofs.lemmas.Option.{none-some}
 use Rattle.defmt_shapes.specs.Shape.{SpellsCharacters, SpellsQuoted, SpellsBytes}
 use Rattle.defmt_shapes.specs.Escapes.{IsCharacter}
 use Rattle.defmt_shapes.specs.Meaning.{NoCharacter, MeansText, FirstByte, NoByte, MeansBytes}
-use Rattle.defmt_shapes.proofs.EscapeLaws.{character_again, character_found, character_one, reads, front_some, same_character}
+use Rattle.defmt_shapes.proofs.CharacterLaws.{character_again, character_found, character_one, reads, front_some}
+use Rattle.defmt_shapes.proofs.QuoteLaws.{same_character}
 
 -- ---- how far a reader has come
 

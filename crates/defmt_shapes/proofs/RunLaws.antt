@@ -1,14 +1,15 @@
 -- Runs of characters in front of a text.
-use Rattle.std.proofs.Common.{◌≡◌, ◌<◌, ◌≤◌, ℕ, suc, zero, Bool, true, false, cond, ltb, eqb, List, [], ◌∷◌, ◌++◌, length, get_or, take, drop, refl, sym, ap, arith, Bor, add-one, inl, inr, Some, None}
+use Rattle.std.proofs.Common.{◌≡◌, ◌≢◌, ◌<◌, ◌≤◌, ℕ, suc, zero, Bool, true, false, cond, ltb, eqb, List, [], ◌∷◌, ◌++◌, length, get_or, take, drop, refl, sym, ap, arith, Bor, add-one, inl, inr, Some, None}
 use Rattle.std.specs.Char.{digit_value, is_ascii_alphanumeric}
 use Rattle.std.specs.List.{list_all}
 use Rattle.std.specs.Str.{IsUtf8, IsCharBoundary}
 use Rattle.std.specs.Str.Parse.{AllDigits}
-use Rattle.std.proofs.lemmas.Bool.{cases_lt, le-ltb, lt-leb, lt-ltb, ltb-true, ne_eqb, both_ways, and_parts, or_from}
+use Rattle.std.proofs.lemmas.Bool.{cases_lt, le-ltb, lt-leb, lt-ltb, ltb-true, eq-eqb, ne_eqb, both_ways, and_parts, or_from}
 use Rattle.std.proofs.lemmas.Str.{IsCharBoundary-start, IsCharBoundary-after_ascii}
+use Rattle.defmt_grammar.specs.Cut.{behind}
 use Rattle.defmt_grammar.specs.Param.{both_now}
 use Rattle.defmt_shapes.specs.declared.parts.Class.{Class}
-use Rattle.defmt_shapes.specs.declared.parts.Class.TheVariants.{Decimal, Hexadecimal, Word}
+use Rattle.defmt_shapes.specs.declared.parts.Class.TheVariants.{Decimal, Hexadecimal, Word, Numbers}
 use Rattle.defmt_shapes.specs.Shape.{is_word}
 use Rattle.defmt_shapes.specs.Runs.{in_class, run, first_ascii}
 
@@ -27,6 +28,7 @@ far : (class : Class) (c : ℕ) → 128 ≤ c → in_class class c ≡ false
 far Decimal c h = rw (far_digit c h) refl
 far Hexadecimal c h = rw (far_digit c h) refl
 far Word c h = far_word c h
+far Numbers c h = or_from (eqb c 32) (ltb (digit_value c) 10) (ne_eqb c 32 (λ e. omega arith)) (rw (far_digit c h) refl)
 
 pub class_ascii : (class : Class) (c : ℕ) → in_class class c ≡ true → c < 128
 class_ascii class c h = elim (cases_lt c 128) [ inl lt ↦ lt | inr le ↦ absurd (both_ways (in_class class c) (far class c le) h) ]
@@ -111,8 +113,15 @@ unfolding first_ascii
 first_ascii_none [] h = refl
 first_ascii_none (c ∷ cs) h = let big : 128 ≤ c = h (omega arith) in rw (le-ltb c 128 big) refl
 
+pub behind_at : (c : ℕ) (text rest : List ℕ) → 0 < length text → get_or text 0 0 ≡ c → rest ≡ drop 1 text → Some rest ≡ behind c text
+unfolding behind
+behind_at c [] rest some e d = absurd (omega arith)
+behind_at c (x ∷ xs) rest some e d = rw (eq-eqb x c e, d) refl
+
+pub behind_not : (c : ℕ) (text : List ℕ) → (0 < length text → get_or text 0 0 ≢ c) → None ≡ behind c text
+unfolding behind
+behind_not c [] h = refl
+behind_not c (x ∷ xs) h = rw (ne_eqb x c (h (omega arith))) refl
+
 pub run_hexadecimal : (text : List ℕ) (p : List ℕ × List ℕ) → p ≡ run (in_class Hexadecimal) text → AllDigits 16 p.0
 run_hexadecimal text p e = pass_digits 16 p.0 (rw e (run_found (in_class Hexadecimal) text).passes)
-
-pub run_decimal : (text : List ℕ) (p : List ℕ × List ℕ) → p ≡ run (in_class Decimal) text → AllDigits 10 p.0
-run_decimal text p e = pass_digits 10 p.0 (rw e (run_found (in_class Decimal) text).passes)

@@ -16,7 +16,8 @@ use Rattle.defmt_shapes.proofs.LeadForms.{StopsThere}
 use Rattle.defmt_shapes.proofs.LeadAgain.{begins, Begins, begins_with}
 use Rattle.defmt_shapes.proofs.LeadFound.{whole_found, lead_found, lead_one}
 use Rattle.defmt_shapes.proofs.ScanLaws.{item_found, item_again}
-use Rattle.defmt_shapes.proofs.OneLaws.{whole_same, shape_one, shapes_one, items_one}
+use Rattle.defmt_shapes.proofs.OneLaws.{shape_one, shapes_one, items_one}
+use Rattle.defmt_shapes.proofs.OneLead.{whole_same}
 
 -- ---- ends
 

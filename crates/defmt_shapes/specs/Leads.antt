@@ -1,6 +1,7 @@
 -- What a value's text begins with, on lists.
 use Rattle.std.specs.Prelude.{◌≡◌, ◌≢◌, ℕ, Bool, true, false, ◌==◌, ◌%◌, if◌then◌else◌, bytes_eq, List, [], ◌∷◌, ◌++◌, length, codes, Option, Some, None, option_map}
 use Rattle.std.specs.Borrow.{Bor}
+use Rattle.std.specs.List.{AllByRecursion}
 use Rattle.std.specs.Option.{option_copied}
 use Rattle.defmt_grammar.specs.Cut.{behind, strip}
 use Rattle.defmt_grammar.specs.Param.{has_leading_zero}
@@ -127,8 +128,7 @@ marked_lead text =
 -- it begins with a character, and neither with a mark nor with a zero
 abbrev pub IsBare : List ℕ → Type 0
 IsBare [] = ⊥
-IsBare (c ∷ cs) =
-    (c ≢ 34) × (c ≢ 39) × (c ≢ 45) × (c ≢ 64) × (c ≢ 35) × (c ≢ 91) × (c ≢ 48)
+IsBare (c ∷ cs) = AllByRecursion (λ mark. c ≢ mark) (codes "\"'-@#[0")
 
 abbrev pub quoted_lead : Option (List ℕ × List ℕ) → Option (Lead × List ℕ)
 quoted_lead o = option_map (λ p. (quoted p.0, p.1)) o

@@ -1,15 +1,16 @@
 -- Parts of a text, as functions on lists.
-use Rattle.std.specs.Prelude.{ℕ, Bool, nat_lt, ◌&&◌, not, List, [], ◌∷◌, length, Option, Some, None, if◌then◌else◌}
+use Rattle.std.specs.Prelude.{ℕ, Bool, nat_lt, ◌==◌, ◌&&◌, ◌||◌, not, List, [], ◌∷◌, length, Option, Some, None, if◌then◌else◌}
 use Rattle.std.specs.Char.{digit_value}
 use Rattle.defmt_grammar.specs.Param.{has_leading_zero}
 use Rattle.defmt_shapes.specs.declared.parts.Class.{Class}
-use Rattle.defmt_shapes.specs.declared.parts.Class.TheVariants.{Decimal, Hexadecimal, Word}
+use Rattle.defmt_shapes.specs.declared.parts.Class.TheVariants.{Decimal, Hexadecimal, Word, Numbers}
 use Rattle.defmt_shapes.specs.Shape.{is_word}
 
 abbrev pub in_class : Class → ℕ → Bool
 in_class Decimal c = nat_lt (digit_value c) 10
 in_class Hexadecimal c = nat_lt (digit_value c) 16
 in_class Word c = is_word c
+in_class Numbers c = c == 32 || nat_lt (digit_value c) 10
 
 -- the bytes in front that pass a test, and what follows them
 unfoldable pub run : (ℕ → Bool) → List ℕ → List ℕ × List ℕ

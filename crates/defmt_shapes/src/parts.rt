@@ -19,6 +19,8 @@ pub enum Class {
     Hexadecimal,
     /// ASCII letters and digits, and `_`.
     Word,
+    /// Decimal digits and spaces.
+    Numbers,
 }
 
 impl Class {
@@ -30,6 +32,7 @@ impl Class {
             Class::Decimal => char::from(byte).is_digit(10),
             Class::Hexadecimal => char::from(byte).is_digit(16),
             Class::Word => byte.is_ascii_alphanumeric() || byte == b'_',
+            Class::Numbers => byte == b' ' || char::from(byte).is_digit(10),
         }
     }
 }
@@ -40,7 +43,15 @@ pub fn behind(text: &str, first: char) -> Option<&str>
     ensures rest { option_copied result ≡ behind first text.now }
     ensures utf8 { IfSome result (λ rest. IsUtf8 rest.now) }
 {
-    text.strip_prefix(first)
+    // By its first byte, which costs less than its first character.
+    let [front, ..] = text.as_bytes() else {
+        return None;
+    };
+    if char::from(*front) != first {
+        return None;
+    }
+    let (_, rest) = text.split_at(1);
+    Some(rest)
 }
 
 /// What stands behind a text's front, if it is this one.
@@ -66,6 +77,7 @@ pub fn skip_spaces(text: &str) -> &str
 /// The characters of a class in front, and what follows them.
 pub fn split_run(text: &str, class: Class) -> (&str, &str)
     ensures parts { both_now result ≡ run (in_class class) text.now }
+    ensures front { IsUtf8 result.0.now }
     ensures utf8 { IsUtf8 result.1.now }
 {
     for (i, b) in text.as_bytes().iter().enumerate() {

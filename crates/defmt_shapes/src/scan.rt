@@ -1,12 +1,13 @@
 //! What stands between brackets, however deep others stand inside.
 
-ghost use Rattle.std.specs.Prelude.{◌≡◌, ◌<◌, IfSome, IfOk};
+ghost use Rattle.std.specs.Prelude.{◌≡◌, ◌<◌, ℕ, List, IfSome, IfOk};
 ghost use Rattle.std.specs.Str.{IsUtf8};
 ghost use Rattle.defmt_shapes.specs.Leads.{view_head};
-ghost use Rattle.defmt_shapes.specs.Scan.{FindsClosing, IsStep, step_rest, step_of_lead, closing, after_step};
+ghost use Rattle.defmt_shapes.specs.Scan.{Encloses, FindsClosing, IsStep, step_rest, step_of_lead, closing, after_step};
+ghost use Rattle.defmt_shapes.specs.declared.scan.Bracket.TheVariants.{Round as RoundBracket};
 
 use crate::head::{Head, head_of, item_of};
-use crate::parts::{behind, skip_spaces};
+use crate::parts::{Class, behind, skip_spaces, split_run};
 use dl_io::Memory;
 use std::alloc::Global;
 
@@ -101,9 +102,39 @@ fn next_step(bracket: Bracket, place: Place, text: &str) -> Option<(Step, &str)>
     }
 }
 
-/// What stands before the bracket that closes the one opened before the text, and behind it. The
-/// brackets inside that are still open stand on a stack, so the depth is limited by memory alone.
-pub fn enclosed(alloc: Global, text: &str, first: Bracket) -> Result<Option<(&str, &str)>, Memory>
+// What stands before the next `)` and behind it, where decimal numbers and spaces alone stand before it.
+fn numbers_inside(text: &str) -> Option<(&str, &str)>
+    ensures parts { IfSome result (λ p. Encloses RoundBracket text.now p.0.now p.1.now) }
+    ensures utf8 { IfSome result (λ p. IsUtf8 p.0.now × IsUtf8 p.1.now) }
+{
+    let (inside, after) = split_run(text, Class::Numbers);
+    let rest = behind(after, ')')?;
+    Some((inside, rest))
+}
+
+// What stands behind the bracket that closes this one, where numbers and spaces alone stand before that.
+fn numbers_behind(bracket: Bracket, text: &str) -> Option<&str>
+    ensures parts { IfSome result
+        (λ rest. (bracket ≡ RoundBracket)
+        × ((inside : List ℕ) × Encloses bracket text.now inside rest.now)) }
+    ensures utf8 { IfSome result (λ rest. IsUtf8 rest.now) }
+{
+    match bracket {
+        Bracket::Round => {
+            let (_, rest) = numbers_inside(text)?;
+            Some(rest)
+        }
+        Bracket::Square => None,
+    }
+}
+
+// The same of anything that may stand there. The brackets inside that are still open stand on a stack, so the depth is
+// limited by memory alone.
+fn enclosed_by_steps(
+    alloc: Global,
+    text: &str,
+    first: Bracket,
+) -> Result<Option<(&str, &str)>, Memory>
     ensures parts { FindsClosing first text.now result }
     ensures utf8 { IfOk result (λ o. IfSome o (λ p. IsUtf8 p.0.now × IsUtf8 p.1.now)) }
 {
@@ -120,6 +151,11 @@ pub fn enclosed(alloc: Global, text: &str, first: Bracket) -> Result<Option<(&st
             Step::Begin => place = Place::Before,
             Step::End => place = Place::After,
             Step::Open(inner) => {
+                if let Some(behind) = numbers_behind(inner, rest) {
+                    rest = behind;
+                    place = Place::After;
+                    continue 'steps;
+                }
                 outer.push(bracket)?;
                 bracket = inner;
                 place = Place::Before;
@@ -134,4 +170,21 @@ pub fn enclosed(alloc: Global, text: &str, first: Bracket) -> Result<Option<(&st
             }
         }
     }
+}
+
+/// What stands before the bracket that closes the one opened before the text, and behind it.
+///
+/// # Errors
+/// `Memory` where memory runs out.
+pub fn enclosed(alloc: Global, text: &str, first: Bracket) -> Result<Option<(&str, &str)>, Memory>
+    ensures parts { FindsClosing first text.now result }
+    ensures utf8 { IfOk result (λ o. IfSome o (λ p. IsUtf8 p.0.now × IsUtf8 p.1.now)) }
+{
+    // Most values inside are numbers.
+    if let Bracket::Round = first
+        && let Some(parts) = numbers_inside(text)
+    {
+        return Ok(Some(parts));
+    }
+    enclosed_by_steps(alloc, text, first)
 }

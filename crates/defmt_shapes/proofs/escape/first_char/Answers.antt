@@ -1,5 +1,5 @@
 use Rattle.std.proofs.Common.{length, ap, sym, ◌∙◌}
-use Rattle.defmt_shapes.proofs.EscapeLaws.{no_char}
+use Rattle.defmt_shapes.proofs.CharacterLaws.{no_char}
 use Rattle.defmt_shapes.proofs.escape.first_char.Goals as goal
 
 pub returns-in_default-clause-parts : goal.returns-in_default-clause-parts

@@ -1,6 +1,7 @@
 use Rattle.std.proofs.Common.{sym, arith, rules}
 use Rattle.defmt_grammar.proofs.Cuts.{behind_found}
-use Rattle.defmt_shapes.proofs.EscapeLaws.{close_boundary, has_closed, is_stuck, is_open, next_quotes, character_shorter}
+use Rattle.defmt_shapes.proofs.CharacterLaws.{character_shorter}
+use Rattle.defmt_shapes.proofs.QuoteLaws.{close_boundary, has_closed, is_stuck, is_open, next_quotes}
 use Rattle.defmt_shapes.proofs.escape.quoted_end.Goals as goal
 
 pub split_at-requires : goal.split_at-requires

@@ -1,5 +1,5 @@
 use Rattle.std.proofs.Common.{List, ℕ, sym, subst, arith}
-use Rattle.defmt_shapes.proofs.EscapeLaws.{character_shorter}
+use Rattle.defmt_shapes.proofs.CharacterLaws.{character_shorter}
 use Rattle.defmt_shapes.proofs.MeaningLaws.{TextLeft, begin_text, next_text, whole_text, one_text}
 use Rattle.defmt_shapes.proofs.meaning.unescape.Goals as goal
 
