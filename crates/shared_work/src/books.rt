@@ -113,31 +113,45 @@ impl<E: Names> Ledgers for Named<E> {
     type L7 = LedgerOf<W7, E>;
 }
 
-/// The writer 0.
+/// The writer with a number from 0 to 7.
 #[derive(Drop)]
-pub struct W0;
+pub struct Numbered<const N: u8>;
 
-impl Writer for W0 {
-    ghost NUMBER = { 0 };
+impl<const N: u8> Writer for Numbered<N> {
+    ghost NUMBER = { N };
 
-    const NUMBER: u8 = 0;
+    const NUMBER: u8 = N;
 }
+
+/// The writer 0.
+pub type W0 = Numbered<0>;
+
+/// The writer 1.
+pub type W1 = Numbered<1>;
+
+/// The writer 2.
+pub type W2 = Numbered<2>;
+
+/// The writer 3.
+pub type W3 = Numbered<3>;
+
+/// The writer 4.
+pub type W4 = Numbered<4>;
+
+/// The writer 5.
+pub type W5 = Numbered<5>;
+
+/// The writer 6.
+pub type W6 = Numbered<6>;
+
+/// The writer 7.
+pub type W7 = Numbered<7>;
 
 impl<E: Names> HasBook<Eight<Named<E>>, LedgerOf<W0, E>> for W0 {
     fn count(books: &mut Eight<Named<E>>, share: &mut Share<LedgerOf<W0, E>>, more: u64) {
         books.b0.audit(share);
         books.b0.add(share, more)
     }
-}
-
-/// The writer 1.
-#[derive(Drop)]
-pub struct W1;
-
-impl Writer for W1 {
-    ghost NUMBER = { 1 };
-
-    const NUMBER: u8 = 1;
 }
 
 impl<E: Names> HasBook<Eight<Named<E>>, LedgerOf<W1, E>> for W1 {
@@ -147,31 +161,11 @@ impl<E: Names> HasBook<Eight<Named<E>>, LedgerOf<W1, E>> for W1 {
     }
 }
 
-/// The writer 2.
-#[derive(Drop)]
-pub struct W2;
-
-impl Writer for W2 {
-    ghost NUMBER = { 2 };
-
-    const NUMBER: u8 = 2;
-}
-
 impl<E: Names> HasBook<Eight<Named<E>>, LedgerOf<W2, E>> for W2 {
     fn count(books: &mut Eight<Named<E>>, share: &mut Share<LedgerOf<W2, E>>, more: u64) {
         books.b2.audit(share);
         books.b2.add(share, more)
     }
-}
-
-/// The writer 3.
-#[derive(Drop)]
-pub struct W3;
-
-impl Writer for W3 {
-    ghost NUMBER = { 3 };
-
-    const NUMBER: u8 = 3;
 }
 
 impl<E: Names> HasBook<Eight<Named<E>>, LedgerOf<W3, E>> for W3 {
@@ -181,31 +175,11 @@ impl<E: Names> HasBook<Eight<Named<E>>, LedgerOf<W3, E>> for W3 {
     }
 }
 
-/// The writer 4.
-#[derive(Drop)]
-pub struct W4;
-
-impl Writer for W4 {
-    ghost NUMBER = { 4 };
-
-    const NUMBER: u8 = 4;
-}
-
 impl<E: Names> HasBook<Eight<Named<E>>, LedgerOf<W4, E>> for W4 {
     fn count(books: &mut Eight<Named<E>>, share: &mut Share<LedgerOf<W4, E>>, more: u64) {
         books.b4.audit(share);
         books.b4.add(share, more)
     }
-}
-
-/// The writer 5.
-#[derive(Drop)]
-pub struct W5;
-
-impl Writer for W5 {
-    ghost NUMBER = { 5 };
-
-    const NUMBER: u8 = 5;
 }
 
 impl<E: Names> HasBook<Eight<Named<E>>, LedgerOf<W5, E>> for W5 {
@@ -215,31 +189,11 @@ impl<E: Names> HasBook<Eight<Named<E>>, LedgerOf<W5, E>> for W5 {
     }
 }
 
-/// The writer 6.
-#[derive(Drop)]
-pub struct W6;
-
-impl Writer for W6 {
-    ghost NUMBER = { 6 };
-
-    const NUMBER: u8 = 6;
-}
-
 impl<E: Names> HasBook<Eight<Named<E>>, LedgerOf<W6, E>> for W6 {
     fn count(books: &mut Eight<Named<E>>, share: &mut Share<LedgerOf<W6, E>>, more: u64) {
         books.b6.audit(share);
         books.b6.add(share, more)
     }
-}
-
-/// The writer 7.
-#[derive(Drop)]
-pub struct W7;
-
-impl Writer for W7 {
-    ghost NUMBER = { 7 };
-
-    const NUMBER: u8 = 7;
 }
 
 impl<E: Names> HasBook<Eight<Named<E>>, LedgerOf<W7, E>> for W7 {

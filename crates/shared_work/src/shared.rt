@@ -52,17 +52,8 @@ impl<B: Books, Q: Quota, T: Work<Q>> Locked<B, Q, T> {
         ensures work { self.new.work ≡ self.old.work }
         ensures place { pen.new.place ≡ pen.old.place }
     {
-        let Locked {
-            work: _,
-            books,
-            of: _,
-        } = self;
-        let Pen {
-            place: _,
-            total: _,
-            share,
-            of: _,
-        } = pen;
+        let Locked { books, .. } = self;
+        let Pen { share, .. } = pen;
         S::count(books, share, 0);
     }
 }

@@ -1,5 +1,4 @@
-use Rattle.std.proofs.Common.{ℕ, List, sym, ap, ◌∙◌}
-use Rattle.std.specs.Prelude.{slice_index_or}
+use Rattle.std.proofs.Common.{ℕ, List, sym, ap, ◌∙◌, slice_index_or}
 use Rattle.shared_work.proofs.Counted.{kept}
 use Rattle.shared_work.proofs.shared.Locked.audit.Goals as goal
 

@@ -1,5 +1,4 @@
-use Rattle.std.proofs.Common.{ℕ, ◌+◌, ◌<◌, List, ◌==◌, sym, ap, ◌∙◌, subst, arith}
-use Rattle.std.specs.Prelude.{if◌then◌else◌, slice_index_or}
+use Rattle.std.proofs.Common.{ℕ, ◌+◌, ◌<◌, List, ◌==◌, sym, ap, ◌∙◌, subst, arith, if◌then◌else◌, slice_index_or}
 use Rattle.shared_work.proofs.Counted.{raised}
 use Rattle.shared_work.proofs.shared.Locked.step.Goals as goal
 
