@@ -1,12 +1,11 @@
 -- A writer's statements are sound, and the frame of one that is there is that of its message.
-use Rattle.std.proofs.Common.{◌≡◌, ℕ, zero, suc, ◌<◌, List, [], ◌∷◌, Option, Some, None, length, sym, ap, ◌∙◌, subst, arith}
-use Rattle.std.specs.Prelude.{slice_get, slice_index_or}
+use Rattle.std.proofs.Common.{◌≡◌, ℕ, zero, suc, ◌<◌, List, [], ◌∷◌, Option, Some, None, length, sym, subst, arith, slice_get, slice_index_or}
 use Rattle.std.specs.List.{AllByRecursion}
 use Rattle.std.proofs.lemmas.Option.{same_Some}
 use Rattle.defmt_encode.proofs.Placing.{placed}
 use Rattle.defmt_encode.specs.Carry.{frame_of, message_of, stamp_args}
 use Rattle.defmt_encode.specs.Placed.{HasPlace, place_in}
-use Rattle.defmt_frames.specs.Frames.{frame_at, frame_with, statements_of}
+use Rattle.defmt_frames.specs.Frames.{frame_at, statements_of}
 use Rattle.defmt_intern.specs.Table.{Map}
 use Rattle.defmt_intern.specs.declared.table.Profile.{Profile}
 use Rattle.defmt_script.specs.Lawful.{IsLawful, IsSound, stamp_in}
@@ -42,11 +41,7 @@ writer_below (l ∷ ws) (suc w) n h = omega (arith, writer_below ws w n h)
 pub frame_is : (s : Script) (number w k n : ℕ) (stm : Statement) (table : Map) (c o : Option ℕ) → slice_get (statements_of s w) k ≡ Some stm → table ≡ s.table → c ≡ place_in s.settings.profile number → o ≡ stamp_in s.settings.stamp n
     → frame_of (message_of table c (stamp_args o) stm.index stm.args) ≡ frame_at s number w k n
 unfolding frame_at
-frame_is s number w k n stm table c o there same counted carried =
-    ap (λ (t : Map). frame_with t c o (Some stm)) same
-    ∙ ap (λ (p : Option ℕ). frame_with s.table p o (Some stm)) counted
-    ∙ ap (λ (p : Option ℕ). frame_with s.table (place_in s.settings.profile number) p (Some stm)) carried
-    ∙ ap (λ (x : Option Statement). frame_with s.table (place_in s.settings.profile number) (stamp_in s.settings.stamp n) x) (sym there)
+frame_is s number w k n stm table c o there same counted carried = rw (same, counted, carried, there)
 
 -- the place of a mark suits the table that its script has
 pub has_place : (p q : Profile) (number : ℕ) (c : Option ℕ) → p ≡ q → c ≡ place_in q number → HasPlace p c

@@ -1,8 +1,6 @@
 -- The sites of a script's statements.
-use Rattle.std.proofs.Common.{◌≡◌, ◌∙◌, ◌≤◌, ◌<◌, ℕ, Bool, true, false, cond, List, [], length, Option, Some, None, is_eq, nat_cmp, refl, sym, ap, subst, arith}
-use Rattle.std.specs.Prelude.{IsSome, is_some, nat_lt, slice_get}
+use Rattle.std.proofs.Common.{◌≡◌, ◌∙◌, ◌≤◌, ℕ, Bool, true, false, cond, List, length, Option, Some, None, is_eq, nat_cmp, refl, sym, ap, subst, arith, IsSome, is_some, slice_get}
 use Rattle.std.proofs.lemmas.Bool.Decides.{nat_tests}
-use Rattle.std.proofs.lemmas.List.{get_or_past}
 use Rattle.std.proofs.lemmas.Option.{same_Some}
 use Rattle.defmt_encode.proofs.Hears.{one_entry}
 use Rattle.defmt_encode.specs.Carry.{message_of, stamp_args}
@@ -58,42 +56,21 @@ module _ (old new : Sites) (index : ℕ) (site : Site) (more : (q : ℕ) → sit
 pub have_more : (old new : Sites) (list : List Statement) → Keeps old new → HaveSites old list → HaveSites new list
 have_more old new list keeps have place stm there = keeps stm.index (have place stm there)
 
-none_at : (place : ℕ) (stm : Statement) → slice_get [] place ≡ Some stm → ⊥
-none_at place stm there = cc there
-
--- a script has statements of eight writers alone
-all_by : (s : Script) (sites : Sites) (n w : ℕ) → IsLawful s → ((v : ℕ) → v < n → HaveSites sites (statements_of s v)) → n ≡ 8 → (b : Bool) → nat_lt w 8 ≡ b → HaveSites sites (statements_of s w)
-all_by s sites n w h below full true is = below w (grind (arith, nat_tests))
-all_by s sites n w h below full false is =
-    let none : statements_of s w ≡ [] = get_or_past s.writers w [] (let out : 8 ≤ w = grind (arith, nat_tests) in omega (arith, out, h.eight)) in
-    λ place stm there. absurd (none_at place stm (ap (λ (l : List Statement). slice_get l place) (sym none) ∙ there))
-
-pub all_have : (s : Script) (sites : Sites) (n : ℕ) → IsLawful s → ((v : ℕ) → v < n → HaveSites sites (statements_of s v)) → n ≡ 8 → (w : ℕ) → HaveSites sites (statements_of s w)
-all_have s sites n h below full w = all_by s sites n w h below full (nat_lt w 8) refl
-
 -- a statement of the script has one
 pub site_there : (s : Script) (sites : Sites) (w k : ℕ) (stm : Statement) → HasSites s sites → slice_get (statements_of s w) k ≡ Some stm → site_at sites stm.index ≡ None → ⊥
 site_there s sites w k stm has there none = let clash : false ≡ true = ap is_some (sym none) ∙ has.all w k stm there in cc clash
 
 -- ---- what logging asks
 
-writes_own : (s : Script) (sites : Sites) (number w k n : ℕ) (stm : Statement) (site : Site) → IsLawful s → HasSites s sites → slice_get (statements_of s w) k ≡ Some stm → site_at sites stm.index ≡ Some site
-    → Writes s.table site (place_in s.settings.profile number) (stamp_in s.settings.stamp n) stm.args
-writes_own s sites number w k n stm site h has there at =
-    let sound : IsSound s.table s.settings stm = sound_at s w k stm h there in
-    let here : IsSiteOf s.table stm.index site = has.own stm.index site at in
-    record {
-      own = subst (λ (i : ℕ). IsSite s.table i site.tag site.slots) (sym here.0) here.1;
-      suits = suits s n h;
-      fits = subst (λ (i : ℕ). Fits s.table i stm.args) (sym here.0) sound.fits;
-      short = subst (λ (i : ℕ). length (message_of s.table (place_in s.settings.profile number) (stamp_args (stamp_in s.settings.stamp n)) i stm.args) ≤ message_limit) (sym here.0) (sound.short number n);
-    }
-
 pub writes : (s : Script) (sites : Sites) (number w k n : ℕ) (stm : Statement) (site : Site) (table : Map) (c o : Option ℕ)
     → IsLawful s → HasSites s sites → slice_get (statements_of s w) k ≡ Some stm → site_at sites stm.index ≡ Some site → table ≡ s.table → c ≡ place_in s.settings.profile number → o ≡ stamp_in s.settings.stamp n
     → Writes table site c o stm.args
 writes s sites number w k n stm site table c o h has there at same counted carried =
-    let P : Map → Option ℕ → Option ℕ → Type 0 = λ t p q. Writes t site p q stm.args in
-    subst (λ (t : Map). P t c o) (sym same)
-    (subst (λ (p : Option ℕ). P s.table p o) (sym counted)
-    (subst (λ (p : Option ℕ). P s.table (place_in s.settings.profile number) p) (sym carried) (writes_own s sites number w k n stm site h has there at)))
+    let sound : IsSound s.table s.settings stm = sound_at s w k stm h there in
+    let here : IsSiteOf s.table stm.index site = has.own stm.index site at in
+    rw (same, counted, carried) (record {
+      own = subst (λ (i : ℕ). IsSite s.table i site.tag site.slots) (sym here.0) here.1;
+      suits = suits s n h;
+      fits = subst (λ (i : ℕ). Fits s.table i stm.args) (sym here.0) sound.fits;
+      short = subst (λ (i : ℕ). length (message_of s.table (place_in s.settings.profile number) (stamp_args (stamp_in s.settings.stamp n)) i stm.args) ≤ message_limit) (sym here.0) (sound.short number n);
+    })

@@ -1,6 +1,5 @@
 -- The stamps of a script suit its table: where there are stamps, the text of the timestamp's entry takes one number of 64 bits.
-use Rattle.std.proofs.Common.{◌≡◌, ◌∙◌, ℕ, [], ◌∷◌, refl, ap}
-use Rattle.std.specs.Prelude.{Option, Some, None}
+use Rattle.std.proofs.Common.{◌≡◌, ◌∙◌, ℕ, [], ◌∷◌, refl, ap, Option, Some, None}
 use Rattle.std.specs.FinMap as map
 use Rattle.defmt_encode.proofs.Entries.{own_slots_are, slots_at_places}
 use Rattle.defmt_intern.proofs.Stamps.{stamp_is}

@@ -1,6 +1,4 @@
-use Rattle.std.proofs.Common.{◌≡◌, ℕ, Some, sym, ap, ◌∙◌}
-use Rattle.std.specs.Option.{option_copied}
-use Rattle.std.specs.Prelude.{slice_get}
+use Rattle.std.proofs.Common.{◌≡◌, ℕ, Some, sym, ap, ◌∙◌, slice_get, option_copied}
 use Rattle.defmt_encode.specs.Carry.{frame_of, message_of, stamp_args}
 use Rattle.defmt_frames.proofs.Frames.{frame_is, has_place, statement_there}
 use Rattle.defmt_frames.proofs.SiteLaws.{site_there, writes}

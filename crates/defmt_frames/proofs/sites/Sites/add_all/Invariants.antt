@@ -1,5 +1,4 @@
-use Rattle.std.proofs.Common.{◌≡◌, ℕ, ◌<◌, Some}
-use Rattle.std.specs.Prelude.{IsSome, slice_get}
+use Rattle.std.proofs.Common.{◌≡◌, ℕ, ◌<◌, Some, IsSome, slice_get}
 use Rattle.defmt_frames.specs.Frames.{statements_of}
 use Rattle.defmt_frames.specs.Sites.{AreSitesOf, Keeps, site_at}
 use Rattle.defmt_frames.proofs.sites.Sites.add_all.Given as goal

@@ -1,5 +1,7 @@
 use Rattle.std.proofs.Common.{below_more, arith}
-use Rattle.defmt_frames.proofs.SiteLaws.{all_have, have_more}
+use Rattle.std.proofs.lemmas.Option.{slice_get_within}
+use Rattle.defmt_frames.proofs.Frames.{writer_below}
+use Rattle.defmt_frames.proofs.SiteLaws.{have_more}
 use Rattle.defmt_frames.specs.Frames.{statements_of}
 use Rattle.defmt_frames.specs.Sites.{HaveSites}
 use Rattle.defmt_frames.proofs.sites.Sites.of.Goals as goal
@@ -12,8 +14,11 @@ loop-writer-preserved c = (
       c.in_ok-add_all.ensures.all,
 )
 
+-- a writer that has a statement is one of eight
 pub returns : goal.returns
 returns c = record {
   own = c.loop-writer.invariant.0;
-  all = all_have c.args.script.now c.loop-writer.sites c.loop-writer.writer c.lawful.ensures c.loop-writer.invariant.1 (omega (arith, c.loop-writer-test.false, c.loop-writer.auto.writer-end));
+  all = λ w place stm there.
+      let some = slice_get_within (statements_of c.args.script.now w) place stm there in
+      c.loop-writer.invariant.1 w (omega (arith, writer_below c.args.script.now.writers w place some, c.lawful.ensures.eight, c.loop-writer-test.false, c.loop-writer.auto.writer-end)) place stm there;
 }
