@@ -1,11 +1,12 @@
 -- How the logic stores what contracts see of a desk: as the tuple of its parts.
-use Rattle.std.specs.Prelude.{ℕ, Bool, List, refl}
-use Rattle.std.specs.Coded.{Coded, code_by, coded×, coded_list, coded_ℕ, coded_bool}
+use Rattle.std.specs.Prelude.{ℕ, List, refl}
+use Rattle.std.specs.Coded.{Coded, code_by, coded×, coded_list, coded_ℕ}
 use Rattle.defmt_logger.specs.Kept.{Reel, Sheet}
 use Rattle.defmt_logger.specs.contracts.mark.Mark.{the_row as mark_row}
 use Rattle.defmt_logger.specs.declared.mark.Mark.{Mark}
 use Rattle.defmt_script.specs.Codes.{coded_script}
 use Rattle.defmt_script.specs.Script.{Script}
+use Rattle.rtt_ring.specs.Codes.{coded_up}
 use Rattle.rtt_ring.specs.Views.{Up}
 
 abbrev pub coded_reel : Coded Reel
@@ -13,26 +14,6 @@ coded_reel = code_by (List Mark × ℕ)
     (coded× (coded_list mark_row.coded) coded_ℕ)
     (λ r. (r.marks, r.room))
     (λ p. record { marks = p.0; room = p.1 })
-    (λ _. refl)
-
-abbrev coded_bytes : Coded (List ℕ)
-coded_bytes = coded_list coded_ℕ
-
-abbrev coded_up : Coded Up
-coded_up = code_by (List ℕ × (ℕ × (List ℕ × (List ℕ × (ℕ × (ℕ × (ℕ × Bool)))))))
-    (coded× coded_bytes (coded× coded_ℕ (coded× coded_bytes (coded× coded_bytes (coded× coded_ℕ
-    (coded× coded_ℕ (coded× coded_ℕ coded_bool)))))))
-    (λ u. (u.split, (u.size, (u.sent, (u.staged, (u.room, (u.looks, (u.freed, u.tells))))))))
-    (λ p. record {
-      split = p.0;
-      size = p.1.0;
-      sent = p.1.1.0;
-      staged = p.1.1.1.0;
-      room = p.1.1.1.1.0;
-      looks = p.1.1.1.1.1.0;
-      freed = p.1.1.1.1.1.1.0;
-      tells = p.1.1.1.1.1.1.1;
-    })
     (λ _. refl)
 
 abbrev pub coded_sheet : Coded Sheet

@@ -1,4 +1,5 @@
 pub mod Views
+pub mod Codes
 pub mod Account
 pub mod Image
 pub mod Traffic
