@@ -1,8 +1,7 @@
 -- A desk on which one statement more is logged.
-use Rattle.std.proofs.Common.{◌≡◌, ℕ, zero, suc, ◌+◌, ◌*◌, ◌<◌, ◌≤◌, List, [], ◌∷◌, ◌++◌, length, length-append, refl, sym, ap, ◌∙◌, subst, arith}
-use Rattle.std.specs.Prelude.{replicate, slice_index_or, slice_set}
+use Rattle.std.proofs.Common.{◌≡◌, ℕ, zero, suc, ◌+◌, ◌*◌, ◌<◌, ◌≤◌, List, [], ◌∷◌, ◌++◌, length, length-append, refl, sym, ap, ◌∙◌, subst, arith, replicate, slice_index_or, slice_set}
 use Rattle.defmt_frames.proofs.Frames.{writer_below}
-use Rattle.defmt_frames.specs.Frames.{count, frame_at, pace_of, stamp_number}
+use Rattle.defmt_frames.specs.Frames.{count, frame_at, stamp_number}
 use Rattle.defmt_frames.specs.declared.sites.Sites.{Sites}
 use Rattle.defmt_hooks.specs.Even.{Pace}
 use Rattle.defmt_logger.proofs.Append.{counts_append, kept_append, within_snoc}
@@ -32,42 +31,11 @@ room_left d w k h more =
     let len : length (d.tape.marks ++ m ∷ []) ≡ length d.tape.marks + 1 = length-append d.tape.marks (m ∷ []) in
     omega (arith, fits, len, h.few, k.room)
 
-stamp_is : (s : Script) (pace : Pace) (t stamp : ℕ) → pace ≡ pace_of s.settings.stamp → stamp ≡ pace.base + pace.step * t → stamp ≡ stamp_number s t
-stamp_is s pace t stamp e given = given ∙ ap (λ (p : Pace). p.base + p.step * t) e
-
 pub record Next (d : Sheet) (places : List ℕ) (w : ℕ) (fate : Fate) (now : Reel) (v : Up) : Type 0 where
   pub marks : now.marks ≡ d.tape.marks ++ next_mark d.script d.tape.marks w fate ∷ []
   pub sends : SendsIn d.script.settings.mode d.up v (frame_at d.script (length d.tape.marks) w (marks_of w d.tape.marks) (stamp_number d.script (length d.tape.marks))) fate
   pub kept : IsKept (record { script = d.script; tape = now; up = v })
   pub counts : Counts (slice_set places w (slice_index_or places w 0 + 1)) now.marks
-
-next_by : (d : Sheet) (places : List ℕ) (w t place stamp : ℕ) (fate : Fate) (now : Reel) (v : Up)
-    → IsKept d → Counts places d.tape.marks
-    → marks_of w d.tape.marks < count d.script w
-    → w < 8
-    → t ≡ length d.tape.marks
-    → place ≡ marks_of w d.tape.marks
-    → stamp ≡ stamp_number d.script (length d.tape.marks)
-    → now.marks ≡ d.tape.marks ++ (record { writer = w; place = place; stamp = stamp; fate = fate }) ∷ []
-    → now.room + 1 ≡ d.tape.room
-    → SendsIn d.script.settings.mode d.up v (frame_at d.script t w place stamp) fate
-    → Next d places w fate now v
-next_by d places w t place stamp fate now v k counts more below t_is place_is stamp_is marks room sends =
-    let tape : List Mark = d.tape.marks in
-    let mark : ℕ → ℕ → Mark = λ p n. record { writer = w; place = p; stamp = n; fate = fate } in
-    let m : Mark = next_mark d.script tape w fate in
-    let same : mark place stamp ≡ m = ap (λ (p : ℕ). mark p stamp) place_is ∙ ap (λ (n : ℕ). mark (marks_of w tape) n) stamp_is in
-    let is : now.marks ≡ tape ++ m ∷ [] = marks ∙ ap (λ (x : Mark). tape ++ x ∷ []) same in
-    let frame : frame_at d.script t w place stamp ≡ frame_at d.script (length tape) w (marks_of w tape) (stamp_number d.script (length tape)) =
-    ap (λ (x : ℕ). frame_at d.script x w place stamp) t_is ∙ ap (λ (p : ℕ). frame_at d.script (length tape) w p stamp) place_is ∙ ap (λ (n : ℕ). frame_at d.script (length tape) w (marks_of w tape) n) stamp_is in
-    let sent : SendsIn d.script.settings.mode d.up v (frame_at d.script (length tape) w (marks_of w tape) (stamp_number d.script (length tape))) fate =
-    subst (λ (l : List ℕ). SendsIn d.script.settings.mode d.up v l fate) frame sends in
-    record {
-      marks = is;
-      sends = sent;
-      kept = kept_append d now m v k is room refl more refl sent;
-      counts = counts_append places tape now.marks m counts is below;
-    }
 
 pub next_is : (d : Sheet) (sites : Sites) (places : List ℕ) (pace : Pace) (message frame : List ℕ) (w t stamp : ℕ) (fate : Fate) (now : Reel) (v : Up)
     → IsWorking d sites places pace message frame
@@ -80,10 +48,20 @@ pub next_is : (d : Sheet) (sites : Sites) (places : List ℕ) (pace : Pace) (mes
     → SendsIn d.script.settings.mode d.up v (frame_at d.script t w (slice_index_or places w 0) stamp) fate
     → Next d places w fate now v
 next_is d sites places pace message frame w t stamp fate now v k h more t_is given marks room sends =
-    let below : w < 8 = writer_is d.script d.tape.marks w h more in
-    let here : slice_index_or places w 0 ≡ marks_of w d.tape.marks = k.counts.1 w below in
-    let now_is : stamp ≡ stamp_number d.script (length d.tape.marks) = stamp_is d.script pace t stamp k.pace_is given ∙ ap (stamp_number d.script) t_is in
-    next_by d places w t (slice_index_or places w 0) stamp fate now v k.kept k.counts more below t_is here now_is marks room sends
+    let s = d.script in
+    let tape : List Mark = d.tape.marks in
+    let below : w < 8 = writer_is s tape w h more in
+    let place_is : slice_index_or places w 0 ≡ marks_of w tape = k.counts.1 w below in
+    let stamp_is : stamp ≡ stamp_number s (length tape) = given ∙ ap (λ (p : Pace). p.base + p.step * t) k.pace_is ∙ ap (stamp_number s) t_is in
+    let is : now.marks ≡ tape ++ next_mark s tape w fate ∷ [] = cc in
+    let same : frame_at s t w (slice_index_or places w 0) stamp ≡ frame_at s (length tape) w (marks_of w tape) (stamp_number s (length tape)) = cc in
+    let sent : SendsIn s.settings.mode d.up v (frame_at s (length tape) w (marks_of w tape) (stamp_number s (length tape))) fate = subst (λ (l : List ℕ). SendsIn s.settings.mode d.up v l fate) same sends in
+    record {
+      marks = is;
+      sends = sent;
+      kept = kept_append d now w fate v k.kept is room more sent;
+      counts = counts_append places tape now.marks (next_mark s tape w fate) k.counts is below;
+    }
 
 -- ---- a desk on which nothing was logged
 

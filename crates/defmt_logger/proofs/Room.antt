@@ -1,6 +1,5 @@
 -- A tape has no more marks than its script has statements.
-use Rattle.std.proofs.Common.{◌≡◌, ℕ, suc, ◌+◌, ◌-◌, ◌≤◌, List, [], ◌∷◌, Bool, true, false, ◌==◌, length, refl, sym, subst, arith, zero-add}
-use Rattle.std.specs.Prelude.{if◌then◌else◌, slice_index_or, nat_le}
+use Rattle.std.proofs.Common.{◌≡◌, ℕ, zero, suc, ◌+◌, ◌≤◌, List, [], ◌∷◌, ◌==◌, drop, length, length-drop, refl, ap, arith, if◌then◌else◌, slice_index_or}
 use Rattle.std.proofs.lemmas.Bool.Decides.{nat_tests}
 use Rattle.defmt_frames.specs.Frames.{count}
 use Rattle.defmt_logger.specs.declared.mark.Mark.{Mark}
@@ -8,63 +7,37 @@ use Rattle.defmt_logger.specs.Tape.{marks_of}
 use Rattle.defmt_script.specs.Script.{Script, count_all}
 use Rattle.defmt_values.specs.declared.value.Statement.{Statement}
 
--- the marks of the writers from w on
-abbrev marks_from : ℕ → List Mark → ℕ
-marks_from w [] = 0
-marks_from w (m ∷ ms) = if nat_le w m.writer then marks_from w ms + 1 else marks_from w ms
+-- the statements without the first of writer w
+abbrev without : List (List Statement) → ℕ → List (List Statement)
+without [] w = []
+without (l ∷ ws) zero = drop 1 l ∷ ws
+without (l ∷ ws) (suc w) = l ∷ without ws w
 
-one_more : (w x a b c : ℕ) → a ≡ b + c → (if nat_le w x then a + 1 else a) ≡ (if x == w then b + 1 else b) + (if nat_le (w + 1) x then c + 1 else c)
-one_more w x a b c e = grind (arith, nat_tests)
+all_without : (ws : List (List Statement)) (w n : ℕ) → n + 1 ≤ length (slice_index_or ws w []) → count_all (without ws w) + 1 ≤ count_all ws
+all_without [] w n some = absurd (omega (arith, some))
+all_without (l ∷ ws) zero n some = omega (arith, some, length-drop 1 l)
+all_without (l ∷ ws) (suc w) n some = omega (arith, all_without ws w n some)
 
-from_next : (w : ℕ) (tape : List Mark) → marks_from w tape ≡ marks_of w tape + marks_from (w + 1) tape
-from_next w [] = refl
-from_next w (m ∷ ms) = one_more w m.writer (marks_from w ms) (marks_of w ms) (marks_from (w + 1) ms) (from_next w ms)
+left_without : (ws : List (List Statement)) (w v n : ℕ) → n ≤ length (slice_index_or ws v []) → (w ≡ v → n + 1 ≤ length (slice_index_or ws v [])) → n ≤ length (slice_index_or (without ws w) v [])
+left_without [] w v n le more = le
+left_without (l ∷ ws) zero zero n le more = omega (arith, more refl, length-drop 1 l)
+left_without (l ∷ ws) zero (suc v) n le more = le
+left_without (l ∷ ws) (suc w) zero n le more = le
+left_without (l ∷ ws) (suc w) (suc v) n le more = left_without ws w v n le (λ same. more (ap suc same))
 
-none_there : (w x a b : ℕ) → (w ≤ x → (if x == x then b + 1 else b) ≤ 0) → a ≤ 0 → (if nat_le w x then a + 1 else a) ≤ 0
-none_there w x a b none le = grind (arith, nat_tests)
+one_less : (x v n k : ℕ) → (if x == v then n + 1 else n) ≤ k → (n ≤ k) × (x ≡ v → n + 1 ≤ k)
+one_less x v n k le = (grind (arith, nat_tests), λ same. grind (arith, nat_tests))
 
-grows : (v x n : ℕ) → n ≤ (if x == v then n + 1 else n)
-grows v x n = elim (x == v) as (λ (b : Bool). n ≤ (if b then n + 1 else n)) [ true ↦ omega arith | false ↦ omega arith ]
-
-none_from : (w : ℕ) (tape : List Mark) → ((v : ℕ) → w ≤ v → marks_of v tape ≤ 0) → marks_from w tape ≤ 0
-none_from w [] none = omega arith
-none_from w (m ∷ ms) none =
-    none_there w m.writer (marks_from w ms) (marks_of m.writer ms) (none m.writer)
-    (none_from w ms (λ v le. omega (arith, none v le, grows v m.writer (marks_of v ms))))
-
-fits_from : (ws : List (List Statement)) (w : ℕ) (tape : List Mark) → ((i : ℕ) → marks_of (w + i) tape ≤ length (slice_index_or ws i [])) → marks_from w tape ≤ count_all ws
-fits_from [] w tape within =
-    none_from w tape (λ v le.
-    let P : ℕ → Type 0 = λ k. marks_of k tape ≤ 0 in
-    let there : w + (v - w) ≡ v = omega (arith, le) in
-    subst P there (within (v - w)))
-fits_from (l ∷ ws) w tape within =
-    let P : ℕ → Type 0 = λ k. marks_of k tape ≤ length l in
-    let none_added : w + 0 ≡ w = omega arith in
-    let here : marks_of w tape ≤ length l = subst P none_added (within 0) in
-    let more : marks_from (w + 1) tape ≤ count_all ws = fits_from ws (w + 1) tape (λ i.
-    let Q : ℕ → Type 0 = λ k. marks_of k tape ≤ length (slice_index_or ws i []) in
-    let moved : w + suc i ≡ (w + 1) + i = omega arith in
-    subst Q moved (within (suc i))) in
-    omega (arith, here, more, from_next w tape)
-
-all_from : (tape : List Mark) → marks_from 0 tape ≡ length tape
-all_from [] = refl
-all_from (m ∷ ms) = let more : marks_from 0 ms ≡ length ms = all_from ms in grind (arith, nat_tests)
+fits : (ws : List (List Statement)) (tape : List Mark) → ((w : ℕ) → marks_of w tape ≤ length (slice_index_or ws w [])) → length tape ≤ count_all ws
+fits ws [] within = omega arith
+fits ws (m ∷ ms) within =
+    let at : (v : ℕ) → (marks_of v ms ≤ length (slice_index_or ws v [])) × (m.writer ≡ v → marks_of v ms + 1 ≤ length (slice_index_or ws v [])) = λ v. one_less m.writer v (marks_of v ms) _ (within v) in
+    let more : length ms ≤ count_all (without ws m.writer) = fits (without ws m.writer) ms (λ v. left_without ws m.writer v (marks_of v ms) (at v).0 (at v).1) in
+    omega (arith, more, all_without ws m.writer (marks_of m.writer ms) ((at m.writer).1 refl))
 
 pub tape_fits : (s : Script) (tape : List Mark) → ((w : ℕ) → marks_of w tape ≤ count s w) → length tape ≤ count_all s.writers
-tape_fits s tape within =
-    let all : marks_from 0 tape ≤ count_all s.writers = fits_from s.writers 0 tape (λ i.
-    let P : ℕ → Type 0 = λ k. marks_of k tape ≤ length (slice_index_or s.writers i []) in
-    subst P (sym (zero-add i)) (within i)) in
-    omega (arith, all, all_from tape)
-
-at_most : (w x b n : ℕ) → b ≤ n → (if x == w then b + 1 else b) ≤ n + 1
-at_most w x b n le = elim (x == w) as (λ (c : Bool). (if c then b + 1 else b) ≤ n + 1) [ true ↦ omega (arith, le) | false ↦ omega (arith, le) ]
+tape_fits s tape within = fits s.writers tape within
 
 pub marks_within : (w : ℕ) (tape : List Mark) → marks_of w tape ≤ length tape
 marks_within w [] = omega arith
-marks_within w (m ∷ ms) =
-    let le : marks_of w ms ≤ length ms = marks_within w ms in
-    let both : (if m.writer == w then marks_of w ms + 1 else marks_of w ms) ≤ length ms + 1 = at_most w m.writer (marks_of w ms) (length ms) le in
-    omega (arith, both)
+marks_within w (m ∷ ms) = let le : marks_of w ms ≤ length ms = marks_within w ms in grind (arith, nat_tests)

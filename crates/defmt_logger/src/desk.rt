@@ -104,52 +104,21 @@ fn send_statement<U: UpEnd, R: Relief, W: Wait>(
     send(rt, up, script.mode(), &frame[..size], relief)
 }
 
-// What a desk has of its own: the sites of its script, a tape, and the buffers for a message and a frame.
-#[derive(Drop)]
-struct Stores {
-    sites: Sites,
-    tape: Tape,
-    message: Vec<u8>,
-    frame: Vec<u8>,
-}
-
-// A tape with no mark, and room for all statements that a script can have.
-fn new_tape(alloc: Global) -> Result<Tape, Memory>
-    ensures marks { IfOk result (λ tape. tape.marks ≡ []) }
-    ensures room { IfOk result (λ tape. tape.room ≡ 4096) }
+// What a desk of a script has of its own before anything is logged: the sites of its strings, a tape with room for all
+// statements that a script can have, and the buffers for a message and a frame.
+fn prepare(alloc: Global, script: &Script) -> Result<(Sites, Tape, Vec<u8>, Vec<u8>), Memory>
+    ensures sites { IfOk result (λ s. HasSites script.now s.0) }
+    ensures marks { IfOk result (λ s. s.1.marks ≡ []) }
+    ensures room { IfOk result (λ s. s.1.room ≡ 4096) }
+    ensures message { IfOk result (λ s. length s.2.items ≡ 2000) }
+    ensures frame { IfOk result (λ s. length s.3.items ≡ 2288) }
 {
     let mut tape = Tape::new(alloc);
     tape.reserve(STATEMENTS)?;
-    Ok(tape)
-}
-
-// The buffers for a message and a frame.
-fn buffers(alloc: Global) -> Result<(Vec<u8>, Vec<u8>), Memory>
-    ensures message { IfOk result (λ b. length b.0.items ≡ 2000) }
-    ensures frame { IfOk result (λ b. length b.1.items ≡ 2288) }
-{
     let message = vec![in alloc; 0u8; MESSAGE_SIZE]?;
     let frame = vec![in alloc; 0u8; FRAME_SIZE]?;
-    Ok((message, frame))
-}
-
-// What a desk of a script has before anything is logged.
-fn prepare(alloc: Global, script: &Script) -> Result<Stores, Memory>
-    ensures sites { IfOk result (λ s. HasSites script.now s.sites) }
-    ensures marks { IfOk result (λ s. s.tape.marks ≡ []) }
-    ensures room { IfOk result (λ s. s.tape.room ≡ 4096) }
-    ensures message { IfOk result (λ s. length s.message.items ≡ 2000) }
-    ensures frame { IfOk result (λ s. length s.frame.items ≡ 2288) }
-{
-    let (message, frame) = buffers(alloc)?;
-    let tape = new_tape(alloc)?;
     let sites = Sites::of(alloc, script)?;
-    Ok(Stores {
-        sites,
-        tape,
-        message,
-        frame,
-    })
+    Ok((sites, tape, message, frame))
 }
 
 impl<U: UpEnd, C: Clock> Desk<U, C> {
@@ -216,15 +185,15 @@ impl<U: UpEnd + Drop, C: Clock + Drop> Desk<U, C> {
         ensures up { IfOk result (λ desk. desk.up ≡ U.view up) }
         ensures kept { IfOk result (λ desk. IsKept desk) }
     {
-        let stores = prepare(alloc, &script)?;
+        let (sites, tape, message, frame) = prepare(alloc, &script)?;
         Ok(Desk {
             script,
-            sites: stores.sites,
-            tape: stores.tape,
+            sites,
+            tape,
             places: [0; 8],
             stamp,
-            message: stores.message,
-            frame: stores.frame,
+            message,
+            frame,
             up,
         })
     }
@@ -239,13 +208,9 @@ impl<U: UpEnd + Drop, C: Clock + Drop> Desk<U, C> {
     {
         let Desk {
             script,
-            sites: _,
             tape,
-            places: _,
-            stamp: _,
-            message: _,
-            frame: _,
             up,
+            ..
         } = self;
         (tape, up, script)
     }
