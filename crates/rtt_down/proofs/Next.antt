@@ -1,6 +1,6 @@
 -- One turn more.
 use Rattle.std.proofs.Common.{◌≡◌, ℕ, zero, suc, ◌+◌, ◌<◌, ◌≤◌, List, [], ◌∷◌, ◌++◌, Bool, true, false, ◌==◌, length, length-append, refl, sym, ap, ◌∙◌, subst, inl, inr, append_assoc, append-nil, arith}
-use Rattle.std.specs.Prelude.{if◌then◌else◌, slice_index_or, slice_set, slice_get, ◌⊎◌, Option, Some, None, replicate}
+use Rattle.std.specs.Prelude.{if◌then◌else◌, slice_index_or, slice_set, slice_get, ◌⊎◌, Option, Some, None}
 use Rattle.std.specs.Option.{option_to_list}
 use Rattle.std.proofs.lemmas.Bool.{eqb-true}
 use Rattle.std.proofs.lemmas.List.{length-set}
@@ -213,32 +213,4 @@ steers_next s got taken reel now places places' line line' seen seen' floor floo
       heard = heard;
       room = omega (arith, len, room, k.room);
       few = omega (arith, len, few, k.few, length-append got taken);
-    }
-
--- ---- no turn yet
-
-zeros : (n w : ℕ) → ◌≡◌ {A = ℕ} (slice_index_or (replicate n 0) w 0) 0
-zeros zero w = refl
-zeros (suc n) zero = refl
-zeros (suc n) (suc w) = zeros n w
-
-steered_first : (s : Script) → IsSteered s [] []
-steered_first s = record {
-  order = λ w. tt;
-  within = λ w. omega arith;
-  rises = tt;
-  all_seen = refl;
-  each = λ before after t e. absurd (none_before before t after e);
-}
-
-pub steers_first : (s : Script) (reel : Reel) (line : Option (List ℕ)) (seen : ℕ) (floor : Level) → reel.turns ≡ [] → reel.room ≡ 4096 → Heard [] line seen floor
-    → Steers s [] reel (0 ∷ 0 ∷ 0 ∷ 0 ∷ 0 ∷ 0 ∷ 0 ∷ 0 ∷ []) line seen floor
-steers_first s reel line seen floor none room heard =
-    let len : length reel.turns ≡ 0 = ap length none in
-    record {
-      steered = subst (λ (l : List Turn). IsSteered s l []) (sym none) (steered_first s);
-      counts = (refl, λ w lt. zeros 8 w ∙ sym (ap (turns_of w) none));
-      heard = heard;
-      room = omega (arith, len, room);
-      few = omega arith;
     }

@@ -1,44 +1,12 @@
 -- How the logic stores what contracts see of a bridge: as the tuple of its parts.
-use Rattle.std.specs.Prelude.{ℕ, Bool, List, refl}
-use Rattle.std.specs.Coded.{Coded, code_by, coded×, coded_list, coded_ℕ, coded_bool}
+use Rattle.std.specs.Prelude.{refl}
+use Rattle.std.specs.Coded.{Coded, code_by, coded×}
 use Rattle.defmt_script.specs.Codes.{coded_script}
 use Rattle.defmt_script.specs.Script.{Script}
 use Rattle.rtt_down.specs.Kept.{Sheet}
 use Rattle.rtt_down.specs.Reel.{Reel, coded_reel}
+use Rattle.rtt_ring.specs.Codes.{coded_down, coded_up}
 use Rattle.rtt_ring.specs.Views.{Down, Up}
-
-abbrev coded_bytes : Coded (List ℕ)
-coded_bytes = coded_list coded_ℕ
-
-abbrev coded_up : Coded Up
-coded_up = code_by (List ℕ × (ℕ × (List ℕ × (List ℕ × (ℕ × (ℕ × (ℕ × Bool)))))))
-    (coded× coded_bytes (coded× coded_ℕ (coded× coded_bytes (coded× coded_bytes (coded× coded_ℕ
-    (coded× coded_ℕ (coded× coded_ℕ coded_bool)))))))
-    (λ u. (u.split, (u.size, (u.sent, (u.staged, (u.room, (u.looks, (u.freed, u.tells))))))))
-    (λ p. record {
-      split = p.0;
-      size = p.1.0;
-      sent = p.1.1.0;
-      staged = p.1.1.1.0;
-      room = p.1.1.1.1.0;
-      looks = p.1.1.1.1.1.0;
-      freed = p.1.1.1.1.1.1.0;
-      tells = p.1.1.1.1.1.1.1;
-    })
-    (λ _. refl)
-
-abbrev coded_down : Coded Down
-coded_down = code_by (List ℕ × (ℕ × (List ℕ × (ℕ × ℕ))))
-    (coded× coded_bytes (coded× coded_ℕ (coded× coded_bytes (coded× coded_ℕ coded_ℕ))))
-    (λ d. (d.split, (d.size, (d.got, (d.found, d.looks)))))
-    (λ p. record {
-      split = p.0;
-      size = p.1.0;
-      got = p.1.1.0;
-      found = p.1.1.1.0;
-      looks = p.1.1.1.1;
-    })
-    (λ _. refl)
 
 abbrev pub coded_sheet : Coded Sheet
 coded_sheet = code_by (Script × (Reel × (Up × Down)))
