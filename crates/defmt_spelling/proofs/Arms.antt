@@ -206,12 +206,6 @@ module _ (names : NameMap) (t : Map) (left weight sum : ℕ) (slot : Slot) (name
 -- ---- an element
 
 module _ (names : NameMap) (t : Map) (left weight sum : ℕ) (form : Parsed) where
-  pub item_heavy : (variant : Option ℕ) (vs : Vals) (c : ℕ) → add weight sum ≡ Err c → item_scan t left form weight sum variant vs ≡ Err c
-  item_heavy variant vs c h = rw h refl
-
-  pub item_nowhere : (variant : Option ℕ) (vs : Vals) (s c : ℕ) → add weight sum ≡ Ok s → pick form variant ≡ Err c → item_scan t left form weight sum variant vs ≡ Err c
-  item_nowhere variant vs s c h k = rw (h, k) refl
-
   pub item_values : (variant : Option ℕ) (ss : Shapes) (s : ℕ) (ps : List Piece) (r : Result ℕ ℕ) → add weight sum ≡ Ok s → pick form variant ≡ Ok ps → scan_vals t left (places_of ps) weight s (meant_vals names t (places_of ps) ss) ≡ r
       → item_scan t left form weight sum variant (meant_inside names t form variant ss) ≡ r
   item_values variant ss s ps r h k e = rw (h, k) e

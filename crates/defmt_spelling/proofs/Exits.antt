@@ -6,11 +6,11 @@ use Rattle.defmt_intern.specs.Table.{Map}
 use Rattle.defmt_intern.specs.declared.parsed.Parsed.{Parsed}
 use Rattle.defmt_shapes.specs.Shape as shapes
 use Rattle.defmt_shapes.specs.Shape.{Shapes, Items, SpellsItems, StartsThere}
-use Rattle.defmt_spelling.proofs.Arms.{node_kind, node_entry, node_inside, node_value, list_kind, list_entry, list_inside, list_value, item_heavy, item_nowhere, item_values, inside_there}
+use Rattle.defmt_spelling.proofs.Arms.{node_kind, node_entry, node_inside, node_value, list_kind, list_entry, list_inside, list_value, item_values, inside_there}
 use Rattle.defmt_spelling.specs.Leaves.{sum_or}
 use Rattle.defmt_spelling.specs.Meaning.{index_of, meant_val, meant_vals, meant_elems}
 use Rattle.defmt_spelling.specs.Names.{NameMap}
-use Rattle.defmt_spelling.specs.Reading.{GivesValue, GivesValues, GivesElems, GivesItem, GivesForm, GivesVariant, GivesSum, Tests, form_scan, item_scan, meant_inside}
+use Rattle.defmt_spelling.specs.Reading.{GivesValue, GivesValues, GivesElems, GivesItem, GivesForm, Tests, form_scan, item_scan, meant_inside}
 use Rattle.defmt_spelling.specs.declared.fault.ArgFault.{ArgFault}
 use Rattle.defmt_spelling.specs.declared.fault.ArgFault.TheVariants.{Refused, Memory}
 use Rattle.defmt_values.specs.Entries.{places_of}
@@ -79,14 +79,6 @@ module _ (names : NameMap) (t : Map) (left weight sum : ℕ) (slot : Slot) (name
 module _ (names : NameMap) (t : Map) (left weight sum : ℕ) (form : Parsed) (variant : Option ℕ) (ss : Shapes) where
   abbrev pub ItemFault : ArgFault → Type 0
   ItemFault fault = GivesItem (Err fault) variant (meant_inside names t form variant ss) (item_scan t left form weight sum variant (meant_inside names t form variant ss))
-
-  pub item_heavy_exit : (fault : ArgFault) → GivesSum (add weight sum) (Err fault) → ItemFault fault
-  item_heavy_exit (Refused c) h = item_heavy names t left weight sum form variant (meant_inside names t form variant ss) c h
-  item_heavy_exit Memory h = tt
-
-  pub item_nowhere_exit : (fault : ArgFault) (s : ℕ) → add weight sum ≡ Ok s → GivesVariant (pick form variant) variant (Err fault) → ItemFault fault
-  item_nowhere_exit (Refused c) s k h = item_nowhere names t left weight sum form variant (meant_inside names t form variant ss) s c k h
-  item_nowhere_exit Memory s k h = tt
 
   pub item_values_exit : (fault : ArgFault) (s : ℕ) (ps : List Piece) → add weight sum ≡ Ok s → pick form variant ≡ Ok ps
       → GivesValues (Err fault) (meant_vals names t (places_of ps) ss) (scan_vals t left (places_of ps) weight s (meant_vals names t (places_of ps) ss)) → ItemFault fault

@@ -5,6 +5,7 @@ mod Firsts
 mod Fronts
 mod LeafLaws
 mod Loops
+mod ItemLoops
 mod NameLaws
 mod PrintLaws
 mod QuickLaws

@@ -1,12 +1,9 @@
 -- What is written, one piece after another.
-use Rattle.std.proofs.Common.{◌≡◌, ◌≤◌, ◌+◌, ℕ, Bool, false, List, [], ◌∷◌, ◌++◌, map, sym, ap, subst, ◌∙◌, arith, append_assoc}
+use Rattle.std.proofs.Common.{◌≡◌, ◌≤◌, ℕ, Bool, false, List, [], ◌∷◌, ◌++◌, map, sym, ap, subst, ◌∙◌, arith, append_assoc}
 use Rattle.std.proofs.lemmas.List.{append-nil}
-use Rattle.defmt_grammar.specs.declared.hint.Base.TheVariants.{Hex}
-use Rattle.defmt_grammar.specs.declared.hint.Hint.TheVariants.{Radix}
-use Rattle.defmt_hints.specs.Printed.{printed_uint}
 use Rattle.defmt_spelling.specs.Names.{NameMap}
-use Rattle.defmt_spelling.specs.Printed.{hex_text, gap, item_mark, printed_val, inside_text, vals_text, elems_text}
-use Rattle.defmt_values.specs.Plain.{val_size, vals_size, elems_size}
+use Rattle.defmt_spelling.specs.Printed.{gap, item_mark, printed_val, inside_text, vals_text, elems_text}
+use Rattle.defmt_values.specs.Plain.{vals_size, elems_size}
 use Rattle.defmt_values.specs.View.{plain, vals_of, elems_of}
 use Rattle.defmt_values.specs.declared.value.Item.{Item}
 use Rattle.defmt_values.specs.declared.value.Value.{Value}
@@ -17,14 +14,6 @@ one_piece old new piece later total e h = ap (λ (x : List ℕ). x ++ later) e �
 
 two_pieces : (old one two first second later total : List ℕ) → one ≡ old ++ first → two ≡ one ++ second → old ++ (first ++ (second ++ later)) ≡ total → two ++ later ≡ total
 two_pieces old one two first second later total e f h = one_piece one two second later total f (one_piece old one first (second ++ later) total e h)
-
-pub hex_more : (bytes more old new total : List ℕ) (b : ℕ) → bytes ≡ b ∷ more → new ≡ old ++ printed_uint b (Radix Hex false 2) → old ++ hex_text bytes ≡ total → new ++ hex_text more ≡ total
-unfolding hex_text
-hex_more bytes more old new total b e f h = one_piece old new (printed_uint b (Radix Hex false 2)) (hex_text more) total f (subst (λ (x : List ℕ). old ++ hex_text x ≡ total) e h)
-
-pub hex_end : (bytes old total : List ℕ) → bytes ≡ [] → old ++ hex_text bytes ≡ total → old ≡ total
-unfolding hex_text
-hex_end bytes old total e h = sym (append-nil old) ∙ subst (λ (x : List ℕ). old ++ hex_text x ≡ total) e h
 
 module _ (names : NameMap) where
   pub vals_more : (values more : List Value) (v : Value) (first : Bool) (old one two total : List ℕ) → values ≡ v ∷ more → one ≡ old ++ gap first → two ≡ one ++ printed_val names (plain v)
@@ -47,15 +36,9 @@ module _ (names : NameMap) where
   unfolding printed_val
   elems_end items first old total e h = sym (append-nil old) ∙ subst (λ (x : List Item). old ++ elems_text names first (elems_of x) ≡ total) e h
 
--- what is left is no larger, and neither is its first
+-- what is left is no larger
 pub others_smaller : (values more : List Value) (v : Value) (n : ℕ) → values ≡ v ∷ more → vals_size (vals_of (map plain values)) ≤ n → vals_size (vals_of (map plain more)) ≤ n
 others_smaller values more v n e h = let k = subst (λ (x : List Value). vals_size (vals_of (map plain x)) ≤ n) e h in omega (arith, k)
 
-pub first_smaller : (values more : List Value) (v : Value) (n : ℕ) → values ≡ v ∷ more → vals_size (vals_of (map plain values)) ≤ n → val_size (plain v) ≤ n
-first_smaller values more v n e h = let k = subst (λ (x : List Value). vals_size (vals_of (map plain x)) ≤ n) e h in omega (arith, k)
-
 pub items_smaller : (items more : List Item) (i : Item) (n : ℕ) → items ≡ i ∷ more → elems_size (elems_of items) ≤ n → elems_size (elems_of more) ≤ n
 items_smaller items more i n e h = let k = subst (λ (x : List Item). elems_size (elems_of x) ≤ n) e h in omega (arith, k)
-
-pub item_smaller : (items more : List Item) (i : Item) (n : ℕ) → items ≡ i ∷ more → elems_size (elems_of items) ≤ n → vals_size i.args + 1 ≤ n
-item_smaller items more i n e h = let k = subst (λ (x : List Item). elems_size (elems_of x) ≤ n) e h in omega (arith, k)

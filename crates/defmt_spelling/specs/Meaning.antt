@@ -47,17 +47,22 @@ unfoldable mutual
   meant_val names t slot (shapes.interned name) = istr (index_of names name)
   meant_val names t slot (shapes.bytes s) = bytes s
   meant_val names t slot (shapes.call name variant ss) =
-      format (index_of names name) variant (meant_vals names t (node_places t (index_of names name) variant) ss)
+      format (index_of names name) variant
+          (meant_vals names t (node_places t (index_of names name) variant) ss)
   meant_val names t slot shapes.empty = seq None no_elems
-  meant_val names t slot (shapes.sequence name items) = seq (Some (index_of names name)) (meant_elems names t (index_of names name) items)
+  meant_val names t slot (shapes.sequence name items) =
+      seq (Some (index_of names name)) (meant_elems names t (index_of names name) items)
 
   -- values for places; one beyond the last place counts, whatever it is
   pub meant_vals : NameMap → Map → List Place → Shapes → Vals
   meant_vals names t places no_shapes = no_vals
   meant_vals names t [] (shape s ss) = val (flag true) (meant_vals names t [] ss)
-  meant_vals names t (p ∷ ps) (shape s ss) = val (meant_val names t p.slot s) (meant_vals names t ps ss)
+  meant_vals names t (p ∷ ps) (shape s ss) =
+      val (meant_val names t p.slot s) (meant_vals names t ps ss)
 
   -- the elements of a list of an entry
   pub meant_elems : NameMap → Map → ℕ → Items → Elems
   meant_elems names t index no_items = no_elems
-  meant_elems names t index (item variant ss more) = elem variant (meant_vals names t (node_places t index variant) ss) (meant_elems names t index more)
+  meant_elems names t index (item variant ss more) =
+      elem variant (meant_vals names t (node_places t index variant) ss)
+          (meant_elems names t index more)

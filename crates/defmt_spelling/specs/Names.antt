@@ -1,31 +1,25 @@
 -- Names of entries: a finite map from names to indexes.
-use Rattle.std.specs.Prelude.{◌≡◌, ◌==◌, ℕ, List, [], ◌∷◌, Option, Some, None, Vec, true, if◌then◌else◌}
-use Rattle.std.specs.Ordering.{nat_cmp}
+use Rattle.std.specs.Prelude.{◌==◌, ℕ, Bool, true, List, [], ◌∷◌, Option, Some, None, String, string_bytes, if◌then◌else◌}
+use Rattle.std.specs.Ordering.{is_lt, nat_cmp}
 use Rattle.std.specs.Cmp.Lexicographic.{slice_cmp}
 use Rattle.std.specs.FinMap as map
-use Rattle.std.specs.List.{AllByRecursion}
-use Rattle.std.specs.Str.{is_utf8}
 use Rattle.std.specs.declared.alloc.Global.{Global}
 
 -- a name is the list of its bytes, and names have the order of their bytes
 abbrev pub NameMap : Type 0
 NameMap = map.FinMap (slice_cmp nat_cmp) ℕ
 
--- what is kept: the bytes of each name, and its index
+-- what is kept: each name, and its index
 abbrev pub Kept : Type 0
-Kept = List (Vec ℕ Global × ℕ)
+Kept = List (String Global × ℕ)
 
 abbrev pub pairs : Kept → List (List ℕ × ℕ)
 pairs [] = []
-pairs (p ∷ ps) = (p.0.items, p.1) ∷ pairs ps
+pairs (p ∷ ps) = (string_bytes p.0, p.1) ∷ pairs ps
 
 -- the map of what is kept
 abbrev pub names_of : Kept → NameMap
 names_of kept = map.from_entries (pairs kept)
-
--- every name is a text
-abbrev pub AreTexts : Kept → Type 0
-AreTexts kept = AllByRecursion (λ p. is_utf8 p.0.items ≡ true) kept
 
 abbrev pub first_named : List (List ℕ × ℕ) → ℕ → Option (List ℕ)
 first_named [] index = None
@@ -34,3 +28,10 @@ first_named (p ∷ ps) index = if p.1 == index then Some p.0 else first_named ps
 -- the name of an index; of several the least, since the entries stand in the order of the names
 abbrev pub name_of : NameMap → ℕ → Option (List ℕ)
 name_of names index = first_named (map.entries names) index
+
+-- ---- for private clauses
+
+-- the name is less than the least so far
+abbrev pub comes_before : List ℕ → Option (List ℕ) → Bool
+comes_before name None = true
+comes_before name (Some least) = is_lt (slice_cmp nat_cmp name least)

@@ -42,8 +42,13 @@ unfoldable mutual
   printed_val names (istr index) = codes "@" ++ name_text names index
   printed_val names (bytes s) = codes "#" ++ hex_text s
   printed_val names (bits n) = printed_uint n Plain
-  printed_val names (format index variant vs) = name_text names index ++ (call_mark variant ++ (codes "(" ++ (vals_text names true vs ++ codes ")")))
-  printed_val names (seq index es) = if elems_empty es then codes "[]" else name_text names (index_or index) ++ (codes "[" ++ (elems_text names true es ++ codes "]"))
+  printed_val names (format index variant vs) =
+      name_text names index
+      ++ (call_mark variant ++ (codes "(" ++ (vals_text names true vs ++ codes ")")))
+  printed_val names (seq index es) =
+      if elems_empty es then codes "[]"
+      else name_text names (index_or index)
+          ++ (codes "[" ++ (elems_text names true es ++ codes "]"))
 
   pub vals_text : NameMap → Bool → Vals → List ℕ
   vals_text names first no_vals = []
@@ -51,14 +56,19 @@ unfoldable mutual
 
   pub elems_text : NameMap → Bool → Elems → List ℕ
   elems_text names first no_elems = []
-  elems_text names first (elem variant vs es) = gap first ++ ((item_mark variant ++ (codes "(" ++ (vals_text names true vs ++ codes ")"))) ++ elems_text names false es)
+  elems_text names first (elem variant vs es) =
+      gap first
+      ++ ((item_mark variant ++ (codes "(" ++ (vals_text names true vs ++ codes ")")))
+      ++ elems_text names false es)
 
 -- values in brackets
 abbrev pub inside_text : NameMap → Vals → List ℕ
 inside_text names vs = codes "(" ++ (vals_text names true vs ++ codes ")")
 
 abbrev pub printed_list : NameMap → Option ℕ → Elems → List ℕ
-printed_list names index es = if elems_empty es then codes "[]" else name_text names (index_or index) ++ (codes "[" ++ (elems_text names true es ++ codes "]"))
+printed_list names index es =
+    if elems_empty es then codes "[]"
+    else name_text names (index_or index) ++ (codes "[" ++ (elems_text names true es ++ codes "]"))
 
 abbrev pub printed_arguments : NameMap → Vals → List ℕ
 printed_arguments names vs = vals_text names true vs

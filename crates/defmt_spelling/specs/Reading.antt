@@ -83,7 +83,8 @@ meant_inside names t form variant ss = meant_vals names t (places_in (pick form 
 -- ---- values in a text
 
 -- the text spells these values of the places, which fit; their weights lead from one sum to the next
-pub record Means (names : NameMap) (t : Map) (left weight : ℕ) (places : List Place) (sum : ℕ) (text : List ℕ) (vs : Vals) (next : ℕ) : Type 0 where
+pub record Means (names : NameMap) (t : Map) (left weight : ℕ) (places : List Place) (sum : ℕ)
+    (text : List ℕ) (vs : Vals) (next : ℕ) : Type 0 where
   pub shapes : Shapes
   pub spelled : SpellsShapes text shapes
   pub meant : meant_vals names t places shapes ≡ vs
@@ -91,7 +92,8 @@ pub record Means (names : NameMap) (t : Map) (left weight : ℕ) (places : List 
 
 -- the sum of the weights with that of a value of a place, or the first cause for which the value doesn't fit there
 abbrev pub judged : NameMap → Map → ℕ → ℕ → Place → ℕ → Shape → Result ℕ ℕ
-judged names t left weight p sum s = scan_val t left p.slot (p.uses * weight) sum (meant_val names t p.slot s)
+judged names t left weight p sum s =
+    scan_val t left p.slot (p.uses * weight) sum (meant_val names t p.slot s)
 
 -- the first fault, with the sum of the weights taken along from value to value
 abbrev pub ScannedFault : NameMap → Map → ℕ → ℕ → List Place → ℕ → List ℕ → ℕ → Type 0
@@ -101,15 +103,20 @@ ScannedFault names t left weight (p ∷ ps) sum text cause =
     ⊎ ((StartsThere (skip_spaces text) × NoValue (skip_spaces text) × (cause ≡ 1))
     ⊎ ((s : Shape) × (rest : List ℕ) × HeadShape (skip_spaces text) s rest
     × ((judged names t left weight p sum s ≡ Err cause)
-    ⊎ ((next : ℕ) × (judged names t left weight p sum s ≡ Ok next) × ScannedFault names t left weight ps next rest cause))))
+    ⊎ ((next : ℕ) × (judged names t left weight p sum s ≡ Ok next)
+        × ScannedFault names t left weight ps next rest cause))))
 
-abbrev pub ReadsValues : NameMap → Map → ℕ → ℕ → List Place → ℕ → List ℕ → Result (Vals × ℕ) ArgFault → Type 0
-ReadsValues names t left weight places sum text (Ok r) = Means names t left weight places sum text r.0 r.1
-ReadsValues names t left weight places sum text (Err (Refused c)) = ScannedFault names t left weight places sum text c
+abbrev pub ReadsValues : NameMap → Map → ℕ → ℕ → List Place → ℕ → List ℕ
+    → Result (Vals × ℕ) ArgFault → Type 0
+ReadsValues names t left weight places sum text (Ok r) =
+    Means names t left weight places sum text r.0 r.1
+ReadsValues names t left weight places sum text (Err (Refused c)) =
+    ScannedFault names t left weight places sum text c
 ReadsValues names t left weight places sum text (Err Memory) = Unit {0}
 
 -- the first value of a text, what follows it, and the sum behind it
-pub record Front (names : NameMap) (t : Map) (left : ℕ) (slot : Slot) (weight sum : ℕ) (text : List ℕ) (v : Val) (next : ℕ) (rest : List ℕ) : Type 0 where
+pub record Front (names : NameMap) (t : Map) (left : ℕ) (slot : Slot) (weight sum : ℕ)
+    (text : List ℕ) (v : Val) (next : ℕ) (rest : List ℕ) : Type 0 where
   pub shape : Shape
   pub head : HeadShape (skip_spaces text) shape rest
   pub meant : meant_val names t slot shape ≡ v
@@ -120,11 +127,15 @@ abbrev pub FrontFault : NameMap → Map → ℕ → Slot → ℕ → ℕ → Lis
 FrontFault names t left slot weight sum text cause =
     ((skip_spaces text ≡ []) × (cause ≡ 2))
     ⊎ ((StartsThere (skip_spaces text) × NoValue (skip_spaces text) × (cause ≡ 1))
-    ⊎ ((s : Shape) × (rest : List ℕ) × HeadShape (skip_spaces text) s rest × (scan_val t left slot weight sum (meant_val names t slot s) ≡ Err cause)))
+    ⊎ ((s : Shape) × (rest : List ℕ) × HeadShape (skip_spaces text) s rest
+        × (scan_val t left slot weight sum (meant_val names t slot s) ≡ Err cause)))
 
-abbrev pub ReadsFront : NameMap → Map → ℕ → Slot → ℕ → ℕ → List ℕ → Result (Value × ℕ × Bor (List ℕ)) ArgFault → Type 0
-ReadsFront names t left slot weight sum text (Ok r) = Front names t left slot weight sum text (plain r.0) r.1 r.2.now
-ReadsFront names t left slot weight sum text (Err (Refused c)) = FrontFault names t left slot weight sum text c
+abbrev pub ReadsFront : NameMap → Map → ℕ → Slot → ℕ → ℕ → List ℕ
+    → Result (Value × ℕ × Bor (List ℕ)) ArgFault → Type 0
+ReadsFront names t left slot weight sum text (Ok r) =
+    Front names t left slot weight sum text (plain r.0) r.1 r.2.now
+ReadsFront names t left slot weight sum text (Err (Refused c)) =
+    FrontFault names t left slot weight sum text c
 ReadsFront names t left slot weight sum text (Err Memory) = Unit {0}
 
 -- ---- answers
@@ -157,12 +168,14 @@ GivesIndex names name (Err Memory) = ⊥
 
 -- the index of a name and the form of its entry
 abbrev pub GivesForm : NameMap → Map → ℕ → List ℕ → Result (ℕ × Bor Parsed) ArgFault → Type 0
-GivesForm names t left name (Ok r) = (index_of names name ≡ r.0) × (form_scan t left (index_of names name) ≡ Ok r.1.now)
+GivesForm names t left name (Ok r) =
+    (index_of names name ≡ r.0) × (form_scan t left (index_of names name) ≡ Ok r.1.now)
 GivesForm names t left name (Err (Refused c)) = form_scan t left (index_of names name) ≡ Err c
 GivesForm names t left name (Err Memory) = ⊥
 
 -- the pieces of a spelled variant, and its number of one byte
-abbrev pub GivesVariant : Result (List Piece) ℕ → Option ℕ → Result (Bor (List Piece) × Option ℕ) ArgFault → Type 0
+abbrev pub GivesVariant : Result (List Piece) ℕ → Option ℕ
+    → Result (Bor (List Piece) × Option ℕ) ArgFault → Type 0
 GivesVariant picked variant (Ok r) = (picked ≡ Ok r.0.now) × (r.1 ≡ variant)
 GivesVariant picked variant (Err (Refused c)) = picked ≡ Err c
 GivesVariant picked variant (Err Memory) = ⊥

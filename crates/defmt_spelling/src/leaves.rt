@@ -1,21 +1,21 @@
 //! Values without values inside.
-ghost use Rattle.std.specs.Prelude.{◌≡◌, ◌<◌, ◌≤◌, ◌+◌, ◌^◌, ◌%◌, ◌==◌, ◌&&◌, nat_lt, ℕ, pos, List, None, length, MatchOption};
+ghost use Rattle.std.specs.Prelude.{◌≡◌, ◌<◌, ◌≤◌, ◌+◌, ◌^◌, ◌%◌, ◌==◌, ◌&&◌, nat_lt, ℕ, pos, List, None, length, MatchOption, Result};
 ghost use Rattle.defmt_grammar.specs.Sizes.{is_signed};
 ghost use Rattle.defmt_grammar.specs.Slots.{IsSound};
-ghost use Rattle.defmt_shapes.specs.Shape.{SpellsQuoted, SpellsBytes};
-ghost use Rattle.defmt_shapes.specs.Spelling.{Holds};
-ghost use Rattle.defmt_spelling.specs.Leaves.{decimal_cause, hexadecimal_cause, empty_cause};
-ghost use Rattle.defmt_spelling.specs.Meaning.{index_of, decimal_at, hexadecimal_at, negated};
-ghost use Rattle.defmt_spelling.specs.Reading.{GivesLeaf, GivesIndex, Tests};
+ghost use Rattle.defmt_shapes.specs.Shape.{Shape as AnyShape, SpellsQuoted, SpellsBytes};
+ghost use Rattle.defmt_shapes.specs.Spelling.{Holds, Tells};
+ghost use Rattle.defmt_spelling.specs.Leaves.{decimal_cause, hexadecimal_cause, empty_cause, sum_or};
+ghost use Rattle.defmt_spelling.specs.Meaning.{index_of, decimal_at, hexadecimal_at, meant_val, negated};
+ghost use Rattle.defmt_spelling.specs.Reading.{GivesLeaf, GivesIndex, GivesValue, IsLeaf, SmallValue, Tests};
 ghost use Rattle.defmt_values.specs.Entries.{look};
-ghost use Rattle.defmt_values.specs.Plain.{uint, int, flag, char, str, istr, bytes, bits, seq, no_elems};
-ghost use Rattle.defmt_values.specs.Scan.{uint_cause, int_cause, flag_cause, char_cause, str_cause, istr_cause, bytes_cause, bits_cause, interned_of};
+ghost use Rattle.defmt_values.specs.Plain.{Val, uint, int, flag, char, str, istr, bytes, bits, seq, no_elems};
+ghost use Rattle.defmt_values.specs.Scan.{uint_cause, int_cause, flag_cause, char_cause, str_cause, istr_cause, bytes_cause, bits_cause, interned_of, scan_val};
 
 use crate::fault::{ArgFault, Cause};
 use crate::names::Names;
 use defmt_grammar::{Kind, Slot};
 use defmt_intern::{Table, Tag};
-use defmt_shapes::{Number, bytes_of, unescape};
+use defmt_shapes::{Number, Spelling, bytes_of, unescape};
 use defmt_values::{
     Items, Seq, Value, is_below, is_multiple, is_of_bits, is_signed, look_up, size_bits,
 };
@@ -76,7 +76,8 @@ fn negated(number: Number) -> Option<i128>
 
 /// A number of a signed kind behind `-`.
 pub fn negative_value(slot: Slot, number: Number) -> Result<Value, ArgFault>
-    ensures { (n : ℕ) → Holds number n → GivesLeaf result (int (negated n)) (int_cause slot (negated n)) }
+    ensures { (n : ℕ) → Holds number n → GivesLeaf result (int (negated n))
+        (int_cause slot (negated n)) }
 {
     match slot {
         Slot::One(Kind::Int(size)) => match negated(number) {
@@ -118,7 +119,8 @@ fn bits_value(slot: Slot, number: Number) -> Result<Value, ArgFault>
 /// A number of decimal digits.
 pub fn decimal_value(slot: Slot, number: Number) -> Result<Value, ArgFault>
     requires { IsSound slot }
-    ensures { (n : ℕ) → Holds number n → GivesLeaf result (decimal_at slot n) (decimal_cause slot n) }
+    ensures { (n : ℕ) → Holds number n → GivesLeaf result (decimal_at slot n)
+        (decimal_cause slot n) }
 {
     match slot {
         Slot::One(Kind::Int(_)) => positive_value(slot, number),
@@ -127,10 +129,11 @@ pub fn decimal_value(slot: Slot, number: Number) -> Result<Value, ArgFault>
     }
 }
 
-/// A number of hexadecimal digits.
-pub fn hexadecimal_value(slot: Slot, number: Number) -> Result<Value, ArgFault>
+// A number of hexadecimal digits.
+fn hexadecimal_value(slot: Slot, number: Number) -> Result<Value, ArgFault>
     requires { IsSound slot }
-    ensures { (n : ℕ) → Holds number n → GivesLeaf result (hexadecimal_at slot n) (hexadecimal_cause slot n) }
+    ensures { (n : ℕ) → Holds number n → GivesLeaf result (hexadecimal_at slot n)
+        (hexadecimal_cause slot n) }
 {
     match slot {
         Slot::Bits { .. } => bits_value(slot, number),
@@ -138,8 +141,8 @@ pub fn hexadecimal_value(slot: Slot, number: Number) -> Result<Value, ArgFault>
     }
 }
 
-/// A truth value.
-pub fn flag_value(slot: Slot, value: bool) -> Result<Value, ArgFault>
+// A truth value.
+fn flag_value(slot: Slot, value: bool) -> Result<Value, ArgFault>
     ensures { GivesLeaf result (flag value) (flag_cause slot) }
 {
     match slot {
@@ -148,8 +151,8 @@ pub fn flag_value(slot: Slot, value: bool) -> Result<Value, ArgFault>
     }
 }
 
-/// A character.
-pub fn char_value(slot: Slot, character: char) -> Result<Value, ArgFault>
+// A character.
+fn char_value(slot: Slot, character: char) -> Result<Value, ArgFault>
     ensures { GivesLeaf result (char character) (char_cause slot) }
 {
     match slot {
@@ -167,8 +170,8 @@ fn check_str(slot: Slot) -> Result<(), ArgFault>
     }
 }
 
-/// A text, from what stands between its quotes.
-pub fn str_value(alloc: Global, slot: Slot, inside: &str) -> Result<Value, ArgFault>
+// A text, from what stands between its quotes.
+fn str_value(alloc: Global, slot: Slot, inside: &str) -> Result<Value, ArgFault>
     ensures { (s : List ℕ) → SpellsQuoted inside.now s → GivesLeaf result (str s) (str_cause slot) }
 {
     check_str(slot)?;
@@ -185,9 +188,10 @@ fn is_interned(table: &Table, index: u16) -> bool
     }
 }
 
-/// An interned text of this name.
-pub fn istr_value(names: &Names, table: &Table, slot: Slot, name: &str) -> Result<Value, ArgFault>
-    ensures { GivesLeaf result (istr (index_of names.now name.now)) (istr_cause table.now.entries slot (index_of names.now name.now)) }
+// An interned text of this name.
+fn istr_value(names: &Names, table: &Table, slot: Slot, name: &str) -> Result<Value, ArgFault>
+    ensures { GivesLeaf result (istr (index_of names.now name.now))
+        (istr_cause table.now.entries slot (index_of names.now name.now)) }
 {
     match slot {
         Slot::One(Kind::Istr) => {
@@ -202,9 +206,10 @@ pub fn istr_value(names: &Names, table: &Table, slot: Slot, name: &str) -> Resul
     }
 }
 
-/// Bytes, from their hexadecimal digits.
-pub fn bytes_value(alloc: Global, slot: Slot, digits: &str) -> Result<Value, ArgFault>
-    ensures { (s : List ℕ) → SpellsBytes digits.now s → GivesLeaf result (bytes s) (bytes_cause slot (length s)) }
+// Bytes, from their hexadecimal digits.
+fn bytes_value(alloc: Global, slot: Slot, digits: &str) -> Result<Value, ArgFault>
+    ensures { (s : List ℕ) → SpellsBytes digits.now s
+        → GivesLeaf result (bytes s) (bytes_cause slot (length s)) }
 {
     match slot {
         Slot::One(Kind::Bytes) => Ok(Value::Bytes(bytes_of(alloc, digits)?)),
@@ -220,8 +225,8 @@ pub fn bytes_value(alloc: Global, slot: Slot, digits: &str) -> Result<Value, Arg
     }
 }
 
-/// A list without elements.
-pub fn empty_value(alloc: Global, slot: Slot) -> Result<Value, ArgFault>
+// A list without elements.
+fn empty_value(alloc: Global, slot: Slot) -> Result<Value, ArgFault>
     ensures { GivesLeaf result (seq None no_elems) (empty_cause slot) }
 {
     match slot {
@@ -231,5 +236,48 @@ pub fn empty_value(alloc: Global, slot: Slot) -> Result<Value, ArgFault>
         })),
         Slot::One(Kind::FormatArray(_)) => Err(Cause::Range.into()),
         _ => Err(Cause::Kind.into()),
+    }
+}
+
+// A value without weight, and the sum in front of it.
+fn paired(leaf: Result<Value, ArgFault>, sum: usize) -> Result<(Value, usize), ArgFault>
+    requires { sum ≤ 8192 }
+    ensures value { (v : Val) (cause : Result (Unit {0}) ℕ) → GivesLeaf leaf v cause
+        → GivesValue result v (sum_or cause sum) }
+    ensures small { SmallValue result }
+{
+    let value = leaf?;
+    Ok((value, sum))
+}
+
+/// A value without values inside, and the sum in front of it.
+pub fn read_leaf(
+    alloc: Global,
+    names: &Names,
+    table: &Table,
+    slot: Slot,
+    sum: usize,
+    spelling: Spelling<'_>,
+) -> Result<(Value, usize), ArgFault>
+    requires sum { sum ≤ 8192 }
+    requires sound { IsSound slot }
+    requires leaf { IsLeaf spelling }
+    ensures value { (left weight : ℕ) (s : AnyShape) → Tells spelling.entry s
+        → GivesValue result (meant_val names.now table.now.entries slot s)
+        (scan_val table.now.entries left slot weight sum
+        (meant_val names.now table.now.entries slot s)) }
+    ensures small { SmallValue result }
+{
+    match spelling {
+        Spelling::Decimal(n) => paired(decimal_value(slot, n), sum),
+        Spelling::Hexadecimal(n) => paired(hexadecimal_value(slot, n), sum),
+        Spelling::Negative(n) => paired(negative_value(slot, n), sum),
+        Spelling::Flag(value) => paired(flag_value(slot, value), sum),
+        Spelling::Character(character) => paired(char_value(slot, character), sum),
+        Spelling::Quoted(inside) => paired(str_value(alloc, slot, inside), sum),
+        Spelling::Interned(name) => paired(istr_value(names, table, slot, name), sum),
+        Spelling::Bytes(digits) => paired(bytes_value(alloc, slot, digits), sum),
+        Spelling::Empty => paired(empty_value(alloc, slot), sum),
+        Spelling::Call { .. } | Spelling::Sequence { .. } => unreachable!(),
     }
 }

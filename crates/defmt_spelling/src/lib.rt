@@ -3,14 +3,16 @@
 //! For `{=u8}` the text ` 0x1f  ` reads as 31, and nothing is refused with cause 2 (script_tests, `arguments`).
 #![tactic(auto)]
 
+mod arguments;
 mod fault;
+mod forms;
 mod leaves;
 mod names;
 mod printing;
 mod quick;
 mod reading;
 
+pub use arguments::{one_reading, read_args};
 pub use fault::ArgFault;
 pub use names::Names;
 pub use printing::{print_args, reads_back};
-pub use reading::{one_reading, read_args};

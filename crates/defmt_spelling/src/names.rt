@@ -1,45 +1,40 @@
 //! Names of entries.
-ghost use Rattle.std.specs.Prelude.{◌≡◌, Some, true, Option, OnOk, OnErr};
+ghost use Rattle.std.specs.Prelude.{◌≡◌, OnOk, OnErr};
 ghost use Rattle.std.specs.Option.{option_copied};
 ghost use Rattle.std.specs.FinMap as map;
-ghost use Rattle.std.specs.Str.{is_utf8};
-ghost use Rattle.defmt_spelling.specs.Names.{name_of};
+ghost use Rattle.defmt_spelling.specs.Names.{comes_before, name_of};
 
 use dl_io::Memory;
 use std::alloc::Global;
-use std::collections::BTreeMap;
+use std::collections::HashMap;
 use std::marker::Model;
 
 /// Names, and the index that each stands for: a finite map from texts to indexes.
 #[derive(Drop)]
 pub struct Names {
     alloc: Global,
-    // By their bytes, which the tree compares faster than texts as short as names.
-    names: BTreeMap<Vec<u8>, u16>,
+    names: HashMap<String, u16>,
 }
 
 impl Model for Names {
     ghost use Rattle.std.specs.FinMap as map;
     ghost use Rattle.std.specs.Coded.{coded_list, coded_ℕ};
-    ghost use Rattle.defmt_spelling.specs.Names.{AreTexts, NameMap, names_of};
+    ghost use Rattle.defmt_spelling.specs.Names.{NameMap, names_of};
 
     ghost Value = { NameMap };
 
     ghost coded = { map.code (coded_list coded_ℕ) coded_ℕ };
 
     ghost view = { λ n. names_of n.names.entries };
-
-    ghost invariant = { λ n. AreTexts n.names.entries };
 }
 
-// The text of these bytes.
-fn text_of(bytes: &[u8]) -> Option<&str>
-    requires { is_utf8 bytes.now ≡ true }
-    ensures { option_copied result ≡ Some bytes.now }
+// Whether a name is less than the least so far.
+fn comes_before(name: &str, least: Option<&str>) -> bool
+    ensures { result ≡ comes_before name.now (option_copied least.entry) }
 {
-    match str::from_utf8(bytes) {
-        Ok(text) => Some(text),
-        Err(_) => None,
+    match least {
+        None => true,
+        Some(least) => name.cmp(&least).is_lt(),
     }
 }
 
@@ -50,7 +45,7 @@ impl Names {
     {
         Names {
             alloc,
-            names: BTreeMap::new(alloc),
+            names: HashMap::new(alloc),
         }
     }
 
@@ -59,7 +54,7 @@ impl Names {
         ensures ok { OnOk result (self.new ≡ map.insert self.old name.now index) }
         ensures err { OnErr result (self.new ≡ self.old) }
     {
-        let key = Vec::from_slice(self.alloc, name.as_bytes())?;
+        let key = String::from_str(self.alloc, name)?;
         self.names.insert(key, index)?;
         Ok(())
     }
@@ -68,7 +63,7 @@ impl Names {
     pub fn get(&self, name: &str) -> Option<u16>
         ensures { result ≡ map.get self.now name.now }
     {
-        self.names.get(name.as_bytes()).copied()
+        self.names.get(name).copied()
     }
 
     /// The name of an index, and of several the least in the order of bytes. `None` exactly where no name has the
@@ -76,11 +71,13 @@ impl Names {
     pub fn name_of(&self, index: u16) -> Option<&str>
         ensures { option_copied result ≡ name_of self.now index }
     {
+        let mut least = None;
         for (name, at) in self.names.iter() {
-            if *at == index {
-                return text_of(name.as_slice());
+            let name = name.as_str();
+            if *at == index && comes_before(name, least) {
+                least = Some(name);
             }
         }
-        None
+        least
     }
 }

@@ -106,7 +106,9 @@ fn push_value(out: &mut Text, names: &Names, value: &Value) -> Result<(), Memory
 
 #[cycle(print)]
 fn push_node(out: &mut Text, names: &Names, node: &Node) -> Result<(), Memory>
-    ensures { OnOk result (out.new ≡ out.old ++ (name_text names.now node.now.index ++ (call_mark node.now.variant ++ inside_text names.now node.now.args))) }
+    ensures { OnOk result (out.new ≡ out.old
+        ++ (name_text names.now node.now.index
+        ++ (call_mark node.now.variant ++ inside_text names.now node.now.args))) }
 {
     push_name(out, names, node.index)?;
     push_call_mark(out, node.variant)?;
@@ -141,7 +143,8 @@ fn push_values(out: &mut Text, names: &Names, args: &Args) -> Result<(), Memory>
 #[cycle(print)]
 #[tactic(auto, unfolding(crate::specs::Printed::printed_val))]
 fn push_list(out: &mut Text, names: &Names, seq: &Seq) -> Result<(), Memory>
-    ensures { OnOk result (out.new ≡ out.old ++ printed_list names.now seq.now.index seq.now.items) }
+    ensures { OnOk result (out.new ≡ out.old
+        ++ printed_list names.now seq.now.index seq.now.items) }
 {
     if seq.items.is_empty() {
         return out.push_str("[]");
@@ -169,7 +172,8 @@ fn push_items(out: &mut Text, names: &Names, items: &Items) -> Result<(), Memory
 
 #[cycle(print)]
 fn push_item(out: &mut Text, names: &Names, item: &Item) -> Result<(), Memory>
-    ensures { OnOk result (out.new ≡ out.old ++ (item_mark item.now.variant ++ inside_text names.now item.now.args)) }
+    ensures { OnOk result (out.new ≡ out.old
+        ++ (item_mark item.now.variant ++ inside_text names.now item.now.args)) }
 {
     push_item_mark(out, item.variant)?;
     push_inside(out, names, &item.args)
@@ -198,7 +202,10 @@ pub fn print_args(
 ) -> Result<Text, dl_io::Memory>
     ensures text { IfOk result (λ text. text ≡ printed_arguments names.now stm.now.args) }
     // Where the statement fits and each of its indexes has a name that is spelled as names are, the text reads back as the arguments.
-    ensures back { Fits table.now.entries stm.now.index stm.now.args → AreNamed names.now stm.now.args → IfOk result (λ text. ReadsArguments names.now table.now.entries stm.now.index text (Ok stm.now.args)) }
+    ensures back { Fits table.now.entries stm.now.index stm.now.args
+        → AreNamed names.now stm.now.args
+        → IfOk result (λ text.
+            ReadsArguments names.now table.now.entries stm.now.index text (Ok stm.now.args)) }
 {
     let _ = table;
     args_are_sound(&stm.args);
@@ -208,5 +215,7 @@ pub fn print_args(
 /// What is written reads back as the same arguments, where they fit the table, each index in them has a name that is
 /// spelled as names are, and they are what the types of values say.
 pub fn reads_back()
-    ensures { (names : NameMap) (table : AnyTable) (index : ℕ) (vs : Vals) → Fits table index vs → AreNamed names vs → AreSound vs → ReadsArguments names table index (printed_arguments names vs) (Ok vs) }
+    ensures { (names : NameMap) (table : AnyTable) (index : ℕ) (vs : Vals) → Fits table index vs
+        → AreNamed names vs → AreSound vs
+        → ReadsArguments names table index (printed_arguments names vs) (Ok vs) }
 {}

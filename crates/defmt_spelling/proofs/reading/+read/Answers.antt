@@ -3,6 +3,7 @@ use Rattle.std.proofs.lemmas.Result.{err_from_is_err_and}
 use Rattle.defmt_spelling.proofs.Arms as arms
 use Rattle.defmt_spelling.proofs.Exits as exits
 use Rattle.defmt_spelling.proofs.Loops as loops
+use Rattle.defmt_spelling.proofs.ItemLoops as item_loops
 use Rattle.std.specs.Prelude.{IfSome}
 use Rattle.std.specs.Str.{IsUtf8}
 use Rattle.std.proofs.Common.{◌≡◌, ◌*◌, ◌^◌, ◌-◌, Ok, Err, subst, ap, min, refl, arith, Option, List, ℕ, Bor}
@@ -84,8 +85,8 @@ pub read_items-returns-in_err-item-clause-value : goal.read_items-returns-in_err
 read_items-returns-in_err-item-clause-value t c = λ index items there s.
     let p = err_from_is_err_and c.from_residual-in_err-item.result c.from_residual-in_err-item.ensures.1 in
     let f = c.each.invariant.left index items there s in
-    let told = loops.told_item one_item c.each.rest.now c.skip_spaces.result.now f.others c.in_ok-told.field-0 c.in-Some.told c.in-Some.more c.skip_spaces.ensures.rest c.in_ok-told.ensures.item c.in-Some.is f.spelled in
-    rw (p.1, p.2) (loops.item_exit c.args.names.now c.args.table.now.entries c.args.left c.args.weight c.args.form.now index c.args.sum items there c.each.items c.each.total c.each.rest.now f told.variant told.shapes told.more told.is _ (c.in_err-item.ensures.value told.variant told.shapes told.holds told.spelled))
+    let told = item_loops.told_item one_item c.each.rest.now c.skip_spaces.result.now f.others c.in_ok-told.field-0 c.in-Some.told c.in-Some.more c.skip_spaces.ensures.rest c.in_ok-told.ensures.item c.in-Some.is f.spelled in
+    rw (p.1, p.2) (item_loops.item_exit c.args.names.now c.args.table.now.entries c.args.left c.args.weight c.args.form.now index c.args.sum items there c.each.items c.each.total c.each.rest.now f told.variant told.shapes told.more told.is _ (c.in_err-item.ensures.value told.variant told.shapes told.holds told.spelled))
 
 pub read_items-each-preserved : goal.read_items-each-preserved
 read_items-each-preserved t c = record {
@@ -93,19 +94,19 @@ read_items-each-preserved t c = record {
   utf8 = subst (λ o. IfSome o (λ p. IsUtf8 p.1.now)) c.in-Some.is c.in_ok-told.ensures.utf8;
   left = λ index items there s.
       let f = c.each.invariant.left index items there s in
-      let told = loops.told_item one_item c.each.rest.now c.skip_spaces.result.now f.others c.in_ok-told.field-0 c.in-Some.told c.in-Some.more c.skip_spaces.ensures.rest c.in_ok-told.ensures.item c.in-Some.is f.spelled in
+      let told = item_loops.told_item one_item c.each.rest.now c.skip_spaces.result.now f.others c.in_ok-told.field-0 c.in-Some.told c.in-Some.more c.skip_spaces.ensures.rest c.in_ok-told.ensures.item c.in-Some.is f.spelled in
       let v = c.in_ok-item.ensures.value told.variant told.shapes told.holds told.spelled in
-      loops.item_done c.args.names.now c.args.table.now.entries c.args.left c.args.weight c.args.form.now index c.args.sum items there c.each.items c.each.total c.each.rest.now f told.variant told.shapes told.more told.is c.in_ok-item.item.variant c.in_ok-item.item.args c.in_ok-item.next c.push.new.self c.in-Some.more.now v.0 v.1 v.2 c.in_ok-push.ensures.ok told.later;
+      item_loops.item_done c.args.names.now c.args.table.now.entries c.args.left c.args.weight c.args.form.now index c.args.sum items there c.each.items c.each.total c.each.rest.now f told.variant told.shapes told.more told.is c.in_ok-item.item.variant c.in_ok-item.item.args c.in_ok-item.next c.push.new.self c.in-Some.more.now v.0 v.1 v.2 c.in_ok-push.ensures.ok told.later;
 }
 
 pub read_items-each-smaller : goal.read_items-each-smaller
-read_items-each-smaller t c = loops.told_shorter c.each.rest.now c.skip_spaces.result.now c.in_ok-told.field-0 c.in-Some.told c.in-Some.more c.skip_spaces.ensures.rest c.in_ok-told.ensures.item c.in-Some.is
+read_items-each-smaller t c = item_loops.told_shorter c.each.rest.now c.skip_spaces.result.now c.in_ok-told.field-0 c.in-Some.told c.in-Some.more c.skip_spaces.ensures.rest c.in_ok-told.ensures.item c.in-Some.is
 
 pub read_items-returns-clause-value : goal.read_items-returns-clause-value
 read_items-returns-clause-value t c = λ index items there s.
     let f = c.each.invariant.left index items there s in
-    loops.no_items_left c.args.names.now c.args.table.now.entries c.args.left c.args.weight c.args.form.now index c.args.sum items there c.each.items c.each.total c.each.rest.now f
-    (loops.told_none c.each.rest.now c.skip_spaces.result.now f.others c.in_ok-told.field-0 c.skip_spaces.ensures.rest c.in_ok-told.ensures.item c.in_default.is f.spelled)
+    item_loops.no_items_left c.args.names.now c.args.table.now.entries c.args.left c.args.weight c.args.form.now index c.args.sum items there c.each.items c.each.total c.each.rest.now f
+    (item_loops.told_none c.each.rest.now c.skip_spaces.result.now f.others c.in_ok-told.field-0 c.skip_spaces.ensures.rest c.in_ok-told.ensures.item c.in_default.is f.spelled)
 
 pub read_values-returns-in_err-value-clause-value : goal.read_values-returns-in_err-value-clause-value
 read_values-returns-in_err-value-clause-value t c =

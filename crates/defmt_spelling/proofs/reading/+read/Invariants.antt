@@ -2,7 +2,8 @@ use Rattle.std.proofs.Common.{◌≡◌, ◌*◌, ◌+◌, ◌≤◌, ℕ, lengt
 use Rattle.std.specs.Str.{IsUtf8}
 use Rattle.defmt_grammar.specs.Slots.{IsSound}
 use Rattle.defmt_shapes.specs.Shape.{Items, SpellsItems}
-use Rattle.defmt_spelling.proofs.Loops.{Follows, ItemsLeft}
+use Rattle.defmt_spelling.proofs.ItemLoops.{ItemsLeft}
+use Rattle.defmt_spelling.proofs.Loops.{Follows}
 use Rattle.defmt_values.specs.Entries.{places_of, places_from}
 use Rattle.defmt_values.specs.Scan.{form_at}
 use Rattle.defmt_spelling.proofs.reading.+read.Given as goal

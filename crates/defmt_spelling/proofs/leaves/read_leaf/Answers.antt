@@ -5,7 +5,7 @@ use Rattle.defmt_spelling.specs.Leaves.{decimal_cause, hexadecimal_cause, empty_
 use Rattle.defmt_spelling.specs.Meaning.{index_of, decimal_at, hexadecimal_at, negated}
 use Rattle.defmt_values.specs.Plain.{int, flag, char, str, istr, bytes, seq, no_elems}
 use Rattle.defmt_values.specs.Scan.{int_cause, flag_cause, char_cause, str_cause, istr_cause, bytes_cause}
-use Rattle.defmt_spelling.proofs.reading.read_leaf.Goals as goal
+use Rattle.defmt_spelling.proofs.leaves.read_leaf.Goals as goal
 
 pub returns-in-Decimal-clause-value : goal.returns-in-Decimal-clause-value
 returns-in-Decimal-clause-value c = λ left weight s told.

@@ -1,7 +1,7 @@
 use Rattle.std.proofs.Common.{sym}
 use Rattle.std.proofs.lemmas.Result.{err_from_is_err_and}
 use Rattle.defmt_spelling.proofs.Wholes.{spelled_of, whole_refused}
-use Rattle.defmt_spelling.proofs.reading.read_whole.Goals as goal
+use Rattle.defmt_spelling.proofs.arguments.read_whole.Goals as goal
 
 pub returns-in_err-args : goal.returns-in_err-args
 returns-in_err-args c =
