@@ -1,5 +1,5 @@
 -- How many bytes values have at most.
-use Rattle.std.proofs.Common.{◌≡◌, ◌≤◌, ◌<◌, ◌+◌, ℕ, ℤ, Bool, true, false, nat_lt, List, [], ◌∷◌, ◌++◌, length, map, Option, Some, None, Result, Ok, Err, sym, arith, length-append}
+use Rattle.std.proofs.Common.{◌≡◌, ◌≤◌, ◌<◌, ◌+◌, ℕ, ℤ, Bool, true, false, nat_lt, List, [], ◌∷◌, ◌++◌, length, map, Option, Some, None, Result, Ok, Err, sym, ap, arith, length-append}
 use Rattle.std.proofs.lemmas.Bool.{lt-ltb, le-ltb}
 use Rattle.std.specs.Int.{w128, cast_unsigned}
 use Rattle.byteorder.specs.Endian.{little_bytes}
@@ -7,11 +7,13 @@ use Rattle.defmt_grammar.specs.declared.kind.Kind.TheVariants as kinds
 use Rattle.defmt_grammar.specs.declared.slot.Slot.{Slot}
 use Rattle.defmt_grammar.specs.declared.slot.Slot.TheVariants as slots
 use Rattle.defmt_intern.specs.Table.{Map}
-use Rattle.defmt_values.specs.Plain.{Val, uint, int, flag, char, str, istr, bytes, Vals, no_vals, val}
-use Rattle.defmt_values.specs.View.{plain, vals_of}
+use Rattle.defmt_values.specs.Plain.{Val, uint, int, flag, char, str, istr, bytes, format, seq, Vals, no_vals, val, Elems, no_elems, elem, elems_len, vals_size, elems_size}
+use Rattle.defmt_values.specs.Scan.{index_or}
+use Rattle.defmt_values.specs.View.{plain, vals_of, elems_of}
+use Rattle.defmt_values.specs.declared.value.Item.{Item}
 use Rattle.defmt_values.specs.declared.value.Value.{Value}
-use Rattle.defmt_encode.specs.Carry.{uint_width, int_width, length_bytes, bytes_val, bytes_vals, stamp_slots, stamp_args, own_slots, message_head, message_of}
-use Rattle.defmt_encode.specs.Out.{HasAtMost, HaveAtMost, Puts, Writes}
+use Rattle.defmt_encode.specs.Carry.{uint_width, int_width, length_bytes, variant_byte, count_bytes, index_bytes, node_slots, bytes_val, bytes_vals, bytes_elems, stamp_slots, stamp_args, own_slots, message_head, message_of}
+use Rattle.defmt_encode.specs.Out.{HasAtMost, HaveAtMost, EachHasAtMost, Puts, Writes}
 use Rattle.defmt_encode.specs.Placed.{place_bytes}
 use Rattle.defmt_intern.specs.Stamp.{stamp_of}
 use Rattle.defmt_encode.specs.declared.put.Long.{Long}
@@ -92,6 +94,43 @@ pub bytes_most : (s : List ℕ) (n : ℕ) → length s + 4 ≤ n → HasAtMost (
 unfolding bytes_val
 bytes_most s n h t slot = omega (arith, length-append (length_bytes slot (length s)) s, length_small slot (length s), h)
 
+count_few : (slot : Slot) (n : ℕ) → length (count_bytes slot n) ≤ 4
+count_few (slots.One (kinds.Uint size)) n = omega arith
+count_few (slots.One (kinds.Int size)) n = omega arith
+count_few (slots.One kinds.Bool) n = omega arith
+count_few (slots.One kinds.Char) n = omega arith
+count_few (slots.One kinds.Str) n = omega arith
+count_few (slots.One kinds.Istr) n = omega arith
+count_few (slots.One kinds.Bytes) n = omega arith
+count_few (slots.One (kinds.ByteArray count)) n = omega arith
+count_few (slots.One kinds.Format) n = omega arith
+count_few (slots.One kinds.FormatSlice) n = omega (arith, length_little 4 n)
+count_few (slots.One (kinds.FormatArray count)) n = omega arith
+count_few (slots.One (kinds.Bits lo hi)) n = omega arith
+count_few (slots.Bits first width) n = omega arith
+
+variant_few : (variant : Option ℕ) → length (variant_byte variant) ≤ 1
+variant_few None = omega arith
+variant_few (Some v) = omega arith
+
+index_few : (index : Option ℕ) → length (index_bytes index) ≤ 2
+index_few None = omega arith
+index_few (Some n) = omega (arith, length_little 2 n)
+
+pub format_most : (index : ℕ) (variant : Option ℕ) (vs : Vals) (m n : ℕ) → m + 3 ≤ n → HaveAtMost vs m → HasAtMost (format index variant vs) n
+unfolding bytes_val
+format_most index variant vs m n h have t slot =
+    let head = length-append (little_bytes 2 index) (variant_byte variant) in
+    let whole = length-append (little_bytes 2 index ++ variant_byte variant) (bytes_vals t (node_slots t index variant) vs) in
+    omega (arith, whole, head, length_little 2 index, variant_few variant, have t (node_slots t index variant), h)
+
+pub seq_most : (index : Option ℕ) (es : Elems) (m n : ℕ) → m + 6 ≤ n → EachHasAtMost es m → HasAtMost (seq index es) n
+unfolding bytes_val
+seq_most index es m n h have t slot =
+    let head = length-append (count_bytes slot (elems_len es)) (index_bytes index) in
+    let whole = length-append (count_bytes slot (elems_len es) ++ index_bytes index) (bytes_elems t (index_or index) es) in
+    omega (arith, whole, head, count_few slot (elems_len es), index_few index, have t (index_or index), h)
+
 -- what a loop knows of all values where it has come to some of them
 abbrev pub Above : Vals → Vals → ℕ → Type 0
 Above all rest most = (n : ℕ) → HaveAtMost rest n → HaveAtMost all (most + n)
@@ -115,6 +154,36 @@ pub above_all : (all : Vals) (values : List Value) (most : ℕ) → values ≡ [
 above_all all values most p above t ss =
     let none : HaveAtMost (vals_of (map plain values)) 0 = rw p none_most in
     omega (arith, above 0 none t ss)
+
+-- the same of the elements of a list
+abbrev pub AboveEach : Elems → Elems → ℕ → Type 0
+AboveEach all rest most = (n : ℕ) → EachHasAtMost rest n → EachHasAtMost all (most + n)
+
+no_elems_most : (t : Map) (index : ℕ) → length (bytes_elems t index no_elems) ≤ 0
+unfolding bytes_elems
+no_elems_most t index = omega arith
+
+elem_most : (variant : Option ℕ) (vs : Vals) (es : Elems) (m n : ℕ) → HaveAtMost vs m → EachHasAtMost es n → EachHasAtMost (elem variant vs es) (m + 1 + n)
+unfolding bytes_elems
+elem_most variant vs es m n one others t index =
+    let here : List ℕ = bytes_vals t (node_slots t index variant) vs in
+    omega (arith, length-append (variant_byte variant ++ here) (bytes_elems t index es), length-append (variant_byte variant) here, variant_few variant, one t (node_slots t index variant), others t index)
+
+pub vals_smaller : (values more : List Value) (v : Value) → values ≡ v ∷ more → (n : ℕ) → vals_size (vals_of (map plain values)) ≤ n → vals_size (vals_of (map plain more)) ≤ n
+vals_smaller values more v p n h = let e = ap (λ (xs : List Value). vals_size (vals_of (map plain xs))) p in omega (arith, e)
+
+pub elems_smaller : (items more : List Item) (item : Item) → items ≡ item ∷ more → (n : ℕ) → elems_size (elems_of items) ≤ n → elems_size (elems_of more) ≤ n
+elems_smaller items more item p n h = let e = ap (λ (xs : List Item). elems_size (elems_of xs)) p in omega (arith, e)
+
+pub each_more : (all : Elems) (items more : List Item) (item : Item) (most m : ℕ) → items ≡ item ∷ more → HaveAtMost item.args m → AboveEach all (elems_of items) most → AboveEach all (elems_of more) (most + m + 1)
+each_more all items more item most m p one above n others t index =
+    let here : EachHasAtMost (elems_of items) (m + 1 + n) = rw p (elem_most item.variant item.args (elems_of more) m n one others) in
+    omega (arith, above (m + 1 + n) here t index)
+
+pub each_all : (all : Elems) (items : List Item) (most : ℕ) → items ≡ [] → AboveEach all (elems_of items) most → EachHasAtMost all most
+each_all all items most p above t index =
+    let none : EachHasAtMost (elems_of items) 0 = rw p no_elems_most in
+    omega (arith, above 0 none t index)
 
 stamp_most : (t : Map) (ss : List Slot) (stamp : Option ℕ) → length (bytes_vals t ss (stamp_args stamp)) ≤ 16
 stamp_most t ss None = omega (arith, none_most t ss)

@@ -2,8 +2,8 @@
 use Rattle.std.specs.Prelude.{◌≡◌, ◌≤◌, ◌<◌, ◌+◌, ℕ, List, ◌++◌, length, take, drop, Result, Ok, Err}
 use Rattle.defmt_grammar.specs.declared.slot.Slot.{Slot}
 use Rattle.defmt_intern.specs.Table.{Map}
-use Rattle.defmt_values.specs.Plain.{Val, Vals}
-use Rattle.defmt_encode.specs.Carry.{bytes_val, bytes_vals}
+use Rattle.defmt_values.specs.Plain.{Val, Vals, Elems}
+use Rattle.defmt_encode.specs.Carry.{bytes_val, bytes_vals, bytes_elems}
 use Rattle.defmt_encode.specs.declared.put.Long.{Long}
 
 -- the bytes stand behind the first `at`, up to the place n, and what lies behind them is as before
@@ -46,3 +46,7 @@ HasAtMost v n = (t : Map) (slot : Slot) → length (bytes_val t slot v) ≤ n
 -- the same of values one after another
 abbrev pub HaveAtMost : Vals → ℕ → Type 0
 HaveAtMost vs n = (t : Map) (slots : List Slot) → length (bytes_vals t slots vs) ≤ n
+
+-- the same of the elements of a list, whatever its entry
+abbrev pub EachHasAtMost : Elems → ℕ → Type 0
+EachHasAtMost es n = (t : Map) (index : ℕ) → length (bytes_elems t index es) ≤ n

@@ -6,6 +6,7 @@
 #![tactic(auto)]
 
 mod arguments;
+mod bounds;
 mod cause;
 mod field;
 mod forms;
@@ -23,7 +24,7 @@ mod writing;
 pub use framing::frame;
 pub use heard::{Heard, ReadCause, read_message};
 pub use law::{lengths_fit, one_answer, place_length, places_suit, reads_back, stamp_length};
-pub use put::{Long, put_bytes, put_number};
+pub use put::{Long, MESSAGE_LIMIT, put_bytes, put_number};
 pub use slots::stamp_slots;
 pub use values::{put_args, put_slice, put_text, put_value};
 pub use widths::size_bytes;

@@ -1,17 +1,17 @@
 //! The message of a statement.
 ghost use Rattle.std.specs.Prelude.{◌≡◌, ◌≤◌, ◌++◌, ◌↔◌, length, nat_lt, IsTrue};
 ghost use Rattle.defmt_encode.specs.Carry.{stamp_slots, stamp_args, bytes_vals, message_of};
-ghost use Rattle.defmt_encode.specs.Out.{HasAtMost, HaveAtMost, Puts, Writes};
+ghost use Rattle.defmt_encode.specs.Out.{Puts, Writes};
 ghost use Rattle.defmt_encode.specs.Placed.{HasPlace, place_bytes};
 ghost use Rattle.defmt_intern.specs.Stamp.{stamp_of};
-ghost use Rattle.defmt_values.specs.View.{plain};
 
+use crate::bounds::most_of;
 use crate::put::{Long, MESSAGE_LIMIT, put_number};
 use crate::slots::{own_slots, stamp_slots};
 use crate::values::put_args;
 use crate::widths::uint_width;
 use defmt_intern::{Profile, Table};
-use defmt_values::{Args, Statement, Value, cut};
+use defmt_values::Statement;
 
 // With at most so many bytes of arguments a message is short, with any place and any stamp.
 const SHORT: usize = MESSAGE_LIMIT - 20;
@@ -60,36 +60,6 @@ fn put_place_and_stamp(
 {
     let at = put_place(out, at, place)?;
     put_stamp(table, stamp, out, at)
-}
-
-// The most bytes that a value has in a message, whatever its slot: more than a whole message may have where values stand
-// in it, or where the slot alone tells.
-fn most_bytes(value: &Value) -> usize
-    ensures { result ≤ 2000 → HasAtMost (plain value.now) result }
-{
-    match value {
-        Value::Bool(_) => 1,
-        Value::Istr(_) => 2,
-        Value::Char(_) => 4,
-        Value::Uint(_) => 16,
-        Value::Int(_) => 16,
-        Value::Str(text) => text.len().saturating_add(4),
-        Value::Bytes(bytes) => bytes.len().saturating_add(4),
-        Value::Bits(_) | Value::Format(_) | Value::Seq(_) => MESSAGE_LIMIT + 1,
-    }
-}
-
-// The same of values one after another.
-fn most_of(args: &Args) -> usize
-    ensures { result ≤ 2000 → HaveAtMost args.now result }
-{
-    let mut values = args.as_slice();
-    let mut most = 0usize;
-    'each: while let Some((value, more)) = cut(values) {
-        most = most.saturating_add(most_bytes(value));
-        values = more;
-    }
-    most
 }
 
 fn put_message(

@@ -1,0 +1,32 @@
+use Rattle.std.proofs.Common.{◌≤◌, ◌+◌, ◌*◌, length, map}
+use Rattle.defmt_values.specs.Plain.{val_size, vals_size, elems_size}
+use Rattle.defmt_values.specs.View.{plain, vals_of, elems_of}
+use Rattle.defmt_encode.proofs.Most.{Above, AboveEach}
+use Rattle.defmt_encode.proofs.bounds.+most.Given as goal
+
+abbrev pub decreases-most_bytes : goal.decreases-most_bytes
+decreases-most_bytes l = 2 * val_size (plain l.value.now)
+
+abbrev pub decreases-most_of : goal.decreases-most_of
+decreases-most_of l = 2 * vals_size l.args.now + 1
+
+abbrev pub decreases-most_of_each : goal.decreases-most_of_each
+decreases-most_of_each l = 2 * elems_size l.items.now + 1
+
+abbrev pub invariant-most_of-each : goal.invariant-most_of-each
+invariant-most_of-each l = record {
+  smaller : vals_size (vals_of (map plain l.values)) ≤ vals_size l.args;
+  above : l.most ≤ 2000 → Above l.args (vals_of (map plain l.values)) l.most;
+}
+
+abbrev pub decreases-most_of-each : goal.decreases-most_of-each
+decreases-most_of-each l = length l.values
+
+abbrev pub invariant-most_of_each-each : goal.invariant-most_of_each-each
+invariant-most_of_each-each l = record {
+  smaller : elems_size (elems_of l.rest) ≤ elems_size l.items;
+  above : l.most ≤ 2000 → AboveEach l.items (elems_of l.rest) l.most;
+}
+
+abbrev pub decreases-most_of_each-each : goal.decreases-most_of_each-each
+decreases-most_of_each-each l = length l.rest

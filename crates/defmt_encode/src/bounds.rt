@@ -1,0 +1,56 @@
+//! How many bytes values have in a message at most.
+ghost use Rattle.std.specs.Prelude.{◌≤◌};
+ghost use Rattle.defmt_encode.specs.Out.{HasAtMost, HaveAtMost, EachHasAtMost};
+ghost use Rattle.defmt_values.specs.View.{plain};
+
+use crate::put::MESSAGE_LIMIT;
+use defmt_values::{Args, Items, Value, cut};
+
+// The most bytes that a value has in a message, whatever its slot: more than a whole message may have where the slot
+// alone tells.
+#[cycle(most)]
+fn most_bytes(value: &Value) -> usize
+    ensures { result ≤ 2000 → HasAtMost (plain value.now) result }
+{
+    match value {
+        Value::Bool(_) => 1,
+        Value::Istr(_) => 2,
+        Value::Char(_) => 4,
+        Value::Uint(_) => 16,
+        Value::Int(_) => 16,
+        Value::Str(text) => text.len().saturating_add(4),
+        Value::Bytes(bytes) => bytes.len().saturating_add(4),
+        Value::Bits(_) => MESSAGE_LIMIT + 1,
+        Value::Format(node) => most_of(&node.args).saturating_add(3),
+        Value::Seq(seq) => most_of_each(&seq.items).saturating_add(6),
+    }
+}
+
+// The same of values one after another.
+#[cycle(most)]
+pub(crate) fn most_of(args: &Args) -> usize
+    ensures { result ≤ 2000 → HaveAtMost args.now result }
+{
+    let mut values = args.as_slice();
+    let mut most = 0usize;
+    'each: while let Some((value, more)) = cut(values) {
+        most = most.saturating_add(most_bytes(value));
+        values = more;
+    }
+    most
+}
+
+// The same of the elements of a list.
+#[cycle(most)]
+fn most_of_each(items: &Items) -> usize
+    ensures { result ≤ 2000 → EachHasAtMost items.now result }
+{
+    let mut rest = items.as_slice();
+    let mut most = 0usize;
+    'each: while let Some((item, more)) = cut(rest) {
+        let one = most_of(&item.args).saturating_add(1);
+        most = most.saturating_add(one);
+        rest = more;
+    }
+    most
+}
