@@ -1,5 +1,8 @@
 -- What stands in front of most statements.
-use Rattle.std.proofs.Common.{◌≡◌, ◌<◌, ◌≤◌, ◌+◌, ℕ, zero, suc, List, [], ◌∷◌, length, get_or, drop, Option, Some, refl, arith}
+use Rattle.std.proofs.Common.{◌≡◌, ◌<◌, ◌≤◌, ◌+◌, ◌++◌, ℕ, zero, suc, List, [], ◌∷◌, length, get_or, drop, Option, Some, refl, ap, ◌∙◌, arith}
+use Rattle.std.specs.Prelude.{codes}
+use Rattle.std.specs.Fmt.{decimal}
+use Rattle.std.proofs.lemmas.Fmt.{decimal_digit}
 use Rattle.defmt_grammar.specs.Cut.{cut}
 use Rattle.defmt_lines.specs.Line.{Line, act, act_of, field_and_rest, worded}
 use Rattle.defmt_lines.specs.Number.{is_digits, within, writer_of}
@@ -32,7 +35,11 @@ by_digit (suc (suc (suc (suc (suc (suc zero)))))) behind lt = refl
 by_digit (suc (suc (suc (suc (suc (suc (suc zero))))))) behind lt = refl
 by_digit (suc (suc (suc (suc (suc (suc (suc (suc n)))))))) behind lt = absurd (omega (arith, lt))
 
-pub statement_said : (text behind field rest : Text) (n : ℕ) → text ≡ 119 ∷ 32 ∷ (48 + n) ∷ 32 ∷ behind → n < 8 → field ≡ (field_and_rest behind).0 → rest ≡ (field_and_rest behind).1
+-- the text of a statement's front, whose digit stands there as its code
+pub front_is : (behind : Text) (n : ℕ) → n < 8 → codes "w " ++ (decimal n ++ (codes " " ++ behind)) ≡ 119 ∷ 32 ∷ (48 + n) ∷ 32 ∷ behind
+front_is behind n lt = ap (λ (digits : Text). codes "w " ++ (digits ++ (codes " " ++ behind))) (decimal_digit n (omega (arith, lt)))
+
+pub statement_said : (text behind field rest : Text) (n : ℕ) → text ≡ codes "w " ++ (decimal n ++ (codes " " ++ behind)) → n < 8 → field ≡ (field_and_rest behind).0 → rest ≡ (field_and_rest behind).1
     → (let o : Option Line = Some (act forms.Statement (Some n) field rest) in o ≡ worded text)
 unfolding said
-statement_said text behind field rest n is lt f r = rw (is, f, r) (by_digit n behind lt)
+statement_said text behind field rest n is lt f r = rw (is ∙ front_is behind n lt, f, r) (by_digit n behind lt)

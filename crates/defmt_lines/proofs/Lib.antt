@@ -1,5 +1,7 @@
 pub mod FormLaws
 mod LineCuts
+mod LineFound
+mod LineAgain
 pub mod LineLaws
 mod FrontLaws
 mod Marks

@@ -56,7 +56,7 @@ some_part (b ∷ text) = elim (cases_eq b 10) [
 ]
 
 -- a line that ends, and those after it
-pub lines_at : (text : List ℕ) (c : ℕ) (after : List ℕ) → from_mark 10 text ≡ c ∷ after → lines text ≡ strip_carriage_return (up_to 10 text) ∷ lines after
+lines_at : (text : List ℕ) (c : ℕ) (after : List ℕ) → from_mark 10 text ≡ c ∷ after → lines text ≡ strip_carriage_return (up_to 10 text) ∷ lines after
 lines_at text c after is =
     let p = some_part after in
     ap lines_of_parts (parts_at text c after is) ∙ ap (λ (l : List (List ℕ)). lines_of_parts (up_to 10 text ∷ l)) p.2

@@ -1,6 +1,7 @@
 //! The reading of a line.
 
-ghost use Rattle.std.specs.Prelude.{◌≡◌, ◌<◌, ◌+◌, ◌∷◌, ℕ, List, true, IfSome, option_copied, option_map};
+ghost use Rattle.std.specs.Prelude.{◌≡◌, ◌<◌, ◌++◌, ℕ, List, true, IfSome, codes, option_copied, option_map};
+ghost use Rattle.std.specs.Fmt.{decimal};
 ghost use Rattle.defmt_grammar.specs.Cut.{cut, parts_of};
 ghost use Rattle.defmt_lines.specs.Line.{Line as Said, Says, act_of, by_form, entry_of, field_and_rest, is_blank, is_string_tag, line_of, one_field, one_word, tag_of, text_of, two_fields, two_words, worded};
 ghost use Rattle.defmt_lines.specs.LineView.{line_view};
@@ -60,7 +61,8 @@ fn is_blank(line: &[u8]) -> bool
 
 // The writer of a statement, where it is one digit from 0 to 7, and what follows it. Most lines begin so.
 fn statement_front(text: &str) -> Option<(u8, &str)>
-    ensures text { IfSome result (λ p. text.now ≡ 119 ∷ 32 ∷ (48 + p.0) ∷ 32 ∷ p.1.now) }
+    ensures text { IfSome result (λ p.
+        text.now ≡ codes "w " ++ (decimal p.0 ++ (codes " " ++ p.1.now))) }
     ensures of_eight { IfSome result (λ p. p.0 < 8) }
 {
     let [b'w', b' ', digit, b' ', ..] = text.as_bytes() else {
