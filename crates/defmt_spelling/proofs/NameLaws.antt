@@ -183,9 +183,9 @@ first_is (e ∷ es) index o s h =
       | inr n ↦
           cond-false (e.1 == index) (Some e.0) (first_named es index) n
           ∙ first_is es index o parts.1 (record {
-              among = among_too (Named (e ∷ es) index) (Named es index) o (λ name q. elim q [ inl x ↦ absurd (unlike e.1 index n x.1) | inr m ↦ m ]) h.among;
-              least = λ name p. h.least name (inr p);
-            })
+            among = among_too (Named (e ∷ es) index) (Named es index) o (λ name q. elim q [ inl x ↦ absurd (unlike e.1 index n x.1) | inr m ↦ m ]) h.among;
+            least = λ name p. h.least name (inr p);
+          })
     ]
   where
     unlike : (x y : ℕ) → (x == y) ≡ false → x ≡ y → ⊥

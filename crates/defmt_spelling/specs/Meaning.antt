@@ -48,7 +48,7 @@ unfoldable mutual
   meant_val names t slot (shapes.bytes s) = bytes s
   meant_val names t slot (shapes.call name variant ss) =
       format (index_of names name) variant
-          (meant_vals names t (node_places t (index_of names name) variant) ss)
+      (meant_vals names t (node_places t (index_of names name) variant) ss)
   meant_val names t slot shapes.empty = seq None no_elems
   meant_val names t slot (shapes.sequence name items) =
       seq (Some (index_of names name)) (meant_elems names t (index_of names name) items)
@@ -65,4 +65,4 @@ unfoldable mutual
   meant_elems names t index no_items = no_elems
   meant_elems names t index (item variant ss more) =
       elem variant (meant_vals names t (node_places t index variant) ss)
-          (meant_elems names t index more)
+      (meant_elems names t index more)

@@ -48,7 +48,7 @@ unfoldable mutual
   printed_val names (seq index es) =
       if elems_empty es then codes "[]"
       else name_text names (index_or index)
-          ++ (codes "[" ++ (elems_text names true es ++ codes "]"))
+      ++ (codes "[" ++ (elems_text names true es ++ codes "]"))
 
   pub vals_text : NameMap → Bool → Vals → List ℕ
   vals_text names first no_vals = []

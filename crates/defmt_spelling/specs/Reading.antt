@@ -104,7 +104,7 @@ ScannedFault names t left weight (p ∷ ps) sum text cause =
     ⊎ ((s : Shape) × (rest : List ℕ) × HeadShape (skip_spaces text) s rest
     × ((judged names t left weight p sum s ≡ Err cause)
     ⊎ ((next : ℕ) × (judged names t left weight p sum s ≡ Ok next)
-        × ScannedFault names t left weight ps next rest cause))))
+    × ScannedFault names t left weight ps next rest cause))))
 
 abbrev pub ReadsValues : NameMap → Map → ℕ → ℕ → List Place → ℕ → List ℕ
     → Result (Vals × ℕ) ArgFault → Type 0
@@ -128,7 +128,7 @@ FrontFault names t left slot weight sum text cause =
     ((skip_spaces text ≡ []) × (cause ≡ 2))
     ⊎ ((StartsThere (skip_spaces text) × NoValue (skip_spaces text) × (cause ≡ 1))
     ⊎ ((s : Shape) × (rest : List ℕ) × HeadShape (skip_spaces text) s rest
-        × (scan_val t left slot weight sum (meant_val names t slot s) ≡ Err cause)))
+    × (scan_val t left slot weight sum (meant_val names t slot s) ≡ Err cause)))
 
 abbrev pub ReadsFront : NameMap → Map → ℕ → Slot → ℕ → ℕ → List ℕ
     → Result (Value × ℕ × Bor (List ℕ)) ArgFault → Type 0

@@ -41,7 +41,7 @@ NextFault names t left weight (p ∷ ps) before text cause =
     ((skip_spaces text ≡ []) × (cause ≡ 2))
     ⊎ ((StartsThere (skip_spaces text) × NoValue (skip_spaces text) × (cause ≡ 1))
     ⊎ ((s : Shape) × (rest : List ℕ) × HeadShape (skip_spaces text) s rest
-        × fault_at t left p.slot (p.uses * weight) before (meant_val names t p.slot s) cause))
+    × fault_at t left p.slot (p.uses * weight) before (meant_val names t p.slot s) cause))
 
 -- The first cause, from left to right: values in front are spelled and fit their places, and what comes next isn't or
 -- doesn't. The weights of those in front come behind `before`.
@@ -64,7 +64,7 @@ abbrev pub ArgumentFault : NameMap → Map → ℕ → List ℕ → ℕ → Type
 ArgumentFault names t index text cause =
     (own_form (look t index) ≡ Err cause)
     ⊎ ((ps : List Piece) × (own_form (look t index) ≡ Ok ps)
-        × FirstFault names t 16 1 (places_of ps) 0 text cause)
+    × FirstFault names t 16 1 (places_of ps) 0 text cause)
 
 -- the values that the text spells, or the first cause for which it spells none
 abbrev pub ReadsArguments : NameMap → Map → ℕ → List ℕ → Result Vals ℕ → Type 0

@@ -77,7 +77,10 @@ pub fn find_form<'a>(
 }
 
 /// The pieces of a form, or of its variant of this number.
-pub fn find_pieces(form: &Parsed, variant: Option<Number>) -> Result<(&Pieces, Option<u8>), ArgFault>
+pub fn find_pieces(
+    form: &Parsed,
+    variant: Option<Number>,
+) -> Result<(&Pieces, Option<u8>), ArgFault>
     ensures { (v : Option ℕ) → HoldsVariant variant v → GivesVariant (pick form.now v) v result }
 {
     let variant = match variant {

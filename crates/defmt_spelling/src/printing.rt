@@ -205,7 +205,7 @@ pub fn print_args(
     ensures back { Fits table.now.entries stm.now.index stm.now.args
         → AreNamed names.now stm.now.args
         → IfOk result (λ text.
-            ReadsArguments names.now table.now.entries stm.now.index text (Ok stm.now.args)) }
+        ReadsArguments names.now table.now.entries stm.now.index text (Ok stm.now.args)) }
 {
     let _ = table;
     args_are_sound(&stm.args);
