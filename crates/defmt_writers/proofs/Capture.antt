@@ -1,8 +1,6 @@
 -- The frames of all statements of a script have at most so many bytes.
-use Rattle.std.proofs.Common.{◌≡◌, Bool, true, false, ℕ, zero, suc, ◌+◌, ◌*◌, ◌/◌, ◌≤◌, List, [], ◌∷◌, ◌++◌, Option, Some, None, length, length-append, take, refl, subst, arith}
-use Rattle.std.specs.Prelude.{if◌then◌else◌, slice_get, slice_index_or}
+use Rattle.std.proofs.Common.{◌≡◌, Bool, true, false, ℕ, zero, suc, ◌+◌, ◌*◌, ◌/◌, ◌≤◌, List, [], ◌∷◌, ◌++◌, Option, Some, None, length, length-append, drop, drop_of_length-le, add-one, refl, ap, arith, if◌then◌else◌, slice_get, slice_index_or, length-take}
 use Rattle.std.proofs.Math.Nat.{mul-div-le}
-use Rattle.std.proofs.lemmas.List.{length-take, take_all}
 use Rattle.defmt_encode.specs.Carry.{message_of, stamp_args}
 use Rattle.defmt_encode.specs.Placed.{place_in}
 use Rattle.defmt_frames.proofs.Frames.{sound_at}
@@ -80,27 +78,16 @@ turns_short s number (t ∷ ts) bounded h =
 pub turns_fit_in : (s : Script) (turns : List Turn) (got : List ℕ) (n : ℕ) → Bounded → HoldsOfScripts s → IsSteered s turns got → n ≡ count_all s.writers → length (steered_stream s turns) ≤ n * 2288
 turns_fit_in s turns got n bounded h steered e = omega (arith, turns_short s 0 turns bounded h, turns_fit s turns steered.within, e)
 
--- ---- the counts of the first writers
+-- ---- the counts of the writers that are left
 
-none_counted : (i : ℕ) → count_all (take i []) ≡ 0
-none_counted zero = refl
-none_counted (suc i) = refl
+next_by : (ws : List (List Statement)) (i : ℕ) → count_all (drop i ws) ≡ length (slice_index_or ws i []) + count_all (drop (suc i) ws)
+next_by [] zero = refl
+next_by [] (suc i) = refl
+next_by (l ∷ ws) zero = refl
+next_by (l ∷ ws) (suc i) = next_by ws i
 
-counted : (ws : List (List Statement)) (i : ℕ) → count_all (take (suc i) ws) ≡ count_all (take i ws) + length (slice_index_or ws i [])
-counted [] i = omega (arith, none_counted i)
-counted (l ∷ ws) zero = omega arith
-counted (l ∷ ws) (suc i) = omega (arith, counted ws i)
+pub count_next : (ws : List (List Statement)) (i : ℕ) → count_all (drop i ws) ≡ length (slice_index_or ws i []) + count_all (drop (i + 1) ws)
+count_next ws i = rw add-one (next_by ws i)
 
-pub count_next : (ws : List (List Statement)) (i : ℕ) → count_all (take (i + 1) ws) ≡ count_all (take i ws) + length (slice_index_or ws i [])
-count_next ws i =
-    let next : suc i ≡ i + 1 = omega arith in
-    subst (λ (n : ℕ). count_all (take n ws) ≡ count_all (take i ws) + length (slice_index_or ws i [])) next (counted ws i)
-
-pub count_part : (ws : List (List Statement)) (i : ℕ) → count_all (take i ws) ≤ count_all ws
-count_part [] zero = omega arith
-count_part [] (suc i) = omega arith
-count_part (l ∷ ws) zero = omega arith
-count_part (l ∷ ws) (suc i) = omega (arith, count_part ws i)
-
-pub count_whole : (ws : List (List Statement)) (n i : ℕ) → n ≡ count_all (take i ws) → length ws ≤ i → n ≡ count_all ws
-count_whole ws n i e le = subst (λ (l : List (List Statement)). n ≡ count_all l) (take_all i ws le) e
+pub count_whole : (ws : List (List Statement)) (n i : ℕ) → n + count_all (drop i ws) ≡ count_all ws → length ws ≤ i → n ≡ count_all ws
+count_whole ws n i e le = omega (arith, e, ap count_all (drop_of_length-le ws le))

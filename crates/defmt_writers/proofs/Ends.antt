@@ -1,6 +1,5 @@
 -- How a run ends.
-use Rattle.std.proofs.Common.{◌≡◌, ℕ, zero, suc, ◌-◌, ◌^◌, ◌<◌, ◌≤◌, List, [], ◌++◌, true, length, sym, ap, ◌∙◌, subst, arith}
-use Rattle.std.specs.Prelude.{min}
+use Rattle.std.proofs.Common.{◌≡◌, ℕ, zero, suc, ◌-◌, ◌^◌, ◌<◌, ◌≤◌, List, [], ◌++◌, true, length, sym, ap, ◌∙◌, subst, arith, min}
 use Rattle.std.proofs.Math.Nat.{min-eq_left, le-min}
 use Rattle.defmt_frames.specs.Frames.{count}
 use Rattle.defmt_lines.specs.declared.settings.RingMode.{RingMode}
@@ -48,9 +47,7 @@ pub run_ends : (s q : Script) (tape : Reel) (u : Up) (a : Account) (captured res
     → looks ≡ min u.looks (2 ^ 64 - 1)
     → IsRun s tape.marks a captured rest looks
 run_ends s q tape u a captured rest looks e k all sent got whole freed late told =
-    let P : Script → Type 0 = λ x. IsKept (record { script = x; tape = tape; up = u }) in
-    let now : IsKept (record { script = s; tape = tape; up = u }) = subst P e k in
-    let mode = s.settings.mode in
+    let now : IsKept (record { script = s; tape = tape; up = u }) = subst (λ (x : Script). IsKept (record { script = x; tape = tape; up = u })) e k in
     let few : length tape.marks ≤ 4096 = omega (arith, now.room) in
     record {
       lawful = now.lawful;
@@ -58,7 +55,7 @@ run_ends s q tape u a captured rest looks e k all sent got whole freed late told
       sends = sent ∙ now.sent;
       takes = got;
       whole = whole ∙ ap (λ (l : List ℕ). l ++ rest) got;
-      reach = reached mode s tape.marks u (length a.got) now.behind freed;
+      reach = reached s.settings.mode s tape.marks u (length a.got) now.behind freed;
       late = λ h. got ∙ late h;
-      looked = subst (λ (n : ℕ). LooksIn mode (length tape.marks) n) (sym told) (looks_told mode (length tape.marks) u.looks few now.looks);
+      looked = subst (λ (n : ℕ). LooksIn s.settings.mode (length tape.marks) n) (sym told) (looks_told s.settings.mode (length tape.marks) u.looks few now.looks);
     }

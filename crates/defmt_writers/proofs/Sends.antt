@@ -21,6 +21,10 @@ use Rattle.defmt_values.specs.contracts.value.Statement.{the_row as statement_ro
 use Rattle.rtt_ring.specs.declared.ends.UpEnd as up
 use Rattle.rtt_terminal.proofs.speech.Speech.TheSendSync.{the_send as speech_send}
 
+-- a part, and those behind it
+joined : {A B : Type 0} → A → B → A × B
+joined a b = (a, b)
+
 statement_send : IsSend statement_row
 statement_send = search (sendable, crosses, values_cross) depth 60
 
@@ -30,45 +34,25 @@ statements_send = search (sendable, crosses, statement_send) depth 60
 pub script_send : IsSend script_row
 script_send =
     view_send _ _ _ _ _
-    (declared_send script_inside (
-      search (sendable, settings_send) depth 60,
-      (
-        search (sendable, table_send) depth 60,
-        (
-          search (sendable, names_send) depth 60,
-          (
-            search (sendable, crosses, statements_send) depth 60,
-            (search (sendable, speech_send) depth 60, tt),
-          ),
-        ),
-      ),
-    ))
+    (declared_send script_inside
+    (joined (search (sendable, settings_send) depth 60)
+    (joined (search (sendable, table_send) depth 60)
+    (joined (search (sendable, names_send) depth 60)
+    (joined (search (sendable, crosses, statements_send) depth 60)
+    (joined (search (sendable, speech_send) depth 60) tt))))))
 
 desk_send : (U C : RattleType) (u : up.Ghosts U.Denot) (k : clock.Ghosts C.Denot) → IsSend U → IsSend C → IsSend (desk_row U C u k)
 desk_send U C u k a b =
     view_send _ _ _ _ _
-    (declared_send (inside_type U C u k) (
-      search (sendable, script_send) depth 60,
-      (
-        search (sendable, sites_send) depth 60,
-        (
-          search (sendable, tape_send) depth 60,
-          (
-            search sendable depth 60,
-            (
-              search sendable depth 60,
-              (
-                search (sendable, crosses) depth 60,
-                (
-                  search (sendable, crosses) depth 60,
-                  (search sendable depth 60, tt),
-                ),
-              ),
-            ),
-          ),
-        ),
-      ),
-    ))
+    (declared_send (inside_type U C u k)
+    (joined (search (sendable, script_send) depth 60)
+    (joined (search (sendable, sites_send) depth 60)
+    (joined (search (sendable, tape_send) depth 60)
+    (joined (search sendable depth 60)
+    (joined (search sendable depth 60)
+    (joined (search (sendable, crosses) depth 60)
+    (joined (search (sendable, crosses) depth 60)
+    (joined (search sendable depth 60) tt)))))))))
 
 pub logging_send : (K U C : RattleType) (n : naming.Ghosts K.Denot) (u : up.Ghosts U.Denot) (k : clock.Ghosts C.Denot)
     → IsSend K → IsSend U → IsSend C → IsSend (logging_row K U C n u k)

@@ -33,11 +33,7 @@ impl<'g, N: FromSplit, K: Naming, D: DownEnd, G: Gate> Drain<'g, N, K, D, G> {
         ensures got { (D.view result.0).got ≡ result.1.items }
         ensures late { K.script.settings.late ≡ true → result.1.items ≡ [] }
     {
-        let Drain {
-            reader,
-            late: _,
-            of: _,
-        } = self;
+        let Drain { reader, .. } = self;
         reader.into_parts()
     }
 }

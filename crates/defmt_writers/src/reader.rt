@@ -87,12 +87,7 @@ impl<'g, N: FromSplit, D: DownEnd, G: Gate> Reader<'g, N, D, G> {
         ensures got { (D.view result.0).got ≡ result.1.items }
         ensures captured { result.1.items ≡ self.entry.captured.items }
     {
-        let Reader {
-            down,
-            captured,
-            gate: _,
-            of: _,
-        } = self;
+        let Reader { down, captured, .. } = self;
         (down, captured)
     }
 }

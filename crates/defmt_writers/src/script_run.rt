@@ -46,7 +46,7 @@ pub struct Run {
 
 // How many bytes are enough for the stream of any tape of the script, and for that of any turns: as many as the largest frames of
 // all its statements have.
-#[tactic(auto, using(crate::proofs::Capture::count_next, crate::proofs::Capture::count_part))]
+#[tactic(auto, using(crate::proofs::Capture::count_next))]
 fn frames_size(script: &Script) -> usize
     ensures tape { (tape : List Mark) → IsLawful script.now tape
         → length (stream_of script.now tape) ≤ result }
@@ -252,23 +252,6 @@ pub fn run_script<H: Channel, C: Clock + Send + Drop, G: Gate + Sync, R: Threads
     )
 }
 
-// The two ends of a new ring of the script's size, which no ring refuses.
-fn split_ring<H: Channel>(alloc: Global, script: &Script) -> Result<(H::Up, H::Down), Memory>
-    requires { ModeFits script.now.settings.mode H.tells }
-    ensures up { IfOk result (λ e. H.Up.view e.0
-        ≡ new_up (H.Up.view e.0).split script.now.settings.ring (H.Up.view e.0).tells) }
-    ensures told { IfOk result (λ e. TellsIn script.now.settings.mode (H.Up.view e.0)) }
-    ensures down { IfOk result (λ e. H.Down.view e.1
-        ≡ new_down (H.Up.view e.0).split script.now.settings.ring) }
-{
-    script.lawful();
-    match H::split(alloc, script.ring()) {
-        Ok(ends) => Ok(ends),
-        Err(RingFault::Memory) => Err(Memory),
-        Err(RingFault::Size) => unreachable!(),
-    }
-}
-
 /// The two ends of a new ring of the script's size, and the room for what the reader takes, with nothing in it.
 ///
 /// # Errors
@@ -285,7 +268,12 @@ pub fn prepare<H: Channel>(
         ≡ new_down (H.Up.view e.up).split script.now.settings.ring) }
     ensures captured { IfOk result (λ e. e.captured.items ≡ []) }
 {
+    script.lawful();
     let captured = empty_capture(alloc, frames_size(script))?;
-    let (up, down) = split_ring::<H>(alloc, script)?;
-    Ok(RingEnds { up, down, captured })
+    match H::split(alloc, script.ring()) {
+        Ok((up, down)) => Ok(RingEnds { up, down, captured }),
+        Err(RingFault::Memory) => Err(Memory),
+        // No ring refuses a script's size.
+        Err(RingFault::Size) => unreachable!(),
+    }
 }

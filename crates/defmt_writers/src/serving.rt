@@ -108,11 +108,7 @@ fn serve<
         of: PhantomData,
     };
     write(rt, shared, pen, gate, &mut serving);
-    let Serving {
-        loan,
-        gate: _,
-        of: _,
-    } = serving;
+    let Serving { loan, .. } = serving;
     loan
 }
 
