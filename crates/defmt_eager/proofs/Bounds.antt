@@ -21,11 +21,7 @@ use Rattle.defmt_hints.specs.Digits.{digits, zero_filled, number_text}
 use Rattle.defmt_hints.specs.Escapes.{escape_of, escaped, quoted_text, byte_escape_of, byte_escaped, byte_text}
 use Rattle.defmt_hints.specs.Printed.{prefix_text, base_number, is_upper, radix_text, decimal_text, fraction_text, signed_text, twos_complement, printed_uint, printed_int, printed_bool, printed_char, printed_str, printed_byte, printed_bytes, list_text, parted}
 use Rattle.defmt_eager.specs.Answers.{most_bytes}
-use Rattle.defmt_eager.specs.Show.{int_text, bits_text, acting, param_text, piece_text, pieces_text, show_val, shows}
-use Rattle.defmt_eager.proofs.Appends.{param_none, param_some, pieces_step}
-use Rattle.defmt_grammar.specs.declared.piece.Piece.{Piece}
-use Rattle.defmt_intern.specs.Table.{Map}
-use Rattle.defmt_values.specs.Plain.{Val, Vals, vals_get}
+use Rattle.defmt_eager.specs.Show.{int_text, bits_text}
 
 -- ---- digits
 
@@ -270,31 +266,3 @@ bytes_bound hint bytes each (Some count) small e h =
 
 -- what bounds a value without an entry of its own
 pub ruleset leaves = (uint_most, bits_most, int_most, flag_most, char_most, str_most)
-
--- ---- pieces
-
-pub acting_plain : (hint : Hint) → acting Plain hint ≡ hint
-acting_plain Plain = refl
-acting_plain Debug = refl
-acting_plain (Radix base alt width) = refl
-acting_plain Ascii = refl
-acting_plain Micros = refl
-acting_plain Millis = refl
-
-pub none_taken : (t : Map) (args : Vals) (p : ℕ) (kind : Kind) (hint : Hint) → None ≡ vals_get args p → length (param_text Plain (shows t args) p kind hint) ≤ 0
-none_taken t args p kind hint e = omega (arith, ap length (param_none t Plain args p kind hint e))
-
-pub some_taken : (t : Map) (args : Vals) (p : ℕ) (kind : Kind) (hint : Hint) (v : Val) (most : ℕ) → Some v ≡ vals_get args p → length (show_val t v kind hint) ≤ most → length (param_text Plain (shows t args) p kind hint) ≤ most
-some_taken t args p kind hint v most e few =
-    omega (arith, ap length (param_some t Plain args p kind hint v e), ap (λ (a : Hint). length (show_val t v kind a)) (acting_plain hint), few)
-
-pub some_bound : (t : Map) (args : Vals) (p : ℕ) (kind : Kind) (hint : Hint) (v : Val) (bound : Option ℕ) → Some v ≡ vals_get args p
-    → IfSome bound (λ most. length (show_val t v kind hint) ≤ most) → IfSome bound (λ most. length (param_text Plain (shows t args) p kind hint) ≤ most)
-some_bound t args p kind hint v None e h = tt
-some_bound t args p kind hint v (Some most) e h = some_taken t args p kind hint v most e h
-
--- a piece takes its bound from what is left for it and the pieces behind it
-pub piece_taken : (t : Map) (args : Vals) (rest more : List Piece) (piece : Piece) (most left : ℕ) → rest ≡ piece ∷ more → length (piece_text Plain piece (shows t args)) ≤ most → most ≤ left
-    → length (pieces_text Plain more (shows t args)) ≤ left - most → length (pieces_text Plain rest (shows t args)) ≤ left
-piece_taken t args rest more piece most left e few room h =
-    omega (arith, ap length (pieces_step Plain rest more piece (shows t args) e), length-append (piece_text Plain piece (shows t args)) (pieces_text Plain more (shows t args)), few, room, h)

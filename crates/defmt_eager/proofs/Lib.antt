@@ -1,4 +1,4 @@
 pub mod Appends
-pub mod Bits
 pub mod Bounds
 pub mod Lengths
+mod PieceBounds

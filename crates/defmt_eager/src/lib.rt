@@ -7,10 +7,12 @@
 
 mod eager;
 mod parts;
+mod pieces;
 mod printed;
 mod values;
 mod wide;
 
 pub use eager::{EagerFault, text_of};
-pub use printed::line;
+pub use pieces::{acting, comma, interned_text, node_pieces, own_pieces, pieces_of};
+pub use printed::{level_text, line};
 pub use wide::is_wide;

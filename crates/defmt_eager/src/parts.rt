@@ -1,5 +1,5 @@
 //! Single values, appended within a limit.
-ghost use Rattle.std.specs.Prelude.{◌≡◌, ◌≤◌, ◌/◌, ◌%◌, ◌^◌, ◌-◌, ◌+◌, ◌*◌, ◌<◌, List, ℕ, length, if◌then◌else◌, []};
+ghost use Rattle.std.specs.Prelude.{◌≡◌, ◌≤◌, ◌+◌, ◌*◌, ◌<◌, List, ℕ, length, if◌then◌else◌, []};
 ghost use Rattle.std.specs.Bool.{OnTrue};
 ghost use Rattle.defmt_eager.specs.Answers.{Shows, least_bytes};
 ghost use Rattle.defmt_eager.specs.Show.{int_text, bits_text};
@@ -10,7 +10,7 @@ ghost use Rattle.defmt_hints.specs.Printed.{printed_uint, printed_int, printed_b
 use crate::eager::EagerFault;
 use defmt_grammar::{Hint, IntSize, Kind, Memory, Text};
 use defmt_hints::{show_bool, show_bytes, show_char, show_int, show_str, show_uint};
-use defmt_values::{is_signed, size_bits};
+use defmt_values::{bits_between, is_signed, size_bits};
 
 // The answer for what was shown: it is too long where the text passes the limit with it.
 fn within(shown: Result<(), Memory>, out: &Text, limit: usize) -> Result<(), EagerFault>
@@ -138,20 +138,6 @@ pub fn push_bytes(out: &mut Text, limit: usize, bytes: &[u8], hint: &Hint) -> Re
     within(show_bytes(bytes, hint, out), out, limit)
 }
 
-// A number without its lowest bits.
-fn without_low(n: u128, bits: u8) -> u128
-    ensures { result ≡ n / 2 ^ bits }
-{
-    if bits < 128 { n >> bits } else { 0 }
-}
-
-// The lowest bits of a number.
-fn low(n: u128, bits: u8) -> u128
-    ensures { result ≡ n % 2 ^ bits }
-{
-    if bits < 128 { n % (1u128 << bits) } else { n }
-}
-
 /// Appends the bit field that the kind names.
 pub fn push_bits(
     out: &mut Text,
@@ -164,10 +150,7 @@ pub fn push_bits(
     ensures { Shows limit out.old out.new result (bits_text kind n hint.now) }
 {
     match kind {
-        Kind::Bits { lo, hi } => {
-            let field = low(without_low(n, lo), hi.saturating_sub(lo));
-            push_uint(out, limit, field, hint)
-        }
+        Kind::Bits { lo, hi } => { push_uint(out, limit, bits_between(n, lo, hi), hint) }
         _ => Ok(()),
     }
 }

@@ -8,14 +8,15 @@ ghost use Rattle.defmt_intern.specs.Stamp.{stamp_of};
 ghost use Rattle.defmt_values.specs.Fits.{Fits, FitsStamp, IsLogged};
 
 use crate::eager::{EagerFault, TEXT_LIMIT};
-use crate::values::{pieces_of, push_pieces, push_statement};
+use crate::pieces::pieces_of;
+use crate::values::{push_pieces, push_statement};
 use defmt_grammar::{Hint, Memory, Piece, Text};
 use defmt_intern::{Table, Tag};
 use defmt_values::{Args, Statement, look_up};
 use std::alloc::Global;
 
-// The name of a level, left in five places.
-fn level_text(tag: &Tag) -> Option<&'static str>
+/// The name of a level, left in five places. What is no level has none.
+pub fn level_text(tag: &Tag) -> Option<&'static str>
     ensures text { option_map (λ level. level.now) result ≡ level_text tag.now }
     ensures width { IfSome result (λ level. length level.now ≡ 5) }
 {

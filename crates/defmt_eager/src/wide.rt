@@ -3,18 +3,19 @@ ghost use Rattle.std.specs.Prelude.{◌≡◌, ◌≤◌, ◌+◌, ◌*◌, nat_
 ghost use Rattle.std.specs.Bool.{OnTrue};
 ghost use Rattle.defmt_eager.specs.Answers.{most_bytes};
 ghost use Rattle.defmt_eager.specs.Line.{text_limit};
-ghost use Rattle.defmt_eager.specs.Show.{eager_text, piece_text, pieces_text, show_val, shows};
+ghost use Rattle.defmt_eager.specs.Show.{eager_text, interned_text, piece_text, pieces_text, show_elems, show_val, shows};
+ghost use Rattle.defmt_grammar.specs.declared.hint.Hint.{Hint as AnyHint};
 ghost use Rattle.defmt_grammar.specs.declared.kind.Kind.{Kind as AnyKind};
-ghost use Rattle.defmt_hints.specs.Printed.{printed_bytes};
-ghost use Rattle.defmt_intern.specs.Table.{Map};
+ghost use Rattle.defmt_hints.specs.Printed.{list_text, printed_bytes, printed_str};
+ghost use Rattle.defmt_values.specs.Entries.{look};
 ghost use Rattle.defmt_values.specs.Fits.{Fits};
 ghost use Rattle.defmt_values.specs.View.{plain};
 
 use crate::eager::{EagerFault, TEXT_LIMIT, text_of};
-use crate::values::own_pieces;
+use crate::pieces::{acting, interned_text, node_pieces, own_pieces};
 use defmt_grammar::{Hint, Memory, Piece};
 use defmt_intern::Table;
-use defmt_values::{Args, Statement, Value, cut};
+use defmt_values::{Args, Items, Statement, Value, cut};
 use std::alloc::Global;
 
 // More bytes than a number, a truth value or a character has under a hint.
@@ -41,11 +42,27 @@ fn bytes_bound(bytes: &[u8], hint: Hint) -> Option<usize>
     bytes_of(bytes.len(), 2 + most_bytes(hint))
 }
 
-// No fewer bytes than the text of a value has, which isn't printed. `None` for a value with an entry of its own.
+// No fewer bytes than an interned string has, under any hint.
+fn interned_bound(table: &Table, index: u16) -> Option<usize>
+    ensures { (hint : AnyHint) → IfSome result
+        (λ most. length (printed_str (interned_text (look table.now.entries index)) hint) ≤ most) }
+{
+    bytes_of(interned_text(table, index).len(), 2)
+}
+
+// The sum of three numbers.
+fn sum_of(most: usize, more: usize, around: usize) -> Option<usize>
+    ensures { IfSome result (λ sum. sum ≡ most + more + around) }
+{
+    most.checked_add(more)?.checked_add(around)
+}
+
+// No fewer bytes than the text of a value has, which isn't printed.
+#[cycle(bound)]
 #[tactic(auto, unfolding(crate::specs::Show::show_val), using(crate::proofs::Bounds::leaves))]
-fn value_bound(value: &Value, hint: Hint) -> Option<usize>
-    ensures { (t : Map) (kind : AnyKind)
-        → IfSome result (λ most. length (show_val t (plain value.now) kind hint) ≤ most) }
+fn value_bound(table: &Table, hint: Hint, value: &Value) -> Option<usize>
+    ensures { (kind : AnyKind) → IfSome result
+        (λ most. length (show_val table.now.entries (plain value.now) kind hint) ≤ most) }
 {
     match value {
         Value::Uint(n) | Value::Bits(n) => {
@@ -55,42 +72,86 @@ fn value_bound(value: &Value, hint: Hint) -> Option<usize>
         Value::Int(_) | Value::Bool(_) | Value::Char(_) => Some(most_bytes(hint)),
         Value::Str(text) => bytes_of(text.len(), 2),
         Value::Bytes(bytes) => bytes_bound(bytes.as_slice(), hint),
-        Value::Istr(_) | Value::Format(_) | Value::Seq(_) => None,
+        Value::Istr(index) => interned_bound(table, *index),
+        Value::Format(node) => {
+            let pieces = node_pieces(table, node.index, node.variant);
+            pieces_bound(table, hint, pieces, &node.args)
+        }
+        Value::Seq(seq) => list_bound(table, hint, seq.index.unwrap_or(0), &seq.items),
     }
 }
 
 // No fewer bytes than the text of a piece has.
-fn piece_bound(piece: &Piece, args: &Args) -> Option<usize>
-    ensures { (t : Map)
-        → IfSome result
-        (λ most. length (piece_text Hint.Plain piece.now (shows t args.now)) ≤ most) }
+#[cycle(bound)]
+fn piece_bound(table: &Table, outer: Hint, piece: &Piece, args: &Args) -> Option<usize>
+    ensures { IfSome result
+        (λ most. length (piece_text outer piece.now (shows table.now.entries args.now)) ≤ most) }
 {
     match piece {
         Piece::Literal(text) => Some(text.len()),
         Piece::Param(param) => match args.get(param.position) {
             None => Some(0),
-            Some(value) => value_bound(value, param.hint),
+            Some(value) => {
+                let hint = acting(outer, param.hint);
+                value_bound(table, hint, value)
+            }
         },
     }
 }
 
-// Whether the bounds of the pieces lie within the limit together.
-fn is_short(pieces: &[Piece], args: &Args) -> bool
-    ensures { (t : Map)
-        → OnTrue result
-        (length (pieces_text Hint.Plain pieces.now (shows t args.now)) ≤ text_limit) }
+// The same of pieces one after another.
+#[cycle(bound)]
+fn pieces_bound(table: &Table, outer: Hint, pieces: &[Piece], args: &Args) -> Option<usize>
+    ensures { IfSome result
+        (λ most. length (pieces_text outer pieces.now (shows table.now.entries args.now)) ≤ most) }
 {
     let mut rest = pieces;
-    let mut left = TEXT_LIMIT;
+    let mut most = 0usize;
     'each: while let Some((piece, more)) = cut(rest) {
-        let Some(most) = piece_bound(piece, args) else {
-            return false;
+        let Some(one) = piece_bound(table, outer, piece, args) else {
+            return None;
         };
-        if most > left {
-            return false;
-        }
-        left -= most;
+        let Some(sum) = sum_of(most, one, 0) else {
+            return None;
+        };
+        most = sum;
         rest = more;
+    }
+    Some(most)
+}
+
+// The same of a list, with its brackets and two bytes around each element.
+#[cycle(bound)]
+fn list_bound(table: &Table, hint: Hint, index: u16, items: &Items) -> Option<usize>
+    ensures { IfSome result
+        (λ most. length (list_text (show_elems table.now.entries index hint items.now)) ≤ most) }
+{
+    let mut rest = items.as_slice();
+    let mut most = 2usize;
+    'each: while let Some((item, more)) = cut(rest) {
+        let pieces = node_pieces(table, index, item.variant);
+        let Some(one) = pieces_bound(table, hint, pieces, &item.args) else {
+            return None;
+        };
+        let Some(sum) = sum_of(most, one, 2) else {
+            return None;
+        };
+        most = sum;
+        rest = more;
+    }
+    Some(most)
+}
+
+// Whether the bounds of its pieces keep the text of a statement within the limit.
+fn is_short(table: &Table, index: u16, args: &Args) -> bool
+    ensures { OnTrue result (length (eager_text table.now.entries index args.now) ≤ text_limit) }
+{
+    let pieces = own_pieces(table, index);
+    let Some(most) = pieces_bound(table, Hint::Plain, pieces, args) else {
+        return false;
+    };
+    if most > TEXT_LIMIT {
+        return false;
     }
     true
 }
@@ -107,7 +168,7 @@ pub fn is_wide(alloc: Global, table: &Table, stm: &Statement) -> Result<bool, Me
         ≡ nat_lt text_limit
         (length (eager_text table.now.entries stm.now.index stm.now.args))) }
 {
-    if is_short(own_pieces(table, stm.index), &stm.args) {
+    if is_short(table, stm.index, &stm.args) {
         return Ok(false);
     }
     match text_of(alloc, table, stm) {

@@ -1,6 +1,6 @@
 //! Single values.
 
-ghost use Rattle.std.specs.Prelude.{◌≡◌, ◌≤◌, ◌+◌, ◌-◌, ◌/◌, ◌%◌, ◌^◌, length};
+ghost use Rattle.std.specs.Prelude.{◌≡◌, ◌≤◌, ◌+◌, ◌-◌, ◌/◌, ◌^◌, length};
 ghost use Rattle.defmt_eager.specs.Show.{bits_text, int_text};
 ghost use Rattle.defmt_grammar.specs.Sizes.{IsSigned, size_bits};
 ghost use Rattle.defmt_hints.specs.Printed.{printed_int, printed_uint, signed_text, twos_complement};
@@ -8,7 +8,7 @@ ghost use Rattle.defmt_put.specs.Written.{Writes};
 
 use defmt_grammar::{Hint, IntSize, Kind};
 use defmt_put::{put, put_decimal, put_uint};
-use defmt_values::{is_signed, size_bits};
+use defmt_values::{bits_between, is_signed, size_bits};
 
 /// Writes an unsigned number, where 64 bits hold it.
 pub fn put_number(out: &mut [u8], at: usize, number: u128, hint: Hint) -> Option<usize>
@@ -94,34 +94,13 @@ fn twos_complement(number: i128, size: IntSize) -> u128
     }
 }
 
-// A number without its lowest bits.
-fn without_low(number: u128, bits: u8) -> u128
-    ensures { result ≡ number / 2 ^ bits }
-{
-    if bits < 128 { number >> bits } else { 0 }
-}
-
-// The lowest bits of a number.
-fn low(number: u128, bits: u8) -> u128
-    ensures { result ≡ number % 2 ^ bits }
-{
-    if bits < 128 {
-        number % (1u128 << bits)
-    } else {
-        number
-    }
-}
-
 /// Writes the bit field that the kind names.
 pub fn put_bits(out: &mut [u8], at: usize, number: u128, kind: Kind, hint: Hint) -> Option<usize>
     requires { at ≤ length out.old }
     ensures { Writes result out.old at out.new (bits_text kind number hint) }
 {
     match kind {
-        Kind::Bits { lo, hi } => {
-            let field = low(without_low(number, lo), hi.saturating_sub(lo));
-            put_number(out, at, field, hint)
-        }
+        Kind::Bits { lo, hi } => { put_number(out, at, bits_between(number, lo, hi), hint) }
         _ => None,
     }
 }

@@ -9,4 +9,4 @@ mod leaves;
 mod line;
 mod values;
 
-pub use line::{put_line, put_text};
+pub use line::put_line;

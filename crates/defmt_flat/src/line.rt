@@ -1,32 +1,19 @@
 //! The line of a statement.
 
-ghost use Rattle.std.specs.Prelude.{◌≡◌, ◌≤◌, ◌++◌, length, Some, option_map};
-ghost use Rattle.defmt_eager.specs.Line.{eager_line, level_text, stamp_space, stamp_text};
-ghost use Rattle.defmt_eager.specs.Show.{eager_text, piece_text, pieces_text, shows};
+ghost use Rattle.std.specs.Prelude.{◌≤◌, ◌++◌, length, Some};
+ghost use Rattle.defmt_eager.specs.Line.{eager_line, stamp_space, stamp_text};
+ghost use Rattle.defmt_eager.specs.Show.{piece_text, pieces_text, shows};
 ghost use Rattle.defmt_encode.specs.Carry.{stamp_args};
 ghost use Rattle.defmt_intern.specs.Stamp.{stamp_of};
 ghost use Rattle.defmt_intern.specs.Table.{Map};
 ghost use Rattle.defmt_put.specs.Written.{Writes};
 
-use crate::values::{acting, own_pieces, pieces_of, put_pieces};
+use crate::values::put_pieces;
+use defmt_eager::{acting, level_text, own_pieces, pieces_of};
 use defmt_grammar::{Hint, Piece};
-use defmt_intern::{Table, Tag};
+use defmt_intern::Table;
 use defmt_put::{put, put_uint};
 use defmt_values::{Statement, cut, look_up};
-
-// The name of a level, in five places.
-fn level_text(tag: &Tag) -> Option<&'static str>
-    ensures { option_map (λ level. level.now) result ≡ level_text tag.now }
-{
-    match tag {
-        Tag::Trace => Some("TRACE"),
-        Tag::Debug => Some("DEBUG"),
-        Tag::Info => Some("INFO "),
-        Tag::Warn => Some("WARN "),
-        Tag::Error => Some("ERROR"),
-        _ => None,
-    }
-}
 
 // Writes the text of a stamp and a space, where the table has a timestamp's entry.
 fn put_stamp(table: &Table, stamp: Option<u64>, out: &mut [u8], at: usize) -> Option<usize>
@@ -114,14 +101,4 @@ pub fn put_line(
     let named = put(out, stamped, level.as_bytes())?;
     let front = put(out, named, b" ")?;
     put_pieces(table, out, front, Hint::Plain, pieces, &stm.args)
-}
-
-/// Writes the text of a statement, without stamp and level, as `text_of` of defmt_eager gives it.
-pub fn put_text(table: &Table, stm: &Statement, out: &mut [u8], at: usize) -> Option<usize>
-    requires { at ≤ length out.old }
-    ensures { Writes result out.old at out.new
-        (eager_text table.now.entries stm.now.index stm.now.args) }
-{
-    let pieces = own_pieces(table, stm.index);
-    put_pieces(table, out, at, Hint::Plain, pieces, &stm.args)
 }

@@ -1,78 +1,18 @@
 //! Values in the pieces of their texts, to the depth of the values.
 
-ghost use Rattle.std.specs.Prelude.{◌≡◌, ◌≤◌, ◌++◌, length};
+ghost use Rattle.std.specs.Prelude.{◌≤◌, ◌++◌, length};
 ghost use Rattle.defmt_eager.specs.Answers.{comma};
-ghost use Rattle.defmt_eager.specs.Show.{interned_text, node_pieces, own_pieces, pieces_in, acting, show_val, shows, show_elems, pieces_text, piece_text, param_text};
+ghost use Rattle.defmt_eager.specs.Show.{node_pieces, show_val, shows, show_elems, pieces_text, piece_text, param_text};
 ghost use Rattle.defmt_hints.specs.Printed.{list_text, parted};
 ghost use Rattle.defmt_put.specs.Written.{Writes};
-ghost use Rattle.defmt_values.specs.Entries.{look};
-ghost use Rattle.defmt_values.specs.Scan.{own_in};
 ghost use Rattle.defmt_values.specs.View.{plain};
 
 use crate::leaves::{put_bits, put_number, put_sized};
+use defmt_eager::{acting, comma, interned_text, node_pieces};
 use defmt_grammar::{Hint, Kind, Param, Piece};
-use defmt_intern::{Parsed, Table};
+use defmt_intern::Table;
 use defmt_put::{put, put_bool, put_bytes, put_char, put_str};
-use defmt_values::{Args, Item, Items, Value, cut, form_of, look_up, pick};
-
-// The text of an interned string.
-fn interned_text(table: &Table, index: u16) -> &str
-    ensures { result.now ≡ interned_text (look table.now.entries index) }
-{
-    match look_up(table, index) {
-        None => "",
-        Some((entry, _)) => entry.text.as_str(),
-    }
-}
-
-// The pieces of the text of a Format value.
-fn node_pieces(table: &Table, index: u16, variant: Option<u8>) -> &[Piece]
-    ensures { result.now ≡ node_pieces table.now.entries index variant }
-{
-    match form_of(table, index) {
-        Err(_) => &[],
-        Ok(form) => match pick(form, variant) {
-            Err(_) => &[],
-            Ok(pieces) => pieces.as_slice(),
-        },
-    }
-}
-
-/// The pieces of what a statement's entry stands for.
-pub fn pieces_of(body: &Parsed) -> &[Piece]
-    ensures { result.now ≡ pieces_in (own_in body.now) }
-{
-    match body {
-        Parsed::One(pieces) => pieces.as_slice(),
-        _ => &[],
-    }
-}
-
-/// The pieces of the text of a statement.
-pub fn own_pieces(table: &Table, index: u16) -> &[Piece]
-    ensures { result.now ≡ own_pieces table.now.entries index }
-{
-    match look_up(table, index) {
-        None => &[],
-        Some((_, body)) => pieces_of(body),
-    }
-}
-
-/// The hint that acts on a parameter, from the one that acts round it and its own.
-pub fn acting(outer: Hint, own: Hint) -> Hint
-    ensures { result ≡ acting outer own }
-{
-    match own {
-        Hint::Plain => outer,
-        _ => own,
-    }
-}
-
-fn comma(first: bool) -> &'static str
-    ensures { result.now ≡ comma first }
-{
-    if first { "" } else { ", " }
-}
+use defmt_values::{Args, Item, Items, Value, cut};
 
 // Writes the text of a value where a parameter of this kind stands, under the hint that acts on it.
 #[cycle(show)]

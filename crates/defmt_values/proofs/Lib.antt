@@ -1,4 +1,5 @@
 pub mod Again
+mod Bits
 pub mod Faults
 pub mod Forms
 pub mod Found

@@ -1,5 +1,5 @@
-//! How many bits and bytes numbers have.
-ghost use Rattle.std.specs.Prelude.{◌≡◌, ◌==◌, ◌%◌, nat_lt, ◌<◌, ◌≤◌, ◌^◌, MatchOption};
+//! How many bits and bytes numbers have, and which.
+ghost use Rattle.std.specs.Prelude.{◌≡◌, ◌==◌, ◌-◌, ◌/◌, ◌%◌, nat_lt, ◌<◌, ◌≤◌, ◌^◌, MatchOption};
 ghost use Rattle.defmt_grammar.specs.Sizes.{size_bits, is_signed};
 
 use defmt_grammar::IntSize;
@@ -64,4 +64,25 @@ pub fn is_multiple(n: u128, bytes: u32) -> bool
         Some(p) => n % p == 0,
         None => n == 0,
     }
+}
+
+// A number without its lowest bits.
+fn without_low(n: u128, bits: u8) -> u128
+    ensures { result ≡ n / 2 ^ bits }
+{
+    if bits < 128 { n >> bits } else { 0 }
+}
+
+// The lowest bits of a number.
+fn low(n: u128, bits: u8) -> u128
+    ensures { result ≡ n % 2 ^ bits }
+{
+    if bits < 128 { n % (1u128 << bits) } else { n }
+}
+
+/// The bits of a number from this one on, up to that one, as a number: none where that one is no higher. Takes no memory.
+pub fn bits_between(n: u128, lo: u8, hi: u8) -> u128
+    ensures { result ≡ n / 2 ^ lo % 2 ^ (hi - lo) }
+{
+    low(without_low(n, lo), hi.saturating_sub(lo))
 }

@@ -22,7 +22,7 @@ returns-in_err-front c =
 pub returns-in_default : goal.returns-in_default
 returns-in_default c =
     subst (λ (x : List ℕ). Writes c.put_pieces.result c.args.out.now c.args.at c.put_pieces.new.out x)
-    (line_alone c.args.table.now.entries (stamp_args c.args.stamp) c.args.stm.now.index c.args.stm.now.args c.in_ok-entry.entry.now c.in_ok-entry.body.now c.in_ok-entry.ensures.0 c.in_ok-entry.ensures.1 (sym c.in_default.ensures))
+    (line_alone c.args.table.now.entries (stamp_args c.args.stamp) c.args.stm.now.index c.args.stm.now.args c.in_ok-entry.entry.now c.in_ok-entry.body.now c.in_ok-entry.ensures.0 c.in_ok-entry.ensures.1 (sym c.in_default.ensures.text))
     (rw c.pieces_of-pieces.ensures at c.put_pieces.ensures)
 
 pub returns : goal.returns
@@ -35,7 +35,7 @@ returns c =
     let none : Pending c.args.out.now c.args.at whole c.args.out.now c.args.at whole = pending_none c.args.out.now c.args.at whole c.requires in
     let one : Pending c.args.out.now c.args.at whole c.put_stamp.new.out c.in_ok-stamped.stamped (level ++ (codes " " ++ text)) =
     pending_step c.args.out.now c.args.at whole c.args.out.now c.put_stamp.new.out c.args.at c.in_ok-stamped.stamped whole front (level ++ (codes " " ++ text))
-    (sym (line_is t (stamp_args c.args.stamp) c.args.stm.now.index c.args.stm.now.args c.in_ok-entry.entry.now c.in_ok-entry.body.now level c.in_ok-entry.ensures.0 c.in_ok-entry.ensures.1 (sym c.in-Some.ensures))) none c.in_ok-stamped.ensures in
+    (sym (line_is t (stamp_args c.args.stamp) c.args.stm.now.index c.args.stm.now.args c.in_ok-entry.entry.now c.in_ok-entry.body.now level c.in_ok-entry.ensures.0 c.in_ok-entry.ensures.1 (sym c.in-Some.ensures.text))) none c.in_ok-stamped.ensures in
     let two : Pending c.args.out.now c.args.at whole c.put.new.out c.in_ok-named.named (codes " " ++ text) =
     pending_step c.args.out.now c.args.at whole c.put_stamp.new.out c.put.new.out c.in_ok-stamped.stamped c.in_ok-named.named (level ++ (codes " " ++ text)) level (codes " " ++ text) refl one (rw c.as_bytes.ensures.value at c.in_ok-named.ensures) in
     let three : Pending c.args.out.now c.args.at whole c.put-2.new.out c.in_ok-front.front text =

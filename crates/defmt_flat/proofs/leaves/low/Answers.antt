@@ -1,5 +1,0 @@
-use Rattle.defmt_eager.proofs.Bits as bits
-use Rattle.defmt_flat.proofs.leaves.low.Goals as goal
-
-pub returns-else-bits-lt128 : goal.returns-else-bits-lt128
-returns-else-bits-lt128 c = bits.all_below c.args.number c.args.bits c.ranges.number.fits c.if-bits-lt128.false
