@@ -1,9 +1,10 @@
 -- How the logic stores what contracts see of a stand: as the tuple of its parts.
-use Rattle.std.specs.Prelude.{ℕ, Bool, List, refl}
-use Rattle.std.specs.Coded.{Coded, code_by, coded×, coded_list, coded_ℕ, coded_bool}
+use Rattle.std.specs.Prelude.{ℕ, List, refl}
+use Rattle.std.specs.Coded.{Coded, code_by, coded×, coded_list, coded_ℕ}
 use Rattle.rtt_booth.specs.Kept.{Reel, Sheet}
 use Rattle.rtt_booth.specs.contracts.said.Word.{the_row as word_row}
 use Rattle.rtt_booth.specs.declared.said.Word.{Word}
+use Rattle.rtt_ring.specs.Codes.{coded_up}
 use Rattle.rtt_ring.specs.Views.{Up}
 use Rattle.rtt_terminal.specs.Codes.{coded_speech}
 use Rattle.rtt_terminal.specs.Speech.{Speech}
@@ -13,26 +14,6 @@ coded_reel = code_by (List Word × ℕ)
     (coded× (coded_list word_row.coded) coded_ℕ)
     (λ r. (r.words, r.room))
     (λ p. record { words = p.0; room = p.1 })
-    (λ _. refl)
-
-abbrev coded_bytes : Coded (List ℕ)
-coded_bytes = coded_list coded_ℕ
-
-abbrev coded_up : Coded Up
-coded_up = code_by (List ℕ × (ℕ × (List ℕ × (List ℕ × (ℕ × (ℕ × (ℕ × Bool)))))))
-    (coded× coded_bytes (coded× coded_ℕ (coded× coded_bytes (coded× coded_bytes (coded× coded_ℕ
-    (coded× coded_ℕ (coded× coded_ℕ coded_bool)))))))
-    (λ u. (u.split, (u.size, (u.sent, (u.staged, (u.room, (u.looks, (u.freed, u.tells))))))))
-    (λ p. record {
-      split = p.0;
-      size = p.1.0;
-      sent = p.1.1.0;
-      staged = p.1.1.1.0;
-      room = p.1.1.1.1.0;
-      looks = p.1.1.1.1.1.0;
-      freed = p.1.1.1.1.1.1.0;
-      tells = p.1.1.1.1.1.1.1;
-    })
     (λ _. refl)
 
 abbrev pub coded_sheet : Coded Sheet
