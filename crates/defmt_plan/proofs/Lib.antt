@@ -1,11 +1,12 @@
-pub mod Along
 pub mod Carrying
 pub mod Complements
+pub mod Fields
 pub mod Fronting
 pub mod Leading
-pub mod Onward
 pub mod Places
 pub mod Planning
+pub mod Running
+pub mod Slotting
 pub mod Striding
 pub mod Telling
 pub mod Values

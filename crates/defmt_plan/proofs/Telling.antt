@@ -29,7 +29,7 @@ use Rattle.defmt_plan.proofs.Leading.{PassedLed, passed_led}
 use Rattle.defmt_plan.specs.Carried.{Carried}
 use Rattle.defmt_plan.specs.Passed.{Passed, Passes}
 use Rattle.defmt_plan.specs.Plans.{AreStepsOf, IsPlanIn, AreStampSteps, lead_text}
-use Rattle.defmt_plan.specs.Steps.{pieces_of}
+use Rattle.defmt_plan.specs.Steps.{PassAll}
 use Rattle.defmt_plan.specs.Told.{Fronts, IsHead, StampPassed, StampPasses, IsTold}
 use Rattle.defmt_put.specs.Written.{Written}
 use Rattle.defmt_plan.specs.declared.leaves.Progress.{Progress}
@@ -53,9 +53,10 @@ record OwnPassed (t : Map) (index : ℕ) (bytes : List ℕ) (from to : ℕ) (old
   pub carried : Carried bytes from to (bytes_vals t (own_slots t index) args)
   pub written : Written old at new end (eager_text t index args)
 
-own_passed : (t : Map) (index : ℕ) (steps : List Step) (bytes : List ℕ) (from to : ℕ) (old : List ℕ) (at : ℕ) (new : List ℕ) (end : ℕ) → AreStepsOf t index steps → Passed t (pieces_of steps) bytes from to old at new end → OwnPassed t index bytes from to old at new end
-own_passed t index steps bytes from to old at new end own p =
-    let ps : List Piece = pieces_of steps in
+own_passed : (t : Map) (index : ℕ) (steps : List Step) (bytes : List ℕ) (from to : ℕ) (old : List ℕ) (at : ℕ) (new : List ℕ) (end : ℕ) → AreStepsOf t index steps → Passed t steps bytes from to old at new end → OwnPassed t index bytes from to old at new end
+own_passed t index steps bytes from to old at new end own passed =
+    let ps : List Piece = own.pieces in
+    let p = passed_led t None ps ps steps bytes from to old at new end refl own.steps_are passed in
     let same : slots_of ps ≡ own_slots t index = sym (own_slots_are t index own.entry ps own.there own.body) in
     record {
       args = p.args;
@@ -63,7 +64,7 @@ own_passed t index steps bytes from to old at new end own p =
       sound = p.sound;
       lengths = subst (λ (ss : List Slot). LengthsFit t ss p.args) same p.lengths;
       carried = subst (λ (ss : List Slot). Carried bytes from to (bytes_vals t ss p.args)) same p.carried;
-      written = subst (λ (qs : List Piece). Written old at new end (pieces_text hints.Plain qs (shows t p.args))) (sym (own_pieces_are t index own.entry ps own.there own.body)) p.written;
+      written = subst (λ (x : List ℕ). Written old at new end x) (sym (ap (λ (qs : List Piece). pieces_text hints.Plain qs (shows t p.args)) (own_pieces_are t index own.entry ps own.there own.body) ∙ p.text_is)) p.written;
     }
 
 -- arguments of an entry, with what its text has behind the literal
@@ -104,10 +105,10 @@ stamp_none t bytes from old at none le most = record {
   written = subst (λ (o : Option ℕ). Written old at old at (stamp_text t o no_vals)) (sym none) (written_none old at most);
 }
 
-pub stamp_steps : (r : Option Progress) (t : Map) (steps : List Step) (bytes : List ℕ) (from : ℕ) (old : List ℕ) (at : ℕ) (new : List ℕ) → AreStampSteps t steps → ((t : Map) → Passes r t (pieces_of steps) bytes from old at new) → StampPasses r t bytes from old at new
-stamp_steps None t steps bytes from old at new s k = k t
+pub stamp_steps : (r : Option Progress) (t : Map) (steps : List Step) (bytes : List ℕ) (from : ℕ) (old : List ℕ) (at : ℕ) (new : List ℕ) → AreStampSteps t steps → ((t : Map) (all : List Piece) → PassAll all 0 steps → Passes r t steps bytes from old at new) → StampPasses r t bytes from old at new
+stamp_steps None t steps bytes from old at new s k = k t s.own.pieces s.own.steps_are.pass
 stamp_steps (Some after) t steps bytes from old at new s k =
-    let p = own_passed t s.index steps bytes from after.read old at new after.written s.own (k t) in
+    let p = own_passed t s.index steps bytes from after.read old at new after.written s.own (k t s.own.pieces s.own.steps_are.pass) in
     record {
       stamp = p.args;
       fits = subst (λ (o : Option ℕ). FitsStamp t o p.args) (sym s.is) p.fits;
@@ -171,10 +172,10 @@ told_at t plan head bytes padding middle to old mid begun new at m k end le room
 
 pub told_all : (t : Catalog) (plan : Plan) (head : Head) (bytes padding : List ℕ) (middle to : ℕ) (old mid begun new : List ℕ) (at m k end : ℕ) → at ≤ length old → length old ≤ 65536
     → plan.index ≡ head.index → IsPlanIn t.entries plan → IsHead t.profile bytes head → StampPassed t.entries bytes head.read middle old at mid m → Fronts plan.front (Some k) mid m at begun
-    → ((t : Map) → Passed t (pieces_of plan.steps.items) bytes middle to begun k new end)
+    → ((t : Map) (all : List Piece) → PassAll all 0 plan.steps.items → Passed t plan.steps.items bytes middle to begun k new end)
     → padding ≡ take (length bytes - to) (drop to bytes) → (length padding ≤ 6) × (all_zero padding ≡ true) → IsTold t bytes head.place head.index old at new end
 told_all t plan head bytes padding middle to old mid begun new at m k end le room same is h s f o pad p =
     subst (λ (i : ℕ). IsTold t bytes head.place i old at new end) same
     (told_at t plan head bytes padding middle to old mid begun new at m k end le room same is h s f
     (own_led t.entries plan.index is.entry is.own.lead is.pieces bytes middle to begun k new end is.there is.body
-    (passed_led t.entries is.own.lead is.pieces (pieces_of plan.steps.items) bytes middle to begun k new end is.own.pieces_are (o t.entries))) pad p)
+    (passed_led t.entries is.own.lead is.pieces is.rest plan.steps.items bytes middle to begun k new end is.own.pieces_are is.steps_are (o t.entries is.pieces is.steps_are.pass))) pad p)

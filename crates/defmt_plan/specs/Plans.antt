@@ -9,7 +9,7 @@ use Rattle.defmt_intern.specs.declared.entry.Entry.{Entry}
 use Rattle.defmt_intern.specs.declared.parsed.Parsed.TheVariants.{One}
 use Rattle.defmt_values.specs.Entries.{look, is_logged}
 use Rattle.defmt_eager.specs.Line.{level_text, stamp_space}
-use Rattle.defmt_plan.specs.Steps.{pieces_of}
+use Rattle.defmt_plan.specs.Steps.{AreSteps}
 use Rattle.defmt_plan.specs.declared.plan.Plan.{Plan}
 use Rattle.defmt_plan.specs.declared.plan.StampPlan.{StampPlan}
 use Rattle.defmt_plan.specs.declared.plan.StampPlan.TheVariants as stamps
@@ -19,7 +19,9 @@ use Rattle.defmt_plan.specs.declared.steps.Step.{Step}
 pub record AreStepsOf (t : Map) (index : ℕ) (steps : List Step) : Type 0 where
   pub entry : Entry
   pub there : look t index ≡ Some entry
-  pub body : body_of entry ≡ One (pieces_of steps)
+  pub pieces : List Piece
+  pub body : body_of entry ≡ One pieces
+  pub steps_are : AreSteps pieces pieces steps
 
 -- a space in front of a level where there is a stamp
 abbrev pub space_if : Bool → List ℕ
@@ -45,11 +47,9 @@ pub record Leads (pieces rest : List Piece) (old new : List ℕ) : Type 0 where
 -- with; without a level there is neither
 abbrev pub IsFront : Map → Option (List ℕ) → Option (List ℕ) → Option (List ℕ) → Type 0
 IsFront t None lead front = (lead ≡ None) × (front ≡ None)
-IsFront t (Some level) lead front =
-    front ≡ Some (stamp_space (stamp_of t) ++ ((level ++ codes " ") ++ lead_text lead))
+IsFront t (Some level) lead front = front ≡ Some (stamp_space (stamp_of t) ++ ((level ++ codes " ") ++ lead_text lead))
 
-pub record HasFront (t : Map) (level : Option (List ℕ)) (pieces : List Piece)
-    (front : Option (List ℕ)) (rest : List Piece) : Type 0 where
+pub record HasFront (t : Map) (level : Option (List ℕ)) (pieces : List Piece) (front : Option (List ℕ)) (rest : List Piece) : Type 0 where
   pub lead : Option (List ℕ)
   pub pieces_are : pieces ≡ led lead rest
   pub front_is : IsFront t level lead front
@@ -61,7 +61,9 @@ pub record IsPlanIn (t : Map) (plan : Plan) : Type 0 where
   pub pieces : List Piece
   pub body : body_of entry ≡ One pieces
   pub logged : is_logged entry.tag ≡ true
-  pub own : HasFront t (level_text entry.tag) pieces plan.front (pieces_of plan.steps.items)
+  pub rest : List Piece
+  pub own : HasFront t (level_text entry.tag) pieces plan.front rest
+  pub steps_are : AreSteps pieces rest plan.steps.items
 
 abbrev pub ArePlansIn : Map → List Plan → Type 0
 ArePlansIn t [] = Unit {0}

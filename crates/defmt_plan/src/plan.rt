@@ -39,7 +39,7 @@ fn steps_at(alloc: Global, table: &Table, index: u16) -> Result<Option<Vec<Step>
         return Ok(None);
     };
     match body {
-        Parsed::One(pieces) => steps_of(alloc, pieces.as_slice()),
+        Parsed::One(pieces) => steps_of(alloc, pieces.as_slice(), pieces),
         _ => Ok(None),
     }
 }
@@ -132,7 +132,7 @@ fn plan_of(alloc: Global, table: &Table, index: u16) -> Result<Option<Plan>, Mem
         return Ok(None);
     };
     let (front, rest) = front_of(alloc, table, &entry.tag, pieces.as_slice())?;
-    let Some(steps) = steps_of(alloc, rest)? else {
+    let Some(steps) = steps_of(alloc, rest, pieces)? else {
         return Ok(None);
     };
     Ok(Some(Plan {

@@ -7,7 +7,7 @@ ghost use Rattle.defmt_plan.specs.Told.{Fronts, StampPasses, Tells};
 use crate::leaves::Progress;
 use crate::message::{Told, is_padding, read_head};
 use crate::plan::{Plan, StampPlan, plans_of, stamp_plan};
-use crate::steps::run;
+use crate::run::run;
 use defmt_grammar::{Memory, Text};
 use defmt_intern::Table;
 use defmt_put::put;
@@ -19,7 +19,7 @@ const LONGEST: usize = 65536;
 
 /// A table, and a plan of each of its strings that is of a level and usual. Contracts see it as its table.
 ///
-/// A string is usual where it uses each position once and in order.
+/// A string is usual where it uses the positions in order, and each once, unless for bit fields of one number.
 #[derive(Drop)]
 pub struct PlannedTable {
     table: Table,

@@ -1,13 +1,13 @@
 //! The pieces of a string as steps, made once.
 
-ghost use Rattle.std.specs.Prelude.{◌≡◌, ◌≤◌, ◌+◌, ◌<◌, ◌∷◌, [], ℕ, length, IfSome, IfOk};
-ghost use Rattle.defmt_intern.specs.Table.{Map};
-ghost use Rattle.defmt_plan.specs.Passed.{PassesPiece, Passes};
-ghost use Rattle.defmt_plan.specs.Steps.{behind, number_step, piece_of, pieces_of};
+ghost use Rattle.std.specs.Prelude.{◌≡◌, ◌<◌, ℕ, List, Some, length, IfSome, IfOk};
+ghost use Rattle.std.specs.List.{slice_get};
+ghost use Rattle.defmt_grammar.specs.Slots.{slots_of, uses_at};
+ghost use Rattle.defmt_grammar.specs.declared.piece.Piece.{Piece as AnyPiece};
+ghost use Rattle.defmt_plan.specs.Steps.{AreSteps, IsNextStep, behind, field_kind, field_slot, piece_of};
 
-use crate::leaves::{Progress, pass_uint, pass_value};
-use defmt_grammar::{Hint, IntSize, Kind, Memory, Piece, Text};
-use defmt_put::put_text;
+use crate::bits::Field;
+use defmt_grammar::{Hint, Kind, Memory, Param, Piece, Pieces, Slot, Text};
 use std::alloc::Global;
 
 /// A step of a plan.
@@ -17,132 +17,141 @@ pub(crate) enum Step {
     Text(Text),
     /// The value of the next position.
     Value(Kind, Hint),
+    /// Bits of the number of the next position, which is used for others behind.
+    Peek(Field, Hint),
+    /// Bits of the number of the next position, for the last time.
+    Bits(Field, Hint),
+}
+
+/// How far the making of steps has come: the next position, and how many fields of its number are before.
+#[derive(Clone, Copy)]
+pub(crate) struct Next {
+    pub position: usize,
+    pub fields: usize,
+}
+
+// The step of a field of bits, by how often its position is used.
+fn field_step(field: Field, hint: Hint, fields: usize, uses: usize) -> Step
+    ensures is { (next : ℕ) → piece_of next result
+        ≡ Piece.Param (record { position = next; kind = field_kind field; hint = hint }) }
+    ensures own { (all : List AnyPiece) (next : ℕ)
+        → slice_get (slots_of all) next ≡ Some (field_slot field) → IsNextStep all next result }
+{
+    if fields.saturating_add(1) == uses {
+        Step::Bits(field, hint)
+    } else {
+        Step::Peek(field, hint)
+    }
+}
+
+// The step of a field of bits, where the position's slot is for such.
+fn bits_step(lo: u8, hi: u8, hint: Hint, slot: Slot, fields: usize, uses: usize) -> Option<Step>
+    ensures is { IfSome result (λ step. (next : ℕ) → piece_of next step
+        ≡ Piece.Param (record { position = next; kind = Kind.Bits lo hi; hint = hint })) }
+    ensures own { IfSome result (λ step. (all : List AnyPiece) (next : ℕ)
+        → slice_get (slots_of all) next ≡ Some slot → IsNextStep all next step) }
+{
+    match slot {
+        Slot::Bits { first, width } => {
+            let field = Field {
+                first,
+                width,
+                lo,
+                hi,
+            };
+            Some(field_step(field, hint, fields, uses))
+        }
+        Slot::One(_) => None,
+    }
+}
+
+// The step of a value, where the position's slot is for its kind and used once.
+fn value_step(kind: Kind, hint: Hint, slot: Slot, uses: usize) -> Option<Step>
+    ensures is { IfSome result (λ step. (next : ℕ) → piece_of next step
+        ≡ Piece.Param (record { position = next; kind = kind; hint = hint })) }
+    ensures own { IfSome result (λ step. (all : List AnyPiece) (next : ℕ)
+        → slice_get (slots_of all) next ≡ Some slot → uses_at next all ≡ uses
+        → IsNextStep all next step) }
+{
+    if uses == 1 && slot == Slot::One(kind) {
+        Some(Step::Value(kind, hint))
+    } else {
+        None
+    }
+}
+
+// The step of a parameter, where it has the next position, and where a value is used once.
+fn param_step(param: Param, all: &Pieces, next: Next) -> Option<Step>
+    ensures is { IfSome result (λ step. piece_of next.position step ≡ Piece.Param param) }
+    ensures own { IfSome result (λ step. IsNextStep all.now next.position step) }
+{
+    if usize::from(param.position) != next.position {
+        return None;
+    }
+    let uses = all.uses(param.position);
+    let slot = *all.slots().get(next.position)?;
+    match param.kind {
+        Kind::Bits { lo, hi } => bits_step(lo, hi, param.hint, slot, next.fields, uses),
+        kind => value_step(kind, param.hint, slot, uses),
+    }
 }
 
 // The step of a piece, where that is a literal or has the next position.
-fn step_of(piece: &Piece, next: usize) -> Result<Option<Step>, Memory>
-    ensures { IfOk result (λ r. IfSome r (λ step. piece_of next step ≡ piece.now)) }
+fn step_of(piece: &Piece, all: &Pieces, next: Next) -> Result<Option<Step>, Memory>
+    ensures is { IfOk result (λ r. IfSome r (λ step. piece_of next.position step ≡ piece.now)) }
+    ensures own { IfOk result (λ r. IfSome r (λ step. IsNextStep all.now next.position step)) }
 {
     match piece {
         Piece::Literal(text) => Ok(Some(Step::Text(text.copy()?))),
-        Piece::Param(param) => {
-            if usize::from(param.position) == next {
-                Ok(Some(Step::Value(param.kind, param.hint)))
-            } else {
-                Ok(None)
-            }
-        }
+        Piece::Param(param) => Ok(param_step(*param, all, next)),
     }
 }
 
-// The position that is next behind a step.
-fn behind(next: usize, step: &Step) -> usize
-    requires { next < 65536 }
-    ensures { result ≡ behind next step.now }
+// What is next behind a step.
+fn behind(next: Next, step: &Step) -> Next
+    requires { next.position < 65536 }
+    ensures { result.position ≡ behind next.position step.now }
 {
     match step {
         Step::Text(_) => next,
-        Step::Value(_, _) => next + 1,
+        Step::Peek(_, _) => Next {
+            position: next.position,
+            fields: next.fields.saturating_add(1),
+        },
+        Step::Value(_, _) | Step::Bits(_, _) => Next {
+            position: next.position + 1,
+            fields: 0,
+        },
     }
 }
 
-/// The steps of pieces, where these use each position once and in order.
-pub(crate) fn steps_of(alloc: Global, pieces: &[Piece]) -> Result<Option<Vec<Step>>, Memory>
-    ensures { IfOk result (λ r. IfSome r (λ steps. pieces_of steps.items ≡ pieces.now)) }
+/// The steps of the pieces of a string, where these use each position in order, and once unless for fields of a number. What they
+/// begin with may be left out, where that is a literal.
+pub(crate) fn steps_of(
+    alloc: Global,
+    pieces: &[Piece],
+    all: &Pieces,
+) -> Result<Option<Vec<Step>>, Memory>
+    ensures { IfOk result (λ r. IfSome r (λ steps. AreSteps all.now pieces.now steps.items)) }
 {
     let mut steps = Vec::new(alloc);
-    let mut next: usize = 0;
+    let mut next = Next {
+        position: 0,
+        fields: 0,
+    };
     for piece in pieces {
-        if next > 255 {
+        if next.position > 255 {
             return Ok(None);
         }
-        let Some(step) = step_of(piece, next)? else {
+        let Some(step) = step_of(piece, all, next)? else {
             return Ok(None);
         };
         next = behind(next, &step);
         steps.push(step)?;
     }
-    Ok(Some(steps))
-}
-
-// One step.
-fn stride(step: &Step, bytes: &[u8], before: Progress, out: &mut [u8]) -> Option<Progress>
-    requires read { before.read ≤ length bytes.now }
-    requires written { before.written ≤ length out.old }
-    ensures { (t : Map) (next : ℕ) → PassesPiece result t next (piece_of next step.now) bytes.now before out.old out.new }
-{
-    match step {
-        Step::Text(text) => {
-            let written = put_text(out, before.written, text.as_str().as_bytes())?;
-            Some(Progress {
-                read: before.read,
-                written,
-            })
-        }
-        Step::Value(kind, hint) => pass_value(*kind, *hint, bytes, before, out),
-    }
-}
-
-// The size and the hint of an unsigned number that is the only step.
-#[inline(always)]
-fn lone_number(steps: &[Step]) -> Option<(IntSize, Hint)>
-    ensures { IfSome result (λ number. steps.now ≡ number_step number.0 number.1 ∷ []) }
-{
-    let Some((first, rest)) = steps.split_first() else {
-        return None;
-    };
-    if !rest.is_empty() {
-        return None;
-    }
-    let Step::Value(kind, hint) = first else {
-        return None;
-    };
-    match kind {
-        Kind::Uint(size) => Some((*size, *hint)),
-        _ => None,
-    }
-}
-
-// Steps, one after another.
-#[inline(never)]
-fn run_all(steps: &[Step], bytes: &[u8], from: usize, out: &mut [u8], at: usize) -> Option<Progress>
-    requires read { from ≤ length bytes.now }
-    requires written { at ≤ length out.old }
-    ensures { (t : Map) → Passes result t (pieces_of steps.now) bytes.now from out.old at out.new }
-{
-    let mut progress = Progress {
-        read: from,
-        written: at,
-    };
-    for step in steps {
-        progress = stride(step, bytes, progress, out)?;
-    }
-    Some(progress)
-}
-
-/// All steps. The text of the pieces that they are stands behind the place, with arguments that the bytes carry for
-/// their slots. Where there is none, or a number alone, nothing is called for them.
-#[inline(always)]
-pub(crate) fn run(
-    steps: &[Step],
-    bytes: &[u8],
-    from: usize,
-    out: &mut [u8],
-    at: usize,
-) -> Option<Progress>
-    requires read { from ≤ length bytes.now }
-    requires written { at ≤ length out.old }
-    ensures { (t : Map) → Passes result t (pieces_of steps.now) bytes.now from out.old at out.new }
-{
-    let before = Progress {
-        read: from,
-        written: at,
-    };
-    if steps.is_empty() {
-        return Some(before);
-    }
-    match lone_number(steps) {
-        Some((size, hint)) => pass_uint(size, hint, bytes, before, out),
-        None => run_all(steps, bytes, from, out, at),
+    if next.position == all.slots().len() {
+        Ok(Some(steps))
+    } else {
+        Ok(None)
     }
 }

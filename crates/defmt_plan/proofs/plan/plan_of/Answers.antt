@@ -1,5 +1,4 @@
-use Rattle.std.proofs.Common.{sym, ap, ◌∙◌}
-use Rattle.defmt_plan.specs.Plans.{led}
+use Rattle.std.proofs.Common.{sym, ◌∙◌}
 use Rattle.defmt_plan.proofs.plan.plan_of.Goals as goal
 
 pub returns : goal.returns
@@ -11,9 +10,11 @@ returns c =
       pieces = c.in-One.pieces;
       body = sym c.in-Some.ensures.1 ∙ c.in-One.is;
       logged = sym c.is_logged.ensures ∙ c.if-not-is_logged.false;
+      rest = c.in_ok-front.rest.now;
       own = record {
         lead = h.lead;
-        pieces_are = sym c.as_slice.ensures.pieces ∙ h.pieces_are ∙ ap (led h.lead) (sym (rw c.in-Some-2.is at c.in_ok-steps.ensures));
+        pieces_are = sym c.as_slice.ensures.pieces ∙ h.pieces_are;
         front_is = h.front_is;
       };
+      steps_are = rw c.in-Some-2.is at c.in_ok-steps.ensures;
     }

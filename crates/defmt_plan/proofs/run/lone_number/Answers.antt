@@ -5,7 +5,7 @@ use Rattle.defmt_grammar.specs.declared.kind.Kind.{Kind}
 use Rattle.defmt_plan.specs.Steps.{number_step}
 use Rattle.defmt_plan.specs.declared.steps.Step.{Step}
 use Rattle.defmt_plan.specs.declared.steps.Step.TheVariants.{Value}
-use Rattle.defmt_plan.proofs.steps.lone_number.Goals as goal
+use Rattle.defmt_plan.proofs.run.lone_number.Goals as goal
 
 pub returns-in-Uint : goal.returns-in-Uint
 returns-in-Uint c =

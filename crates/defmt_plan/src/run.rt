@@ -1,0 +1,123 @@
+//! Steps that pass a message, where no values stand inside others.
+
+ghost use Rattle.std.specs.Prelude.{◌≡◌, ◌≤◌, ◌+◌, ◌∷◌, [], List, length, IfSome, if◌then◌else◌, option_map};
+ghost use Rattle.defmt_intern.specs.Table.{Map};
+ghost use Rattle.defmt_grammar.specs.declared.piece.Piece.{Piece as AnyPiece};
+ghost use Rattle.defmt_plan.specs.Passed.{PassesField, PassesStep, Passes};
+ghost use Rattle.defmt_plan.specs.Steps.{PassAll, number_step};
+
+use crate::bits::{Field, put_field};
+use crate::leaves::{Progress, pass_uint, pass_value};
+use crate::steps::Step;
+use defmt_grammar::{Hint, IntSize, Kind};
+use defmt_put::put_text;
+
+/// A step for bits of a number; the number is passed by where it is used for the last time. It stands apart from the steps that
+/// most strings have.
+#[inline(never)]
+pub(crate) fn pass_field(
+    field: Field,
+    hint: Hint,
+    last: bool,
+    bytes: &[u8],
+    before: Progress,
+    out: &mut [u8],
+) -> Option<Progress>
+    requires read { before.read ≤ length bytes.now }
+    requires written { before.written ≤ length out.old }
+    ensures field { PassesField (option_map (λ after. after.written) result) field hint bytes.now before out.old out.new }
+    ensures read { IfSome result (λ after. after.read ≡ (if last then before.read + field.width else before.read)) }
+{
+    let written = put_field(field, hint, bytes, before, out)?;
+    let passed = if last { usize::from(field.width) } else { 0 };
+    Some(Progress {
+        read: before.read + passed,
+        written,
+    })
+}
+
+// One step.
+fn stride(step: &Step, bytes: &[u8], before: Progress, out: &mut [u8]) -> Option<Progress>
+    requires read { before.read ≤ length bytes.now }
+    requires written { before.written ≤ length out.old }
+    ensures { (t : Map) → PassesStep result t step.now bytes.now before out.old out.new }
+{
+    match step {
+        Step::Text(text) => {
+            let written = put_text(out, before.written, text.as_str().as_bytes())?;
+            Some(Progress {
+                read: before.read,
+                written,
+            })
+        }
+        Step::Value(kind, hint) => pass_value(*kind, *hint, bytes, before, out),
+        Step::Peek(field, hint) => pass_field(*field, *hint, false, bytes, before, out),
+        Step::Bits(field, hint) => pass_field(*field, *hint, true, bytes, before, out),
+    }
+}
+
+// The size and the hint of an unsigned number that is the only step.
+#[inline(always)]
+fn lone_number(steps: &[Step]) -> Option<(IntSize, Hint)>
+    ensures { IfSome result (λ number. steps.now ≡ number_step number.0 number.1 ∷ []) }
+{
+    let Some((first, rest)) = steps.split_first() else {
+        return None;
+    };
+    if !rest.is_empty() {
+        return None;
+    }
+    let Step::Value(kind, hint) = first else {
+        return None;
+    };
+    match kind {
+        Kind::Uint(size) => Some((*size, *hint)),
+        _ => None,
+    }
+}
+
+// Steps, one after another.
+#[inline(never)]
+fn run_all(steps: &[Step], bytes: &[u8], from: usize, out: &mut [u8], at: usize) -> Option<Progress>
+    requires read { from ≤ length bytes.now }
+    requires written { at ≤ length out.old }
+    ensures { (t : Map) (all : List AnyPiece) → PassAll all 0 steps.now
+        → Passes result t steps.now bytes.now from out.old at out.new }
+{
+    let mut progress = Progress {
+        read: from,
+        written: at,
+    };
+    for step in steps {
+        progress = stride(step, bytes, progress, out)?;
+    }
+    Some(progress)
+}
+
+/// All steps. The text of the pieces that they are stands behind the place, with arguments that the bytes carry for
+/// their slots. Where there is none, or a number alone, nothing is called for them.
+#[inline(always)]
+pub(crate) fn run(
+    steps: &[Step],
+    bytes: &[u8],
+    from: usize,
+    out: &mut [u8],
+    at: usize,
+) -> Option<Progress>
+    requires read { from ≤ length bytes.now }
+    requires written { at ≤ length out.old }
+    ensures { (t : Map) (all : List AnyPiece) → PassAll all 0 steps.now
+        → Passes result t steps.now bytes.now from out.old at out.new }
+{
+    let before = Progress {
+        read: from,
+        written: at,
+    };
+    if steps.is_empty() {
+        return Some(before);
+    }
+    match lone_number(steps) {
+        Some((size, hint)) => pass_uint(size, hint, bytes, before, out),
+        None => run_all(steps, bytes, from, out, at),
+    }
+}
