@@ -18,7 +18,7 @@ use Rattle.defmt_plan.proofs.Carrying.{carried_two, carried_none}
 use Rattle.defmt_plan.proofs.Fields.{only_bits, is_bits, sent_back, is_sent, same_sent}
 use Rattle.defmt_plan.proofs.Slotting.{peeked}
 use Rattle.defmt_plan.specs.Carried.{Carried}
-use Rattle.defmt_plan.specs.Passed.{AreFor, Passed, PassedField, PassedStep, Passes, PassesStep, text_along, weigh_each}
+use Rattle.defmt_plan.specs.Passed.{AreFor, Passed, PassedField, PassedStep, Passes, PassesStep, text_along}
 use Rattle.defmt_plan.specs.Steps.{PassAll, behind, field_kind, field_slot, slots_along}
 use Rattle.defmt_plan.specs.declared.bits.Field.{Field}
 use Rattle.defmt_plan.specs.declared.leaves.Progress.{Progress}

@@ -1,5 +1,5 @@
 -- The slots, the weights and the text of steps that pass all positions of a string.
-use Rattle.std.proofs.Common.{◌≡◌, ◌<◌, ◌≤◌, ◌+◌, ◌*◌, ℕ, zero, suc, List, [], ◌∷◌, ◌++◌, length, length-append, drop, drop_of_length-le, refl, sym, ap, subst, ◌∙◌, arith, append_assoc, Option, Some, None}
+use Rattle.std.proofs.Common.{◌≡◌, ◌≤◌, ◌+◌, ◌*◌, ℕ, zero, suc, List, [], ◌∷◌, ◌++◌, length, length-append, drop, drop_of_length-le, refl, sym, ap, subst, ◌∙◌, arith, append_assoc, Option, Some, None}
 use Rattle.std.proofs.lemmas.Option.{slice_get_past}
 use Rattle.std.specs.List.{slice_get}
 use Rattle.defmt_grammar.specs.Slots.{slots_of, uses_at}

@@ -1,5 +1,5 @@
 -- Steps as they are made.
-use Rattle.std.proofs.Common.{◌≡◌, ◌+◌, ℕ, List, [], ◌∷◌, ◌++◌, length, refl, sym, ap, subst, ◌∙◌, append_assoc}
+use Rattle.std.proofs.Common.{◌≡◌, ◌+◌, ℕ, List, [], ◌∷◌, ◌++◌, length, sym, ap, subst, ◌∙◌, append_assoc}
 use Rattle.std.proofs.lemmas.List.{append-nil}
 use Rattle.defmt_grammar.specs.Slots.{slots_of}
 use Rattle.defmt_grammar.specs.declared.piece.Piece.{Piece}
@@ -10,9 +10,6 @@ use Rattle.defmt_plan.specs.declared.steps.Step.{Step}
 pub record Made (made : List Step) (next : ℕ) (rest pieces all : List Piece) : Type 0 where
   pub are : (more : List Step) → pieces_from next more ≡ rest → pieces_of (made ++ more) ≡ pieces
   pub pass : (more : List Step) → PassAll all next more → PassAll all 0 (made ++ more)
-
-pub made_none : (pieces all : List Piece) → Made [] 0 pieces pieces all
-made_none pieces all = record { are = λ more k. k; pass = λ more k. k }
 
 pub made_more : (made new : List Step) (next after : ℕ) (whole rest pieces all : List Piece) (step : Step) (piece : Piece) → Made made next whole pieces all → whole ≡ piece ∷ rest → piece_of next step ≡ piece → IsNextStep all next step → after ≡ behind next step → new ≡ made ++ step ∷ [] → Made new after rest pieces all
 made_more made new next after whole rest pieces all step piece h e is own b p =

@@ -47,9 +47,11 @@ pub record Leads (pieces rest : List Piece) (old new : List ℕ) : Type 0 where
 -- with; without a level there is neither
 abbrev pub IsFront : Map → Option (List ℕ) → Option (List ℕ) → Option (List ℕ) → Type 0
 IsFront t None lead front = (lead ≡ None) × (front ≡ None)
-IsFront t (Some level) lead front = front ≡ Some (stamp_space (stamp_of t) ++ ((level ++ codes " ") ++ lead_text lead))
+IsFront t (Some level) lead front =
+    front ≡ Some (stamp_space (stamp_of t) ++ ((level ++ codes " ") ++ lead_text lead))
 
-pub record HasFront (t : Map) (level : Option (List ℕ)) (pieces : List Piece) (front : Option (List ℕ)) (rest : List Piece) : Type 0 where
+pub record HasFront (t : Map) (level : Option (List ℕ)) (pieces : List Piece)
+    (front : Option (List ℕ)) (rest : List Piece) : Type 0 where
   pub lead : Option (List ℕ)
   pub pieces_are : pieces ≡ led lead rest
   pub front_is : IsFront t level lead front

@@ -1,5 +1,5 @@
 -- The pieces that the steps of a plan are, and the slots of their values.
-use Rattle.std.specs.Prelude.{◌≡◌, ◌+◌, ℕ, Bool, true, false, List, [], ◌∷◌, length, Option, Some}
+use Rattle.std.specs.Prelude.{◌≡◌, ◌+◌, ℕ, List, [], ◌∷◌, length, Some}
 use Rattle.std.specs.List.{slice_get}
 use Rattle.defmt_grammar.specs.Slots.{slots_of, uses_at}
 use Rattle.defmt_grammar.specs.declared.hint.Hint.{Hint}
@@ -29,8 +29,10 @@ field_slot field = slots.Bits field.first field.width
 abbrev pub piece_of : ℕ → Step → Piece
 piece_of next (steps.Text text) = Literal text
 piece_of next (steps.Value kind hint) = Param (record { position = next; kind = kind; hint = hint })
-piece_of next (steps.Peek field hint) = Param (record { position = next; kind = field_kind field; hint = hint })
-piece_of next (steps.Bits field hint) = Param (record { position = next; kind = field_kind field; hint = hint })
+piece_of next (steps.Peek field hint) =
+    Param (record { position = next; kind = field_kind field; hint = hint })
+piece_of next (steps.Bits field hint) =
+    Param (record { position = next; kind = field_kind field; hint = hint })
 
 -- the position that is next behind a step
 abbrev pub behind : ℕ → Step → ℕ
@@ -50,9 +52,12 @@ pieces_of all = pieces_from 0 all
 -- a step has the slot of the position that is next in a string, which uses that once, unless for fields
 abbrev pub IsNextStep : List Piece → ℕ → Step → Type 0
 IsNextStep all next (steps.Text text) = Unit {0}
-IsNextStep all next (steps.Value kind hint) = (slice_get (slots_of all) next ≡ Some (slots.One kind)) × (uses_at next all ≡ 1)
-IsNextStep all next (steps.Peek field hint) = slice_get (slots_of all) next ≡ Some (field_slot field)
-IsNextStep all next (steps.Bits field hint) = slice_get (slots_of all) next ≡ Some (field_slot field)
+IsNextStep all next (steps.Value kind hint) =
+    (slice_get (slots_of all) next ≡ Some (slots.One kind)) × (uses_at next all ≡ 1)
+IsNextStep all next (steps.Peek field hint) =
+    slice_get (slots_of all) next ≡ Some (field_slot field)
+IsNextStep all next (steps.Bits field hint) =
+    slice_get (slots_of all) next ≡ Some (field_slot field)
 
 -- steps pass each position of a string from this one on
 abbrev pub PassAll : List Piece → ℕ → List Step → Type 0

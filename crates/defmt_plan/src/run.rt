@@ -25,8 +25,10 @@ pub(crate) fn pass_field(
 ) -> Option<Progress>
     requires read { before.read ≤ length bytes.now }
     requires written { before.written ≤ length out.old }
-    ensures field { PassesField (option_map (λ after. after.written) result) field hint bytes.now before out.old out.new }
-    ensures read { IfSome result (λ after. after.read ≡ (if last then before.read + field.width else before.read)) }
+    ensures field { PassesField (option_map (λ after. after.written) result) field hint bytes.now
+        before out.old out.new }
+    ensures read { IfSome result (λ after. after.read
+        ≡ (if last then before.read + field.width else before.read)) }
 {
     let written = put_field(field, hint, bytes, before, out)?;
     let passed = if last { usize::from(field.width) } else { 0 };

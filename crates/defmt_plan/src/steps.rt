@@ -1,6 +1,6 @@
 //! The pieces of a string as steps, made once.
 
-ghost use Rattle.std.specs.Prelude.{◌≡◌, ◌<◌, ℕ, List, Some, length, IfSome, IfOk};
+ghost use Rattle.std.specs.Prelude.{◌≡◌, ◌<◌, ℕ, List, Some, IfSome, IfOk};
 ghost use Rattle.std.specs.List.{slice_get};
 ghost use Rattle.defmt_grammar.specs.Slots.{slots_of, uses_at};
 ghost use Rattle.defmt_grammar.specs.declared.piece.Piece.{Piece as AnyPiece};
