@@ -34,6 +34,7 @@ echo "TEXT" >&2
 case $1 in
     run) cat ;;
     end) exit "$2" ;;
+    --help) echo words >&2; exit 2 ;;
     say) echo "$3" >&2; exit "$2" ;;
     words) printf '%s\n' "$@" ;;
     open) for it in /proc/self/fd/*; do readlink "$it"; done | grep launcher ;;
@@ -153,7 +154,7 @@ is 'each crate is proved once, test crates and those aside are not' "$(proofs)" 
 has 'the program is the proved one' "$said" 'proved one'
 has 'how far a build is' "$said" 'crate 2 of 6 is done: '
 has 'how long it will take' "$said" 'About '
-has 'how long the first build takes' "$said" 'about twenty minutes on four processors, forty on two'
+has 'how long the first build takes' "$said" 'twenty to forty minutes on four processors, twice that on two'
 is 'a crate that stands alone has two jobs, and the program one' "$(grep -c '^low lib --jobs 2$\|^top lib --jobs 2$\|^defmt_cli run --jobs 1 ' "$kit/calls")" 3
 is 'two side by side share the processors' "$(grep '^left\|^right' "$kit/calls" | grep -o '[0-9]*$' | sort | tr '\n' ' ')" '2 2 '
 is 'each crate has one call, but the last library has none of its own' "$(calls)" 5
@@ -180,7 +181,7 @@ on_terminal() {
 }
 mkdir docs && cp "$top"/docs/{EXPLAIN.md,defmtl.1,defmtl.completion} docs
 call --help
-is "the page and the program's own status" "$status" 0
+is "the page and the program's own status" "$status" 2
 for name in decode dump run term steer record table print gen; do has "the page names $name" "$said" "defmtl $name"; done
 has 'and then stands what the program says' "$said" 'proved one'
 is 'the page is no output' "$wrote" ''
@@ -193,6 +194,10 @@ if command -v script > /dev/null; then
     is 'on a terminal: the words and the output' "$wrote" $'words\na\nb  c'
     on_terminal say 2 'words'
     has 'wrong words' "$said" './defmtl --help shows all of them'
+    on_terminal --help
+    lacks 'the page itself is not explained' "$said" 'no command has these words'
+    on_terminal say 7 'shelf'
+    has 'a table that is not there' "$said" 'the file behind --table is not there'
     on_terminal say 5 'script line 3 cause 8 inner 0'
     has 'a line of a script' "$said" 'cause 8, inner 0: `reader late` in blocking mode. (docs/EXPLAIN.md)'
     on_terminal say 5 'script line 1 cause 18 inner 0'
