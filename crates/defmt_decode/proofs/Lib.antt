@@ -1,6 +1,8 @@
+mod Behind
 mod Bytes
 mod Deciding
 mod Gaps
 mod InFrames
 mod Planned
+mod Putting
 mod Sending

@@ -1,6 +1,6 @@
 //! The host.
 
-ghost use Rattle.std.specs.Prelude.{◌≡◌, ◌≤◌, ◌<◌, ◌++◌, [], None, List, ℕ, length, take, IfOk, OnErr, option_to_list};
+ghost use Rattle.std.specs.Prelude.{◌≡◌, ◌≤◌, ◌<◌, ◌++◌, [], None, List, ℕ, length, take, drop, IfOk, OnErr, OnOk, option_to_list};
 ghost use Rattle.defmt_decode.specs.Event.{tells, events_of, begun_of, line_with};
 ghost use Rattle.defmt_framing.specs.Notices.{HasText, told_by};
 
@@ -55,6 +55,7 @@ impl Host {
     ///
     /// `None` comes exactly where it took all bytes and none ended such a part. On want of memory
     /// nothing was taken, and the host is unchanged. After any event it goes on with what follows.
+    #[inline(never)]
     pub fn feed(&mut self, bytes: &[u8]) -> Result<(usize, Option<Event>), Memory>
         // No more than these bytes were taken.
         ensures within { IfOk result (λ r. r.0 ≤ length bytes.now) }
@@ -72,20 +73,26 @@ impl Host {
         self.framer.feed(&mut self.reader, bytes)
     }
 
-    /// Does what `feed` does, but the text of a usual line is written to the front of the buffer, which grows as it has to. It
-    /// takes no memory for one, once the buffers are large enough.
+    /// Does what `feed` does, but the text of a usual line is written behind a place of the buffer, which grows as it has to. What
+    /// stands in front of the place stays. It takes no memory for a usual line, once the buffers are large enough.
     pub fn hear(
         &mut self,
         bytes: &[u8],
         text: &mut Vec<u8>,
+        at: usize,
     ) -> Result<(usize, Notice<Event, Mark>), Memory>
+        requires { at ≤ length text.old.items }
         ensures within { IfOk result (λ r. r.0 ≤ length bytes.now) }
         // As of `feed`, with the event that the notice tells.
         ensures hears { IfOk result (λ r. (stream : List ℕ) → Stands self.old.framing stream
             → Hears (tells self.old.table) self.new.framing stream (take r.0 bytes.now)
-            (told_by line_with text.new.items r.1)) }
-        ensures text { IfOk result (λ r. HasText text.new.items r.1) }
+            (told_by line_with (drop at text.new.items) r.1)) }
+        ensures text { IfOk result (λ r. HasText (drop at text.new.items) r.1) }
+        ensures front { OnOk result (take at text.new.items ≡ take at text.old.items) }
         ensures some { IfOk result (λ r. 0 < length bytes.now → 0 < r.0) }
+        // A notice of nothing comes only where all was taken.
+        ensures all { IfOk result (λ r. told_by line_with (drop at text.new.items) r.1 ≡ None
+            → r.0 ≡ length bytes.now) }
         ensures table { self.new.table ≡ self.old.table }
         ensures err { OnErr result (self.new ≡ self.old) }
     {
@@ -93,7 +100,7 @@ impl Host {
             let (taken, event) = self.feed(bytes)?;
             return Ok((taken, notice_of(event)));
         };
-        match self.reader.notice(&bytes[start..start + size], text) {
+        match self.reader.notice(&bytes[start..start + size], text, at) {
             Ok(notice) => {
                 self.framer.pass_piece::<Event>(bytes, start, size);
                 Ok((start + size + 1, notice))

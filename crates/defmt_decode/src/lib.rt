@@ -16,8 +16,11 @@
 mod event;
 mod host;
 mod laws;
+mod notices;
 mod places;
+mod quick;
 mod reader;
+mod room;
 mod screen;
 
 pub use event::{Event, Events, Mark};

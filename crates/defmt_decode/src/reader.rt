@@ -1,15 +1,18 @@
 //! What a piece tells.
 
-ghost use Rattle.std.specs.Prelude.{◌≡◌, ◌≤◌, Some, length, IfOk, IfSome, OnOk};
+ghost use Rattle.std.specs.Prelude.{◌≡◌, ◌≤◌, Some, false, length, take, drop, IfOk, IfSome, OnOk};
 ghost use Rattle.defmt_decode.specs.Event.{line_with, of_heard, of_read, read_of, tells};
 ghost use Rattle.defmt_decode.specs.Refusal.{refusal_number};
 ghost use Rattle.defmt_encode.specs.Heard.{IsHeard};
+ghost use Rattle.defmt_framing.specs.Cut.{has_zero};
 ghost use Rattle.defmt_framing.specs.Notices.{HasText, told_by};
 
 use crate::event::{Event, Mark};
+use crate::notices::notice_behind;
+use crate::room::{line_room, make_room, room_behind};
 use defmt_eager::{EagerFault, line};
 use defmt_encode::{Heard, ReadCause};
-use defmt_framing::{Notice, Teller, decode_piece, decode_piece_to_end};
+use defmt_framing::{Notice, Teller, decode_piece, decode_zeroless_piece};
 use defmt_grammar::Text;
 use defmt_intern::Table;
 use defmt_plan::PlannedTable;
@@ -17,16 +20,6 @@ use dl_io::Memory;
 use std::alloc::Global;
 use std::marker::Model;
 use std::str;
-
-// The most bytes of a line that is written by a plan.
-const LONGEST_LINE: usize = 65536;
-
-// The room for a line: this many bytes, and so many for each of the first bytes of its message.
-const LEAST_ROOM: usize = 4096;
-
-const GROWTH: usize = 8;
-
-const ENLARGED: usize = (LONGEST_LINE - LEAST_ROOM) / GROWTH;
 
 // Why a piece gives no line, beside what its message is refused for.
 enum Refusal {
@@ -98,25 +91,38 @@ impl Reader {
         self.table.table()
     }
 
-    // What a piece tells. The text of a line that is written by a plan stands at the front of the buffer.
+    // What a piece without a zero tells. The text of a line that is written by a plan stands behind a place of the buffer, and what
+    // stands in front of that stays.
     #[tactic(auto, unfolding(crate::specs::Event::tells))]
     pub(crate) fn notice(
         &mut self,
         piece: &[u8],
         text: &mut Vec<u8>,
+        at: usize,
     ) -> Result<Notice<Event, Mark>, Memory>
-        requires { length piece.now ≤ 65536 }
-        ensures told { IfOk result (λ notice. told_by line_with text.new.items notice
+        requires place { at ≤ length text.old.items }
+        requires short { length piece.now ≤ 65536 }
+        requires none { has_zero piece.now ≡ false }
+        ensures told { IfOk result (λ notice. told_by line_with (drop at text.new.items) notice
             ≡ Some ((tells self.old).piece piece.now)) }
-        ensures text { IfOk result (λ notice. HasText text.new.items notice) }
+        ensures text { IfOk result (λ notice. HasText (drop at text.new.items) notice) }
+        ensures front { OnOk result (take at text.new.items ≡ take at text.old.items) }
         ensures same { self.new ≡ self.old }
     {
         make_room(&mut self.buffer, 7 * piece.len())?;
-        match decode_piece_to_end(piece, &mut self.buffer) {
+        match decode_zeroless_piece(piece, &mut self.buffer) {
             Some(begin) => {
                 let bytes = &self.buffer[begin..];
-                make_room(text, line_room(bytes.len()))?;
-                notice_of_message(self.alloc, &self.table, bytes, text, &mut self.heard)
+                let end = room_behind(text, at, bytes.len())?;
+                notice_behind(
+                    self.alloc,
+                    &self.table,
+                    bytes,
+                    text,
+                    at,
+                    end,
+                    &mut self.heard,
+                )
             }
             None => Ok(Notice::Event(Refusal::Cobs.event())),
         }
@@ -170,21 +176,6 @@ impl Teller for Reader {
     }
 }
 
-// Makes a buffer as large as it has to be.
-fn make_room(buffer: &mut Vec<u8>, least: usize) -> Result<(), Memory>
-    ensures { OnOk result (least ≤ length buffer.new.items) }
-{
-    if buffer.len() < least {
-        buffer.resize(least, 0)?;
-    }
-    Ok(())
-}
-
-// Enough for most lines of a message with so many bytes.
-fn line_room(count: usize) -> usize {
-    count.min(ENLARGED) * GROWTH + LEAST_ROOM
-}
-
 // Bytes as a text of its own, where they are one.
 fn text_of(alloc: Global, bytes: &[u8]) -> Result<Option<Text>, Memory>
     ensures { IfOk result (λ r. IfSome r (λ text. text ≡ bytes.now)) }
@@ -197,28 +188,6 @@ fn text_of(alloc: Global, bytes: &[u8]) -> Result<Option<Text>, Memory>
         Ok(()) => Ok(Some(copy)),
         Err(_) => Err(Memory),
     }
-}
-
-// What the bytes that a code stands for tell. The text of a line that is written by a plan stands at the front of the buffer.
-fn notice_of_message(
-    alloc: Global,
-    table: &PlannedTable,
-    bytes: &[u8],
-    text: &mut [u8],
-    heard: &mut Heard,
-) -> Result<Notice<Event, Mark>, Memory>
-    ensures told { IfOk result (λ notice. told_by line_with text.new notice
-        ≡ Some (of_read table.now (read_of table.now bytes.now))) }
-    ensures text { IfOk result (λ notice. HasText text.new notice) }
-{
-    let Some(told) = table.message(bytes, text, 0) else {
-        return Ok(Notice::Event(event_of_any(alloc, table.table(), bytes, heard)?));
-    };
-    let mark = Mark {
-        index: told.index,
-        place: told.place,
-    };
-    Ok(Notice::Line(mark, told.end))
 }
 
 // What the bytes that a code stands for tell, by a plan where there is one.
@@ -244,7 +213,8 @@ fn event_of_message(
     }
 }
 
-// The same, whatever the message is.
+// The same, whatever the message is. It stands apart from the way of a usual line.
+#[inline(never)]
 #[tactic(auto, using(crate::proofs::Deciding::heard_read))]
 fn event_of_any(
     alloc: Global,
@@ -261,8 +231,8 @@ fn event_of_any(
     }
 }
 
-// What a message that is heard tells.
-fn event_of_heard(
+/// What a message that is heard tells.
+pub(crate) fn event_of_heard(
     alloc: Global,
     table: &Table,
     bytes: &[u8],

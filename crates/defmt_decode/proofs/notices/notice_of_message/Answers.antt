@@ -1,7 +1,7 @@
 use Rattle.std.proofs.Common.{Some, refl, ap}
 use Rattle.defmt_decode.proofs.Planned.{told_line}
 use Rattle.defmt_decode.specs.declared.event.Event.{Event}
-use Rattle.defmt_decode.proofs.reader.notice_of_message.Goals as goal
+use Rattle.defmt_decode.proofs.notices.notice_of_message.Goals as goal
 
 pub returns-clause-told : goal.returns-clause-told
 returns-clause-told c =

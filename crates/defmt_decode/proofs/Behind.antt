@@ -1,0 +1,41 @@
+-- A part of a buffer that is written, and what stands in front of it and behind.
+use Rattle.std.proofs.Common.{◌≡◌, ◌≤◌, ℕ, List, ◌++◌, length, length-append, take, drop, Option, Some, Result, Ok, Err, refl, ap, ◌∙◌, arith, IfOk}
+use Rattle.std.proofs.lemmas.List.{take-append-le}
+use lib.Seq.{drop_at, take_at, length-take-le}
+use borrow.Rule.Slice.PartMut.{put_mid, post_of}
+use Rattle.defmt_framing.specs.Notices.{HasText, told_by}
+use Rattle.defmt_framing.specs.declared.notice.Notice.{Notice}
+use Rattle.defmt_framing.specs.declared.notice.Notice.TheVariants as notices
+use Rattle.defmt_decode.specs.Event.{line_with}
+use Rattle.defmt_decode.specs.declared.event.Event.{Event}
+use Rattle.defmt_decode.specs.declared.event.Mark.{Mark}
+
+-- ---- a buffer that goes on behind another
+
+told_on : (buffer more : List ℕ) (notice : Notice Event Mark) → HasText buffer notice → told_by line_with (buffer ++ more) notice ≡ told_by line_with buffer notice
+told_on buffer more notices.Nothing has = refl
+told_on buffer more (notices.Event event) has = refl
+told_on buffer more (notices.Line mark size) has = ap (λ (text : List ℕ). Some (line_with mark text)) (take-append-le size buffer more has)
+
+text_on : (buffer more : List ℕ) (notice : Notice Event Mark) → HasText buffer notice → HasText (buffer ++ more) notice
+text_on buffer more notices.Nothing has = tt
+text_on buffer more (notices.Event event) has = tt
+text_on buffer more (notices.Line mark size) has = omega (arith, has, length-append buffer more)
+
+-- ---- a part that is written
+
+module _ (xs mid : List ℕ) (at count : ℕ) (le : at ≤ length xs) where
+  behind_put : drop at (put_mid at count xs mid) ≡ mid ++ post_of at count xs
+  behind_put = drop_at (take at xs) (mid ++ post_of at count xs) at (length-take-le at xs le)
+
+  pub front_put : take at (put_mid at count xs mid) ≡ take at xs
+  front_put = take_at (take at xs) (mid ++ post_of at count xs) at (length-take-le at xs le)
+
+  pub text_put : {E : Type 0} (r : Result (Notice Event Mark) E) → IfOk r (λ notice. HasText mid notice) → IfOk r (λ notice. HasText (drop at (put_mid at count xs mid)) notice)
+  text_put (Ok notice) has = rw behind_put (text_on mid (post_of at count xs) notice has)
+  text_put (Err e) has = tt
+
+  pub told_put : {E : Type 0} (r : Result (Notice Event Mark) E) (event : Event) → IfOk r (λ notice. HasText mid notice) → IfOk r (λ notice. told_by line_with mid notice ≡ Some event)
+      → IfOk r (λ notice. told_by line_with (drop at (put_mid at count xs mid)) notice ≡ Some event)
+  told_put (Ok notice) event has told = ap (λ (buffer : List ℕ). told_by line_with buffer notice) behind_put ∙ told_on mid (post_of at count xs) notice has ∙ told
+  told_put (Err e) event has told = tt

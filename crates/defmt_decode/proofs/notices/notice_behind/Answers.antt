@@ -1,0 +1,15 @@
+use Rattle.std.proofs.Common.{◌≤◌, ◌-◌, length, arith}
+use Rattle.defmt_decode.proofs.Behind.{front_put, text_put, told_put}
+use Rattle.defmt_decode.proofs.notices.notice_behind.Goals as goal
+
+pub returns-clause-told : goal.returns-clause-told
+returns-clause-told c =
+    told_put c.args.text.now c.notice_of_message.new.text c.args.at (c.args.end - c.args.at) (let e : c.args.at ≤ length c.args.text.now = omega arith in e) c.notice_of_message.result _ c.notice_of_message.ensures.text c.notice_of_message.ensures.told
+
+pub returns-clause-text : goal.returns-clause-text
+returns-clause-text c =
+    text_put c.args.text.now c.notice_of_message.new.text c.args.at (c.args.end - c.args.at) (let e : c.args.at ≤ length c.args.text.now = omega arith in e) c.notice_of_message.result c.notice_of_message.ensures.text
+
+pub returns-clause-front : goal.returns-clause-front
+returns-clause-front c =
+    front_put c.args.text.now c.notice_of_message.new.text c.args.at (c.args.end - c.args.at) (let e : c.args.at ≤ length c.args.text.now = omega arith in e)
