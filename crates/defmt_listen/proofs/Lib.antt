@@ -1,4 +1,5 @@
 pub mod AtHand
 pub mod Fronts
+pub mod Gathering
 pub mod Hearing
 pub mod Wholes

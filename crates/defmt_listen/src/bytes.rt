@@ -7,9 +7,10 @@ ghost use Rattle.defmt_listen.specs.Streams.{output_of};
 use crate::fault::ListenFault;
 use crate::listener::Listener;
 use crate::listening::listen;
-use crate::part::{Report, hear_part};
+use crate::part::hear_part;
+use crate::report::Report;
 use crate::reporter::Reporter;
-use dl_io::{Bytes, Failed, Memory, Sink, Source};
+use dl_io::{Failed, Memory, Sink, Source};
 use std::alloc::Global;
 
 /// Hears the bytes as a whole recording, and writes what the reporter prints of each event to the sink, as [`listen`] does.
@@ -75,12 +76,7 @@ pub fn hear_bytes<L: Listener + Drop, R: Reporter<L> + Drop>(
 {
     let mut listener = listener;
     let mut reporter = reporter;
-    let mut told = Report {
-        alloc,
-        text: Vec::new(alloc),
-        lines: Bytes::new(alloc),
-        faults: 0,
-    };
+    let mut told = Report::new(alloc);
     match hear_part(&mut listener, &mut reporter, &mut Nowhere, &mut told, bytes) {
         Ok(()) => Ok((listener, reporter)),
         Err(_) => Err(Memory),

@@ -14,6 +14,7 @@ mod fault;
 mod listener;
 mod listening;
 mod part;
+mod report;
 mod reporter;
 
 pub use bytes::{hear_bytes, listen_bytes};

@@ -1,6 +1,6 @@
 //! Who hears a stream of frames.
 
-ghost use Rattle.std.specs.Prelude.{◌≡◌, ◌≤◌, ◌<◌, ◌++◌, ℕ, List, length, take, IfOk, OnErr, option_to_list};
+ghost use Rattle.std.specs.Prelude.{◌≡◌, ◌≤◌, ◌<◌, ◌++◌, ℕ, List, length, take, drop, IfOk, OnErr, OnOk, option_to_list};
 ghost use Rattle.defmt_framing.specs.Told.{Tells, events, begun};
 ghost use Rattle.defmt_framing.specs.Framing.{Framing, Stands, Hears};
 ghost use Rattle.defmt_framing.specs.Notices.{HasText, told_by};
@@ -28,18 +28,21 @@ pub trait Listener {
     ghost framing: { Self → Framing };
 
     /// Takes bytes up to and with the zero that ends the first part which tells something, and answers how many it took with
-    /// a notice of that event, which may be a line whose text it wrote to the front of the buffer. Some byte is taken where there
-    /// is one. On want of memory nothing was taken, and the listener goes on from there.
+    /// a notice of that event, which may be a line whose text it wrote behind a place of the buffer. What stands in front of the place
+    /// stays. Some byte is taken where there is one. On want of memory nothing was taken, and the listener goes on from there.
     fn hear(
         &mut self,
         bytes: &[u8],
         text: &mut Vec<u8>,
+        at: usize,
     ) -> Result<(usize, Notice<Self::Event, Self::Mark>), Memory>
+        requires { at ≤ length text.old.items }
         ensures within { IfOk result (λ r. r.0 ≤ length bytes.now) }
         ensures hears { IfOk result (λ r. (stream : List ℕ) → Stands (framing self.old) stream
             → Hears (tells self.old) (framing self.new) stream (take r.0 bytes.now)
-            (told_by line text.new.items r.1)) }
-        ensures text { IfOk result (λ r. HasText text.new.items r.1) }
+            (told_by line (drop at text.new.items) r.1)) }
+        ensures text { IfOk result (λ r. HasText (drop at text.new.items) r.1) }
+        ensures front { OnOk result (take at text.new.items ≡ take at text.old.items) }
         ensures some { IfOk result (λ r. 0 < length bytes.now → 0 < r.0) }
         ensures same { tells self.new ≡ tells self.old }
         ensures err { OnErr result (framing self.new ≡ framing self.old) };

@@ -7,13 +7,17 @@ ghost use Rattle.defmt_listen.specs.Streams.{input_of, output_of};
 
 use crate::fault::ListenFault;
 use crate::listener::Listener;
-use crate::part::{Report, add_told, hear_part, write_lines};
+use crate::part::{add_told, hear_part};
+use crate::report::{Report, write_lines};
 use crate::reporter::Reporter;
-use dl_io::{Bytes, Failed, Memory, Sink, Source};
+use dl_io::{Failed, Memory, Sink, Source};
 use std::alloc::Global;
 
 // The most bytes that are read at a time.
 const PART: usize = 65_536;
+
+// So many at first.
+const FIRST_PART: usize = 8_192;
 
 const RECORDING_LIMIT: usize = 268_435_456;
 
@@ -44,12 +48,7 @@ pub fn listen<S: Source, K: Sink, L: Listener + Drop, R: Reporter<L> + Drop>(
 {
     let mut listener = listener;
     let mut reporter = reporter;
-    let mut report = Report {
-        alloc,
-        text: Vec::new(alloc),
-        lines: Bytes::new(alloc),
-        faults: 0,
-    };
+    let mut report = Report::new(alloc);
     let mut buf = part_buffer(alloc)?;
     let mut taken = 0usize;
     'parts: loop {
@@ -65,19 +64,30 @@ pub fn listen<S: Source, K: Sink, L: Listener + Drop, R: Reporter<L> + Drop>(
             &buf[..count],
         )?;
         taken += count;
+        widen(&mut buf, count);
     }
     add_told::<L, R>(&mut reporter, &mut report, listener.finish())?;
-    write_lines(out, &mut report.lines)?;
+    write_lines(out, &mut report)?;
     Ok(report.faults)
 }
 
 fn part_buffer(alloc: Global) -> Result<Vec<u8>, Memory>
-    ensures { IfOk result (λ buf. length buf.items ≡ 65536) }
+    ensures { IfOk result (λ buf. 0 < length buf.items) }
 {
     let mut buf = Vec::new(alloc);
-    // This fills whole words, which `vec!` doesn't.
-    buf.resize(PART, 0)?;
+    buf.resize(FIRST_PART, 0)?;
     Ok(buf)
+}
+
+// Makes a buffer that was filled twice as large, up to the most bytes that are read at a time. Where there is no memory for that
+// it stays as it is.
+fn widen(buf: &mut Vec<u8>, count: usize)
+    ensures { length buf.old.items ≤ length buf.new.items }
+{
+    let size = buf.len();
+    if count == size && size < PART {
+        let _ = buf.resize((size * 2).min(PART), 0);
+    }
 }
 
 // Reads the next bytes, behind so many that were taken.

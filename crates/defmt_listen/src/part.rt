@@ -1,30 +1,19 @@
 //! One part of a recording is heard.
-ghost use Rattle.std.specs.Prelude.{◌≡◌, ◌≤◌, ◌<◌, ◌+◌, ◌^◌, ◌++◌, [], ℕ, List, length, take, IfErr, OnOk, OnErr, option_to_list};
+ghost use Rattle.std.specs.Prelude.{◌≡◌, ◌≤◌, ◌<◌, ◌+◌, ◌^◌, ◌++◌, [], false, ℕ, List, length, take, drop, IfErr, OnOk, OnErr, option_to_list};
 ghost use Rattle.std.specs.Io.KnownBytes.{Appends};
 ghost use Rattle.dl_io.specs.Outside.{Rose};
 ghost use Rattle.defmt_framing.specs.Framing.{Stands};
 ghost use Rattle.defmt_framing.specs.Notices.{HasText, told_by};
+ghost use Rattle.defmt_listen.specs.Gathered.{gathered, IsGathered};
 ghost use Rattle.defmt_listen.specs.Heard.{HeardPart, HeardSome, BreaksPart, faults_among, lines_from, state_behind};
 ghost use Rattle.defmt_listen.specs.Streams.{output_of};
 
 use crate::fault::ListenFault;
 use crate::listener::Listener;
+use crate::report::{Report, end_line, put_aside, write_gathered, write_lines};
 use crate::reporter::Reporter;
 use defmt_framing::Notice;
-use dl_io::{Bytes, Failed, Sink, write_all};
-use std::alloc::Global;
-
-// So many bytes of lines are gathered before they are written, unless the part ends before.
-const GATHERED: usize = 65_536;
-
-/// What is told and not yet written, and how many faults were told. The text of a line is written before it is reported.
-#[derive(Drop)]
-pub struct Report {
-    pub alloc: Global,
-    pub text: Vec<u8>,
-    pub lines: Bytes,
-    pub faults: u64,
-}
+use dl_io::{Memory, Sink};
 
 /// Hears all the bytes, and writes what is printed of what they tell.
 pub fn hear_part<K: Sink, L: Listener, R: Reporter<L>>(
@@ -34,14 +23,16 @@ pub fn hear_part<K: Sink, L: Listener, R: Reporter<L>>(
     report: &mut Report,
     bytes: &[u8],
 ) -> Result<(), ListenFault>
-    requires empty { report.old.lines.items ≡ [] }
+    requires within { IsGathered report.old }
+    requires empty { gathered report.old ≡ [] }
     requires few { report.old.faults + length bytes.now < 2 ^ 64 }
     ensures heard { OnOk result
         ((stream : List ℕ) → Stands (L.framing listener.old) stream → HeardPart
         (L.tells listener.old) R.reporting (L.framing listener.new) reporter.old reporter.new
         (output_of K.held K.faults out.old out.new)
         stream bytes.now report.old.faults report.new.faults) }
-    ensures empty { OnOk result (report.new.lines.items ≡ []) }
+    ensures within { OnOk result (IsGathered report.new) }
+    ensures empty { OnOk result (gathered report.new ≡ []) }
     ensures few { OnOk result (report.new.faults ≤ report.old.faults + length bytes.now) }
     ensures some { OnErr result
         ((stream : List ℕ) → Stands (L.framing listener.old) stream → HeardSome
@@ -54,35 +45,39 @@ pub fn hear_part<K: Sink, L: Listener, R: Reporter<L>>(
 {
     let mut rest = bytes;
     'parts: while !rest.is_empty() {
-        match listener.hear(rest, &mut report.text) {
+        match listener.hear(rest, &mut report.text, report.end) {
             Ok((taken, notice)) => {
                 add_noticed::<L, R>(reporter, report, notice)?;
                 let (_, behind) = rest.split_at(taken);
                 rest = behind;
-                write_gathered(out, &mut report.lines)?;
+                write_gathered(out, report)?;
             }
             Err(_) => return Err(ListenFault::Memory),
         }
     }
-    write_lines(out, &mut report.lines)?;
+    write_lines(out, report)?;
     Ok(())
 }
 
-/// Adds what is printed of what was told, if something was.
+/// Adds what is printed of what was told, if something was. It stands apart, since most of what is noticed are lines.
+#[inline(never)]
 pub fn add_told<L: Listener, R: Reporter<L>>(
     reporter: &mut R,
     report: &mut Report,
     told: Option<L::Event>,
 ) -> Result<(), ListenFault>
-    requires { report.old.faults + 1 < 2 ^ 64 }
-    ensures lines { OnOk result (report.new.lines.items ≡ report.old.lines.items
+    requires few { report.old.faults + 1 < 2 ^ 64 }
+    requires within { IsGathered report.old }
+    ensures lines { OnOk result (gathered report.new ≡ gathered report.old
         ++ lines_from R.reporting reporter.old (option_to_list told)) }
+    ensures within { OnOk result (IsGathered report.new) }
     ensures moved { OnOk result (reporter.new
         ≡ state_behind R.reporting reporter.old (option_to_list told)) }
     ensures faults { OnOk result (report.new.faults ≡ report.old.faults
         + faults_among R.reporting (option_to_list told)) }
     ensures memory { IfErr result (λ fault. fault ≡ ListenFault.Memory) }
 {
+    put_aside(report)?;
     if let Some(event) = told {
         let bad = reporter.is_fault(&event);
         reporter.add_line(report.alloc, event, &mut report.lines)?;
@@ -93,6 +88,36 @@ pub fn add_told<L: Listener, R: Reporter<L>>(
     Ok(())
 }
 
+// Adds a line whose text stands behind what is gathered in the buffer.
+fn add_line_told<L: Listener, R: Reporter<L>>(
+    reporter: &mut R,
+    report: &mut Report,
+    mark: L::Mark,
+    size: usize,
+) -> Result<(), Memory>
+    requires within { report.old.end + size ≤ length report.old.text.items }
+    ensures lines { OnOk result (gathered report.new ≡ gathered report.old ++ R.reporting.line
+        reporter.old (L.line mark (take size (drop report.old.end report.old.text.items)))) }
+    ensures within { OnOk result (IsGathered report.new) }
+    ensures moved { OnOk result (reporter.new ≡ R.reporting.after reporter.old
+        (L.line mark (take size (drop report.old.end report.old.text.items)))) }
+    ensures fine { OnOk result (R.reporting.is_fault
+        (L.line mark (take size (drop report.old.end report.old.text.items))) ≡ false) }
+    ensures faults { report.new.faults ≡ report.old.faults }
+{
+    if reporter.passes(&mark) {
+        return end_line(report, size);
+    }
+    let start = report.end;
+    put_aside(report)?;
+    reporter.add_text(
+        report.alloc,
+        mark,
+        &report.text[start..start + size],
+        &mut report.lines,
+    )
+}
+
 // Adds what is printed of what was noticed, if something was.
 fn add_noticed<L: Listener, R: Reporter<L>>(
     reporter: &mut R,
@@ -100,59 +125,21 @@ fn add_noticed<L: Listener, R: Reporter<L>>(
     notice: Notice<L::Event, L::Mark>,
 ) -> Result<(), ListenFault>
     requires room { report.old.faults + 1 < 2 ^ 64 }
-    requires text { HasText report.old.text.items notice }
-    ensures lines { OnOk result (report.new.lines.items ≡ report.old.lines.items
-        ++ lines_from R.reporting reporter.old
-        (option_to_list (told_by L.line report.old.text.items notice))) }
+    requires within { IsGathered report.old }
+    requires text { HasText (drop report.old.end report.old.text.items) notice }
+    ensures lines { OnOk result (gathered report.new ≡ gathered report.old
+        ++ lines_from R.reporting reporter.old (option_to_list
+        (told_by L.line (drop report.old.end report.old.text.items) notice))) }
+    ensures within { OnOk result (IsGathered report.new) }
     ensures moved { OnOk result (reporter.new ≡ state_behind R.reporting reporter.old
-        (option_to_list (told_by L.line report.old.text.items notice))) }
+        (option_to_list (told_by L.line (drop report.old.end report.old.text.items) notice))) }
     ensures faults { OnOk result (report.new.faults ≡ report.old.faults + faults_among R.reporting
-        (option_to_list (told_by L.line report.old.text.items notice))) }
+        (option_to_list (told_by L.line (drop report.old.end report.old.text.items) notice))) }
     ensures memory { IfErr result (λ fault. fault ≡ ListenFault.Memory) }
 {
     match notice {
         Notice::Nothing => Ok(()),
         Notice::Event(event) => add_told::<L, R>(reporter, report, Some(event)),
-        Notice::Line(mark, size) => Ok(reporter.add_text(
-            report.alloc,
-            mark,
-            &report.text[..size],
-            &mut report.lines,
-        )?),
-    }
-}
-
-// Writes the lines once there are many.
-fn write_gathered<K: Sink>(out: &mut K, lines: &mut Bytes) -> Result<(), ListenFault>
-    ensures ok { OnOk result ((written : List ℕ) × Appends (K.held out.old) (K.held out.new) written
-        × (written ++ lines.new.items ≡ lines.old.items)) }
-    ensures front { OnErr result ((count : ℕ) × (count ≤ length lines.old.items)
-        × Appends (K.held out.old) (K.held out.new) (take count lines.old.items)) }
-    ensures sink { IfErr result
-        (λ fault. (fault ≡ ListenFault.Sink) × Rose (K.faults out.old) (K.faults out.new)) }
-    ensures later { K.faults out.old ≤ K.faults out.new }
-{
-    if lines.len() < GATHERED {
-        return Ok(());
-    }
-    write_lines(out, lines)
-}
-
-/// Writes the lines, and then has none.
-pub fn write_lines<K: Sink>(out: &mut K, lines: &mut Bytes) -> Result<(), ListenFault>
-    ensures ok { OnOk result (Appends (K.held out.old) (K.held out.new) lines.old.items) }
-    ensures empty { OnOk result (lines.new.items ≡ []) }
-    ensures front { OnErr result ((count : ℕ) × (count ≤ length lines.old.items)
-        × Appends (K.held out.old) (K.held out.new) (take count lines.old.items)) }
-    ensures sink { IfErr result
-        (λ fault. (fault ≡ ListenFault.Sink) × Rose (K.faults out.old) (K.faults out.new)) }
-    ensures later { K.faults out.old ≤ K.faults out.new }
-{
-    match write_all(out, lines.as_slice()) {
-        Ok(()) => {
-            lines.clear();
-            Ok(())
-        }
-        Err(Failed) => Err(ListenFault::Sink),
+        Notice::Line(mark, size) => Ok(add_line_told::<L, R>(reporter, report, mark, size)?),
     }
 }

@@ -1,6 +1,6 @@
 //! Who reports events.
 
-ghost use Rattle.std.specs.Prelude.{◌≡◌, ◌++◌, false, OnOk, OnErr};
+ghost use Rattle.std.specs.Prelude.{◌≡◌, ◌++◌, ◌∷◌, [], ℕ, List, true, false, OnOk, OnErr};
 ghost use Rattle.defmt_listen.specs.Heard.{Reporting};
 
 use crate::listener::Listener;
@@ -37,6 +37,21 @@ pub trait Reporter<L: Listener> {
         ensures fine { reporting.is_fault (L.line mark text.now) ≡ false }
         ensures err { OnErr result (out.new.items ≡ out.old.items) }
         ensures same { OnErr result (self.new ≡ self.old) };
+
+    /// Whether what is printed of each line with this mark is its text and a newline alone. Then the reporter goes on behind that
+    /// line; else it is as before. One that doesn't tell is asked for what it appends.
+    fn passes(&mut self, mark: &L::Mark) -> bool
+        ensures line { result ≡ true → (text : List ℕ)
+            → reporting.line self.old (L.line mark.now text) ≡ text ++ 10 ∷ [] }
+        ensures moved { result ≡ true → (text : List ℕ)
+            → self.new ≡ reporting.after self.old (L.line mark.now text) }
+        ensures fine { result ≡ true → (text : List ℕ)
+            → reporting.is_fault (L.line mark.now text) ≡ false }
+        ensures same { result ≡ false → self.new ≡ self.old }
+    {
+        let _ = mark;
+        false
+    }
 
     /// Whether an event is a fault of the recording.
     fn is_fault(&self, event: &L::Event) -> bool

@@ -27,8 +27,9 @@ impl Listener for Ear {
         &mut self,
         bytes: &[u8],
         text: &mut Vec<u8>,
+        at: usize,
     ) -> Result<(usize, Notice<Event, Mark>), Memory> {
-        self.host.hear(bytes, text)
+        self.host.hear(bytes, text, at)
     }
 
     fn finish(self) -> Option<Event> {

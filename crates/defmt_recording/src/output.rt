@@ -34,8 +34,8 @@ fn gap_before(last: Option<u16>, event: &Event) -> u16
     }
 }
 
-// How many frames are missing between two lines, where both have a place.
-fn gap_between(last: Option<u16>, next: Option<u16>) -> u16
+/// How many frames are missing between two lines, where both have a place.
+pub fn gap_between(last: Option<u16>, next: Option<u16>) -> u16
     ensures { result ≡ gap_between last next }
 {
     let Some(next) = next else {
@@ -148,7 +148,9 @@ pub fn add_line_of_text(
     }
 }
 
-// Appends a report of so many missing frames, and a text and a newline. On want of memory nothing was appended.
+// Appends a report of so many missing frames, and a text and a newline. On want of memory nothing was appended. It stands apart,
+// since most lines have no such report.
+#[inline(never)]
 fn add_ended_behind(alloc: Global, count: u16, text: &[u8], out: &mut Bytes) -> Result<(), Memory>
     ensures appended { OnOk result (out.new.items ≡ out.old.items
         ++ (ended (codes "-- gap " ++ decimal count) ++ ended text.now)) }

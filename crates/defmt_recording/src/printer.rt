@@ -3,7 +3,7 @@ ghost use Rattle.std.specs.Prelude.{◌≡◌, ◌++◌, OnErr, OnOk};
 ghost use Rattle.defmt_recording.specs.Output.{by_line};
 
 use crate::ear::Ear;
-use crate::output::{add_line, add_line_of_text, is_fault, last_behind};
+use crate::output::{add_line, add_line_of_text, gap_between, is_fault, last_behind};
 use defmt_decode::{Event, Mark};
 use defmt_listen::Reporter;
 use dl_io::{Bytes, Memory};
@@ -32,7 +32,7 @@ impl Printer {
     }
 }
 
-#[tactic(auto, unfolding(crate::specs::Output::is_fault, crate::specs::Output::last_behind))]
+#[tactic(auto, unfolding(crate::specs::Output::is_fault, crate::specs::Output::last_behind, crate::specs::Output::gapped_line, crate::specs::Output::gap_before, crate::specs::Output::event_line))]
 impl Reporter<Ear> for Printer {
     ghost reporting = { by_line };
 
@@ -50,6 +50,14 @@ impl Reporter<Ear> for Printer {
         add_line_of_text(alloc, self.last, mark, text, out)?;
         self.last = mark.place;
         Ok(())
+    }
+
+    fn passes(&mut self, mark: &Mark) -> bool {
+        if gap_between(self.last, mark.place) != 0 {
+            return false;
+        }
+        self.last = mark.place;
+        true
     }
 
     fn is_fault(&self, event: &Event) -> bool {

@@ -4,7 +4,9 @@ ghost use Rattle.defmt_decode.specs.Event.{line_with};
 ghost use Rattle.defmt_recording.specs.Shown.{by_rules, screening, shown_line};
 
 use crate::ear::Ear;
-use crate::output::{add_gap, add_gap_of_text, add_line, add_line_of_text, is_fault, last_behind};
+use crate::output::{
+    add_gap, add_gap_of_text, add_line, add_line_of_text, gap_between, is_fault, last_behind,
+};
 use defmt_decode::{Event, Mark, shows, shows_line};
 use defmt_hooks::Rules;
 use defmt_intern::Table;
@@ -87,7 +89,7 @@ impl<'a> Screened<'a> {
     }
 }
 
-#[tactic(auto, unfolding(crate::specs::Output::is_fault, crate::specs::Output::last_behind))]
+#[tactic(auto, unfolding(crate::specs::Output::is_fault, crate::specs::Output::last_behind, crate::specs::Output::gapped_line, crate::specs::Output::gap_before, crate::specs::Output::event_line, crate::specs::Shown::shown_line))]
 impl<'a> Reporter<Ear> for Screened<'a> {
     ghost reporting = { by_rules };
 
@@ -107,6 +109,16 @@ impl<'a> Reporter<Ear> for Screened<'a> {
         add_shown_text(alloc, self.rules, &self.table, self.last, mark, text, out)?;
         self.last = mark.place;
         Ok(())
+    }
+
+    fn passes(&mut self, mark: &Mark) -> bool {
+        if gap_between(self.last, mark.place) != 0
+            || !shows_line(self.rules, &self.table, mark.index)
+        {
+            return false;
+        }
+        self.last = mark.place;
+        true
     }
 
     fn is_fault(&self, event: &Event) -> bool {

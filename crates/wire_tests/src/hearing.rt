@@ -103,6 +103,7 @@ impl Listener for Ear {
         &mut self,
         bytes: &[u8],
         _text: &mut Vec<u8>,
+        _at: usize,
     ) -> Result<(usize, Notice<Mark, u8>), Memory> {
         let (taken, told) = self.framer.feed(&mut self.letters, bytes)?;
         match told {

@@ -3,6 +3,7 @@ use Rattle.std.proofs.lemmas.List.{take_at}
 use Rattle.std.specs.Prelude.{option_to_list}
 use Rattle.defmt_framing.specs.Told.{events, begun}
 use Rattle.defmt_framing.specs.Framing.{Stands}
+use Rattle.defmt_listen.specs.Gathered.{gathered}
 use Rattle.defmt_listen.specs.Heard.{Reports, HeardPart, HeardSome, HeardFront, Breaks, lines_from}
 use Rattle.defmt_listen.specs.declared.fault.ListenFault.TheVariants.{Memory}
 use Rattle.defmt_listen.proofs.Fronts.{if_err}
@@ -19,8 +20,13 @@ returns-in_err-buf-clause-breaks g c =
 
 pub parts-init : goal.parts-init
 parts-init g c = record {
-  listening = start (record { tells = g.L.Listener.tells c.args.listener; reporting = g.R.Reporter.reporting; start = c.args.reporter }) (g.S.Source.left c.args.src.now) (g.K.Sink.held c.args.out.now) (g.L.Listener.framing c.args.listener) c.requires;
-  empty = c.new-2.ensures.items;
+  listening = (
+      let r : Reports g.row.R.Denot g.row.L-Event.Denot = record { tells = g.L.Listener.tells c.args.listener; reporting = g.R.Reporter.reporting; start = c.args.reporter } in
+      subst (λ (n : ℕ). Listening r c.args.reporter (g.L.Listener.framing c.args.listener) (g.S.Source.left c.args.src.now) (g.S.Source.left c.args.src.now) (g.K.Sink.held c.args.out.now) (g.K.Sink.held c.args.out.now) 0 n)
+      (sym c.new-report.ensures.none) (start r (g.S.Source.left c.args.src.now) (g.K.Sink.held c.args.out.now) (g.L.Listener.framing c.args.listener) c.requires)
+      );
+  within = c.new-report.ensures.within;
+  empty = c.new-report.ensures.empty;
   room = c.in_ok-buf.ensures;
   same = refl;
   source_later = omega arith;
@@ -82,8 +88,11 @@ parts-preserved g c =
     record {
       listening = subst (λ (n : ℕ). Listening r c.hear_part.new.reporter (g.L.Listener.framing c.hear_part.new.listener) (g.S.Source.left c.args.src.now) (g.S.Source.left c.next_part.new.src) (g.K.Sink.held c.args.out.now) (g.K.Sink.held c.hear_part.new.out)
           (c.parts.taken + n) c.hear_part.new.report.faults) size one;
+      within = c.in_ok-hear_part.ensures.within;
       empty = c.in_ok-hear_part.ensures.empty;
-      room = ap length (sym c.deref.ensures.value) ∙ ap length whole_is ∙ (let e : length c.next_part.new.buf ≡ 65536 = omega (arith, c.next_part.auto.buf, ap length c.deref_mut.ensures.value, c.parts.invariant.room) in e);
+      room = (let same : length c.next_part.new.buf ≡ length c.parts.buf.items = omega (arith, c.next_part.auto.buf, ap length c.deref_mut.ensures.value) in
+          let filled = ap length (sym c.deref.ensures.value) ∙ ap length whole_is ∙ same in
+          omega (arith, c.widen.ensures, filled, c.parts.invariant.room));
       same = c.in_ok-hear_part.ensures.same ∙ c.parts.invariant.same;
       source_later = omega (arith, c.next_part.ensures.later, c.parts.invariant.source_later);
       sink_later = omega (arith, c.hear_part.ensures.later, c.parts.invariant.sink_later);
@@ -110,8 +119,8 @@ returns-in_err-write_lines-clause-breaks g c =
     λ stream st. subst (λ tells. events tells stream ≡ begun tells stream ++ option_to_list c.finish.result) c.parts.invariant.same (c.finish.ensures stream st) in
     let so : Listening r c.parts.reporter (g.L.Listener.framing c.parts.listener) (g.S.Source.left c.args.src.now) (g.S.Source.left c.next_part.new.src) (g.K.Sink.held c.args.out.now) (g.K.Sink.held c.parts.out) c.parts.taken c.parts.report.faults =
     no_more r (g.S.Source.left c.args.src.now) (g.K.Sink.held c.args.out.now) c.parts.reporter (g.L.Listener.framing c.parts.listener) (g.S.Source.left c.parts.src) (g.S.Source.left c.next_part.new.src) (g.K.Sink.held c.parts.out) c.parts.taken c.parts.report.faults (take c.in_ok-count.count c.next_part.new.buf) c.parts.invariant.listening c.in_ok-count.ensures.bytes (omega (arith, length-take c.in_ok-count.count c.next_part.new.buf, c.if-count-eq0.true)) in
-    let text_is : c.add_told.new.report.lines.items ≡ lines_from r.reporting c.parts.reporter (option_to_list c.finish.result) = ◌∙◌ {a = c.add_told.new.report.lines.items} {b = c.parts.report.lines.items ++ lines_from r.reporting c.parts.reporter (option_to_list c.finish.result)} c.in_ok-add_told.ensures.lines (ap (λ (l : List ℕ). l ++ lines_from r.reporting c.parts.reporter (option_to_list c.finish.result)) c.parts.invariant.empty) in
-    let front : HeardFront r (record { left = g.S.Source.left c.args.src.now; left_after = g.S.Source.left c.next_part.new.src; faults = g.S.Source.faults c.args.src.now; faults_after = g.S.Source.faults c.next_part.new.src }) (record { held = g.K.Sink.held c.args.out.now; held_after = g.K.Sink.held c.write_lines.new.out; faults = g.K.Sink.faults c.args.out.now; faults_after = g.K.Sink.faults c.write_lines.new.out }) = last_front r (g.S.Source.left c.args.src.now) (g.K.Sink.held c.args.out.now) c.parts.reporter (g.L.Listener.framing c.parts.listener) (g.S.Source.left c.next_part.new.src) (g.K.Sink.held c.parts.out) c.parts.taken c.parts.report.faults so end c.finish.result finishes (g.S.Source.faults c.args.src.now) (g.S.Source.faults c.next_part.new.src) (g.K.Sink.faults c.args.out.now) (g.K.Sink.faults c.write_lines.new.out) (g.K.Sink.held c.write_lines.new.out) c.add_told.new.report.lines.items text_is c.in_err-write_lines.ensures.front in
+    let text_is : (gathered c.add_told.new.report) ≡ lines_from r.reporting c.parts.reporter (option_to_list c.finish.result) = ◌∙◌ {a = (gathered c.add_told.new.report)} {b = gathered c.parts.report ++ lines_from r.reporting c.parts.reporter (option_to_list c.finish.result)} c.in_ok-add_told.ensures.lines (ap (λ (l : List ℕ). l ++ lines_from r.reporting c.parts.reporter (option_to_list c.finish.result)) c.parts.invariant.empty) in
+    let front : HeardFront r (record { left = g.S.Source.left c.args.src.now; left_after = g.S.Source.left c.next_part.new.src; faults = g.S.Source.faults c.args.src.now; faults_after = g.S.Source.faults c.next_part.new.src }) (record { held = g.K.Sink.held c.args.out.now; held_after = g.K.Sink.held c.write_lines.new.out; faults = g.K.Sink.faults c.args.out.now; faults_after = g.K.Sink.faults c.write_lines.new.out }) = last_front r (g.S.Source.left c.args.src.now) (g.K.Sink.held c.args.out.now) c.parts.reporter (g.L.Listener.framing c.parts.listener) (g.S.Source.left c.next_part.new.src) (g.K.Sink.held c.parts.out) c.parts.taken c.parts.report.faults so end c.finish.result finishes (g.S.Source.faults c.args.src.now) (g.S.Source.faults c.next_part.new.src) (g.K.Sink.faults c.args.out.now) (g.K.Sink.faults c.write_lines.new.out) (g.K.Sink.held c.write_lines.new.out) (gathered c.add_told.new.report) text_is c.in_err-write_lines.ensures.front in
     if_err (Breaks r (record { left = g.S.Source.left c.args.src.now; left_after = g.S.Source.left c.next_part.new.src; faults = g.S.Source.faults c.args.src.now; faults_after = g.S.Source.faults c.next_part.new.src }) (record { held = g.K.Sink.held c.args.out.now; held_after = g.K.Sink.held c.write_lines.new.out; faults = g.K.Sink.faults c.args.out.now; faults_after = g.K.Sink.faults c.write_lines.new.out }))
     c.from_residual-in_err-write_lines.result c.in_err-write_lines.field-0.0 c.from_residual-in_err-write_lines.ensures.1
     (breaks_sink r (record { left = g.S.Source.left c.args.src.now; left_after = g.S.Source.left c.next_part.new.src; faults = g.S.Source.faults c.args.src.now; faults_after = g.S.Source.faults c.next_part.new.src }) (record { held = g.K.Sink.held c.args.out.now; held_after = g.K.Sink.held c.write_lines.new.out; faults = g.K.Sink.faults c.args.out.now; faults_after = g.K.Sink.faults c.write_lines.new.out }) (g.K.Sink.faults c.parts.out) c.in_err-write_lines.field-0.0 c.in_err-write_lines.ensures.sink.0 front c.parts.invariant.sink_later c.in_err-write_lines.ensures.sink.1)
@@ -124,5 +133,5 @@ returns-clause-heard g c =
     λ stream st. subst (λ tells. events tells stream ≡ begun tells stream ++ option_to_list c.finish.result) c.parts.invariant.same (c.finish.ensures stream st) in
     let so : Listening r c.parts.reporter (g.L.Listener.framing c.parts.listener) (g.S.Source.left c.args.src.now) (g.S.Source.left c.next_part.new.src) (g.K.Sink.held c.args.out.now) (g.K.Sink.held c.parts.out) c.parts.taken c.parts.report.faults =
     no_more r (g.S.Source.left c.args.src.now) (g.K.Sink.held c.args.out.now) c.parts.reporter (g.L.Listener.framing c.parts.listener) (g.S.Source.left c.parts.src) (g.S.Source.left c.next_part.new.src) (g.K.Sink.held c.parts.out) c.parts.taken c.parts.report.faults (take c.in_ok-count.count c.next_part.new.buf) c.parts.invariant.listening c.in_ok-count.ensures.bytes (omega (arith, length-take c.in_ok-count.count c.next_part.new.buf, c.if-count-eq0.true)) in
-    let text_is : c.add_told.new.report.lines.items ≡ lines_from r.reporting c.parts.reporter (option_to_list c.finish.result) = ◌∙◌ {a = c.add_told.new.report.lines.items} {b = c.parts.report.lines.items ++ lines_from r.reporting c.parts.reporter (option_to_list c.finish.result)} c.in_ok-add_told.ensures.lines (ap (λ (l : List ℕ). l ++ lines_from r.reporting c.parts.reporter (option_to_list c.finish.result)) c.parts.invariant.empty) in
-    whole r (g.S.Source.left c.args.src.now) (g.K.Sink.held c.args.out.now) c.parts.reporter (g.L.Listener.framing c.parts.listener) (g.S.Source.left c.next_part.new.src) (g.K.Sink.held c.parts.out) c.parts.taken c.parts.report.faults so end c.finish.result finishes (g.S.Source.faults c.args.src.now) (g.S.Source.faults c.next_part.new.src) (g.K.Sink.faults c.args.out.now) (g.K.Sink.faults c.write_lines.new.out) (g.K.Sink.held c.write_lines.new.out) c.add_told.new.report.lines.items c.add_told.new.report.faults text_is c.in_ok-add_told.ensures.faults c.in_ok-write_lines.ensures.ok
+    let text_is : (gathered c.add_told.new.report) ≡ lines_from r.reporting c.parts.reporter (option_to_list c.finish.result) = ◌∙◌ {a = (gathered c.add_told.new.report)} {b = gathered c.parts.report ++ lines_from r.reporting c.parts.reporter (option_to_list c.finish.result)} c.in_ok-add_told.ensures.lines (ap (λ (l : List ℕ). l ++ lines_from r.reporting c.parts.reporter (option_to_list c.finish.result)) c.parts.invariant.empty) in
+    rw c.write_lines.ensures.faults (whole r (g.S.Source.left c.args.src.now) (g.K.Sink.held c.args.out.now) c.parts.reporter (g.L.Listener.framing c.parts.listener) (g.S.Source.left c.next_part.new.src) (g.K.Sink.held c.parts.out) c.parts.taken c.parts.report.faults so end c.finish.result finishes (g.S.Source.faults c.args.src.now) (g.S.Source.faults c.next_part.new.src) (g.K.Sink.faults c.args.out.now) (g.K.Sink.faults c.write_lines.new.out) (g.K.Sink.held c.write_lines.new.out) (gathered c.add_told.new.report) c.add_told.new.report.faults text_is c.in_ok-add_told.ensures.faults c.in_ok-write_lines.ensures.ok)
