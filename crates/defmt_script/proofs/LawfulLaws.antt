@@ -14,8 +14,11 @@ use Rattle.defmt_lines.specs.declared.form.Form.{Form}
 use Rattle.defmt_lines.specs.declared.form.Form.TheVariants as forms
 use Rattle.defmt_lines.specs.declared.settings.Settings.{Settings}
 use Rattle.defmt_script.proofs.Settled.{stays}
-use Rattle.defmt_script.proofs.Steadiness.{lawful_closed, no_stamp_there, not_stamp, said_steady, sets_steady, sound_of, stamped_steady, statement_steady, steady_at_first, string_steady, unstamped_steady}
-use Rattle.defmt_script.proofs.Steps.{IsAdded, IsSaid, IsTaken, Keeps, reads_kept, set_to}
+use Rattle.defmt_script.proofs.StatementSteadiness.{sound_of, statement_steady}
+use Rattle.defmt_script.proofs.Steadiness.{no_stamp_there, said_steady, sets_steady, steady_at_first}
+use Rattle.defmt_script.proofs.StringSteadiness.{lawful_closed, not_stamp, stamped_steady, string_steady, unstamped_steady}
+use Rattle.defmt_script.proofs.Kept.{reads_kept}
+use Rattle.defmt_script.proofs.Steps.{IsAdded, IsSaid, IsTaken, Keeps, set_to}
 use Rattle.defmt_script.proofs.TurnLaws.{told_first, told_statement, told_text}
 use Rattle.defmt_script.specs.Lawful.{IsLawful}
 use Rattle.defmt_script.specs.Reads.{Reads, with_statement, with_string, with_text}

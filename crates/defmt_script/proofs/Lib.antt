@@ -5,7 +5,11 @@ mod ReadingLaws
 mod Settled
 pub mod Stamps
 mod Steadiness
+mod StringSteadiness
+mod StatementSteadiness
 mod StepLaws
+mod LineBounds
 mod Steps
+mod Kept
 mod Texts
 mod TurnLaws

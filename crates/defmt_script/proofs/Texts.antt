@@ -21,8 +21,10 @@ use Rattle.defmt_lines.specs.declared.form.Form.TheVariants as forms
 use Rattle.defmt_lines.specs.declared.settings.Settings.{Settings}
 use Rattle.defmt_script.proofs.Counts.{len-added, no_names}
 use Rattle.defmt_script.proofs.Settled.{is_setting}
-use Rattle.defmt_script.proofs.Steadiness.{over_or_not, some_or_before}
-use Rattle.defmt_script.proofs.Steps.{Ends, IsAdded, Keeps, reads_kept, set_to, total}
+use Rattle.defmt_script.proofs.Steadiness.{over_or_not}
+use Rattle.defmt_script.proofs.StringSteadiness.{some_or_before}
+use Rattle.defmt_script.proofs.Kept.{reads_kept}
+use Rattle.defmt_script.proofs.Steps.{Ends, IsAdded, Keeps, set_to, total}
 use Rattle.defmt_script.specs.Reads.{Reads, with_string}
 use Rattle.defmt_script.specs.Script.{Script, count_strings, next_index}
 use Rattle.defmt_script.specs.State.{State, closed, entry_at, no_lines, stamp_entry, with_stamp_entry}

@@ -16,6 +16,7 @@ use dl_io::Memory;
 use rtt_terminal::Speech;
 use std::alloc::Global;
 use std::marker::Model;
+use std::mem::forget;
 
 /// The statements of one writer, seen as a list.
 #[derive(Drop)]
@@ -265,5 +266,10 @@ impl Script {
     {
         self.lawful();
         step_at(number, self.count(writer), self.speech().sayings(writer))
+    }
+
+    /// Lets the script go, and what it holds with it, without a walk to free that: for a program that is about to end.
+    pub fn forget(self) {
+        forget(self);
     }
 }

@@ -4,7 +4,8 @@ use Rattle.defmt_intern.specs.declared.entry.Entry.{Entry}
 use Rattle.defmt_lines.specs.Form.{StringsMayCome}
 use Rattle.defmt_lines.specs.Line.{is_string_tag}
 use Rattle.defmt_script.proofs.Counts.{len-added}
-use Rattle.defmt_script.proofs.Steadiness.{is_free, kept_steady, state, string_added, string_steady}
+use Rattle.defmt_script.proofs.Steadiness.{state}
+use Rattle.defmt_script.proofs.StringSteadiness.{is_free, kept_steady, string_added, string_steady}
 use Rattle.defmt_script.specs.Script.{count_strings, next_index}
 use Rattle.defmt_script.specs.State.{State, strings_limit}
 use Rattle.defmt_spelling.specs.Names.{NameMap}

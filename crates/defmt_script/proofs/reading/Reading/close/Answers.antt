@@ -1,7 +1,8 @@
 use Rattle.std.proofs.Common.{ap, arith, lit≤, length, not, subst, sym, ◌≤◌, ◌∙◌}
 use Rattle.std.specs.FinMap as map
 use Rattle.defmt_intern.specs.declared.entry.Entry.{Entry}
-use Rattle.defmt_script.proofs.Steadiness.{is_free, kept_steady, stamp_added, stamped_steady, state, unstamped_steady}
+use Rattle.defmt_script.proofs.Steadiness.{state}
+use Rattle.defmt_script.proofs.StringSteadiness.{is_free, kept_steady, stamp_added, stamped_steady, unstamped_steady}
 use Rattle.defmt_script.specs.Script.{next_index}
 use Rattle.defmt_script.specs.State.{State}
 use Rattle.defmt_script.proofs.reading.Reading.close.Goals as goal

@@ -1,5 +1,5 @@
 use Rattle.std.proofs.Common.{ap, arith, length}
-use Rattle.defmt_script.proofs.Steadiness.{count_within}
+use Rattle.defmt_script.proofs.StatementSteadiness.{count_within}
 use Rattle.defmt_script.proofs.reading.Reading.count.Goals as goal
 
 pub overflow_cast-result : goal.overflow_cast-result

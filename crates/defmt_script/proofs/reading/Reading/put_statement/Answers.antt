@@ -2,7 +2,8 @@ use Rattle.std.proofs.Common.{Ok, Result, List, ap, arith, subst, sym, true, ◌
 use Rattle.std.specs.Prelude.{slice_set}
 use Rattle.defmt_lines.specs.Form.{StringsAreOver}
 use Rattle.defmt_lines.specs.declared.cause.Cause.{Cause}
-use Rattle.defmt_script.proofs.Steadiness.{placed, sound_of, state, statement_counted, statement_steady, taken}
+use Rattle.defmt_script.proofs.StatementSteadiness.{placed, sound_of, statement_counted, statement_steady, taken}
+use Rattle.defmt_script.proofs.Steadiness.{state}
 use Rattle.defmt_script.proofs.TurnLaws.{told_behind}
 use Rattle.defmt_script.specs.Reads.{is_message, takes_statement}
 use Rattle.defmt_script.specs.Script.{count_statements}

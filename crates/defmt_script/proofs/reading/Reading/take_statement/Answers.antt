@@ -1,6 +1,6 @@
 use Rattle.std.proofs.Common.{subst, sym}
 use Rattle.defmt_lines.specs.Form.{StringsAreOver}
-use Rattle.defmt_script.proofs.Steadiness.{over_closed}
+use Rattle.defmt_script.proofs.StringSteadiness.{over_closed}
 use Rattle.defmt_script.specs.State.{State}
 use Rattle.defmt_script.proofs.reading.Reading.take_statement.Goals as goal
 

@@ -1,5 +1,5 @@
 use Rattle.std.proofs.Common.{sym, ◌∙◌}
-use Rattle.defmt_script.proofs.Steadiness.{judged_short}
+use Rattle.defmt_script.proofs.StringSteadiness.{judged_short}
 use Rattle.defmt_script.proofs.Steps.{string_new}
 use Rattle.defmt_script.proofs.reading.Reading.take_string.Goals as goal
 
