@@ -8,6 +8,7 @@
 //! So a writer with one statement and three texts sends 4 bytes over the one ring and 20 over the other (device_tests, `talks`).
 #![tactic(auto)]
 
+mod all_writers;
 mod ends;
 mod settling;
 mod starting;

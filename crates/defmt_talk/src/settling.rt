@@ -93,5 +93,6 @@ pub(crate) fn settle_both<
     let Both { first, second } = readers;
     let talk = settle_talk::<H, M, V>(alloc, said, text_up, second);
     let run = settle_run::<H, N, K, G>(alloc, tape, up, script, first);
+    // Both results are handed on whole, so that no early exit has the other to drop.
     both(run, talk)
 }

@@ -65,5 +65,6 @@ pub(crate) fn start_both<
         speech,
         text_up,
     );
+    // Both results are handed on whole, so that no early exit has the other to drop.
     both(logs, booths)
 }

@@ -1,5 +1,5 @@
 //! How a run with texts for terminals goes.
-ghost use Rattle.std.specs.Prelude.{◌≡◌, [], IfOk};
+ghost use Rattle.std.specs.Prelude.{◌≡◌, [], IfOk, Ok};
 ghost use Rattle.defmt_frames.specs.Frames.{pace_of};
 ghost use Rattle.defmt_logger.specs.Kept.{TellsIn};
 ghost use Rattle.defmt_writers.specs.Runs.{IsRun, ModeFits};
@@ -7,10 +7,11 @@ ghost use Rattle.defmt_talk.specs.Talks.{IsTalk};
 ghost use Rattle.rtt_ring.specs.Views.{new_down, new_up};
 ghost use Rattle.shared_work.specs.Names.{AreNamed};
 
+use crate::all_writers::run_all;
 use crate::ends::prepare_both;
 use crate::settling::settle_both;
 use crate::starting::{Booths, Logs, start_both};
-use crate::talking::{Stage, run_all};
+use crate::talking::Stage;
 use defmt_hooks::{Clock, Stamp};
 use defmt_logger::Naming;
 use defmt_script::Script;
@@ -118,7 +119,9 @@ fn run_started<
 }
 
 // What was made, with what is kept beside it.
-fn with<A: Drop, B>(kept: A, made: Result<B, Memory>) -> Result<(A, B), Memory> {
+fn with<A: Drop, B>(kept: A, made: Result<B, Memory>) -> Result<(A, B), Memory>
+    ensures { IfOk result (λ r. (r.0 ≡ kept) × (made ≡ Ok r.1)) }
+{
     Ok((kept, made?))
 }
 
@@ -197,6 +200,7 @@ fn run_both<
         up,
         text_up,
     );
+    // The readers are handed on beside what was started, so that the one early exit leaves nothing to drop here.
     let (readers, (logs, booths)) = with(readers, started)?;
     run_started::<H, E, N, K, F, M, V, C, G, R>(rt, alloc, speech, gate, logs, booths, readers)
 }
