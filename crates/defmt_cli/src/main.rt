@@ -2,8 +2,11 @@
 //! standard output.
 #![tactic(auto)]
 
+mod outside;
+
+use crate::outside::{Folder, Input};
 use defmt_run::{Fault, OpenGate, session};
-use dl_io::{DirShelf, StdSink, StdSource, write_all};
+use dl_io::{StdSink, write_all};
 use std::process::ExitCode;
 use std::rt::Env;
 use std::{env, io};
@@ -11,16 +14,17 @@ use std::{env, io};
 fn main(rt: HostRuntime) -> ExitCode {
     let words = match words_of(&rt) {
         Ok(words) => words,
-        Err(error) if error.kind() == io::ErrorKind::OutOfMemory => {
-            tell(&rt, b"memory");
-            return ExitCode::from(Fault::Memory.status());
-        }
+        Err(error) if error.kind() == io::ErrorKind::OutOfMemory => return without_memory(&rt),
         // Words that aren't text ask for nothing.
         Err(_) => Vec::new(rt.alloc()),
     };
-    let mut source = StdSource::new(rt.reader());
+    let Ok(mut source) = Input::new(rt.alloc(), rt.stdin()) else {
+        return without_memory(&rt);
+    };
+    let Ok(mut shelf) = Folder::new(rt.alloc(), &rt) else {
+        return without_memory(&rt);
+    };
     let mut sink = StdSink::new(io::writer(&rt));
-    let mut shelf = DirShelf::new(&rt);
     let outcome = session(
         &rt,
         rt.alloc(),
@@ -36,6 +40,11 @@ fn main(rt: HostRuntime) -> ExitCode {
         tell(&rt, text.as_str().as_bytes());
     }
     ExitCode::from(outcome.status)
+}
+
+fn without_memory(rt: &HostRuntime) -> ExitCode {
+    tell(rt, b"memory");
+    ExitCode::from(Fault::Memory.status())
 }
 
 fn words_of(rt: &(impl Env + AllocGlobal)) -> io::Result<Vec<String>> {
