@@ -4,7 +4,9 @@ use Rattle.std.specs.Fmt.{decimal, digit_glyph}
 
 -- the ring, the mode, the reader, the stamp and the five strings
 abbrev pub head : List ℕ
-head = codes "ring 1024\n" ++ (codes "mode block\n" ++ (codes "reader live\n" ++ (codes "stamp 1000 250\n"
+head =
+    codes "ring 1024\n" ++ (codes "mode block\n"
+    ++ (codes "reader live\n" ++ (codes "stamp 1000 250\n"
     ++ (codes "s boot defmt_info boot {=u8}\n"
     ++ (codes "s temp defmt_debug temp {=i16} of {=[u8]:02x}\n"
     ++ (codes "s link defmt_warn link {=bool} {=str:?}\n"
@@ -28,10 +30,14 @@ unfoldable pub boot : ℕ → List ℕ
 boot x = codes "boot " ++ decimal (x % 256)
 
 unfoldable pub temp : ℕ → List ℕ
-temp x = codes "temp " ++ (less_thousand (x % 2001) ++ (codes " #" ++ (hex (x % 256) ++ (hex (x / 256 % 256) ++ hex (x / 65536 % 256)))))
+temp x =
+    codes "temp " ++ (less_thousand (x % 2001)
+    ++ (codes " #" ++ (hex (x % 256) ++ (hex (x / 256 % 256) ++ hex (x / 65536 % 256)))))
 
 unfoldable pub link : ℕ → List ℕ
-link x = codes "link " ++ ((if x % 2 == 0 then codes "true" else codes "false") ++ (codes " \"port" ++ (decimal (x % 10) ++ codes "\"")))
+link x =
+    codes "link " ++ ((if x % 2 == 0 then codes "true" else codes "false")
+    ++ (codes " \"port" ++ (decimal (x % 10) ++ codes "\"")))
 
 unfoldable pub fail : ℕ → List ℕ
 fail x = codes "fail " ++ decimal x
@@ -41,11 +47,14 @@ tick x = codes "tick " ++ decimal x
 
 -- the strings take turns
 unfoldable pub call : ℕ → ℕ → List ℕ
-call turn x = if turn == 0 then boot x else if turn == 1 then temp x else if turn == 2 then link x else if turn == 3 then fail x else tick x
+call turn x =
+    if turn == 0 then boot x else if turn == 1 then temp x else if turn == 2 then link x
+    else if turn == 3 then fail x else tick x
 
 -- statement `i`, of one of four writers, as a line
 unfoldable pub statement : ℕ → List ℕ
-statement i = codes "w " ++ (decimal (i % 4) ++ (codes " " ++ (call (i % 5) (drawn i) ++ codes "\n")))
+statement i =
+    codes "w " ++ (decimal (i % 4) ++ (codes " " ++ (call (i % 5) (drawn i) ++ codes "\n")))
 
 -- the first so many statements
 abbrev pub statements : ℕ → List ℕ

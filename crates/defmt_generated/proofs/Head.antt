@@ -1,10 +1,7 @@
--- The nine lines that set up a generated script, and the state behind them.
-use Rattle.std.proofs.Common.{◌≡◌, ◌<◌, ◌+◌, ℕ, Bool, true, false, List, [], ◌∷◌, ◌++◌, Option, Some, None, Result, Ok, Err, refl, sym, ap, subst, ◌∙◌, inl, inr, lit≤, lit<, arith}
+-- The nine lines that set up a generated script are read, one after another.
+use Rattle.std.proofs.Common.{◌≡◌, ◌<◌, ◌+◌, ℕ, Bool, true, false, List, [], ◌∷◌, ◌++◌, None, Result, Ok, Err, refl, sym, ap, subst, ◌∙◌, inl, inr, lit≤, lit<, arith}
 use Rattle.std.specs.Prelude.{codes, if◌then◌else◌, is_some, nat_lt, not}
 use Rattle.std.specs.FinMap as map
-use Rattle.std.specs.Cmp.{nat_cmp_total}
-use Rattle.std.specs.Cmp.Lexicographic.{nat_list_cmp_total, slice_cmp}
-use Rattle.std.specs.Ordering.{nat_cmp}
 use Rattle.std.proofs.lemmas.Bool.Decides.{nat_tests}
 use Rattle.defmt_generated.proofs.Fields.{said}
 use Rattle.defmt_generated.proofs.Texts.{tested}
@@ -12,11 +9,8 @@ use Rattle.defmt_generated.proofs.Words.{boot_pieces, boot_spells, fail_pieces, 
 use Rattle.defmt_generated.specs.Lines.{head_lines}
 use Rattle.defmt_grammar.specs.Cut.{cut}
 use Rattle.defmt_grammar.specs.declared.fault.Mode.TheVariants.{Strict}
-use Rattle.defmt_intern.specs.Table.{Map}
-use Rattle.defmt_intern.specs.declared.entry.Entry.{Entry}
 use Rattle.defmt_intern.specs.declared.entry.Tag.{Tag}
 use Rattle.defmt_intern.specs.declared.entry.Tag.TheVariants as tags
-use Rattle.defmt_intern.specs.declared.table.Profile.TheVariants as profiles
 use Rattle.defmt_lines.specs.Form.{in_order}
 use Rattle.defmt_lines.proofs.SettingLaws.{set_found}
 use Rattle.defmt_lines.specs.Line.{Line, Says, entry, entry_of, field_and_rest, head, one_field, two_fields, worded}
@@ -28,132 +22,17 @@ use Rattle.defmt_lines.specs.declared.cause.Cause.{Cause}
 use Rattle.defmt_lines.specs.declared.cause.Cause.TheVariants as causes
 use Rattle.defmt_lines.specs.declared.form.Form.{Form}
 use Rattle.defmt_lines.specs.declared.form.Form.TheVariants as forms
-use Rattle.defmt_lines.specs.declared.settings.RingMode.TheVariants.{Block}
-use Rattle.defmt_lines.specs.declared.settings.Settings.{Settings}
-use Rattle.defmt_script.proofs.Counts.{len-added, no_names}
 use Rattle.defmt_script.specs.Reads.{ReadsLines, Takes, TakesString, admits_string, sets, string_at, takes_string, with_string}
+use Rattle.defmt_script.specs.Script.{Script, count_strings}
 use Rattle.defmt_script.specs.Script.{Refusal, Script, count_strings}
-use Rattle.defmt_script.specs.State.{State, entry_at, no_lines, no_statements, stamp_entry, strings_limit}
-use Rattle.defmt_spelling.specs.Names.{NameMap}
-use Rattle.rtt_terminal.specs.Speech.{silence}
+use Rattle.defmt_script.specs.State.{State, no_lines, strings_limit}
+use Rattle.defmt_generated.proofs.States.{four_names, four_strings, four_yet, new_name, no_strings, none_yet, one_name, one_string, one_yet, ready, settled, three_names, three_strings, three_yet, two_names, two_strings, two_yet}
 
 abbrev Answer : Type 0
 Answer = Result Script Refusal
 
 abbrev Taken : Type 0
 Taken = Result State Cause
-
--- ---- states
-
--- the settings with these stamps, profile One and no orders
-abbrev with_stamps : Option (ℕ × ℕ) → Settings
-with_stamps stamps = record { ring = 1024; mode = Block; late = false; stamp = stamps; profile = profiles.One; orders = [] }
-
--- the settings behind the first four lines
-abbrev pub all_settings : Settings
-all_settings = with_stamps (Some (1000, 250))
-
--- the settings so far, and no string
-abbrev settled : Form → Option (ℕ × ℕ) → State
-settled form stamps = record {
-  first = form;
-  script = record {
-    settings = with_stamps stamps;
-    table = map.empty;
-    names = map.empty;
-    writers = no_statements;
-    said = silence 8;
-  };
-}
-
-abbrev no_strings : State
-no_strings = settled forms.Profile (Some (1000, 250))
-
-abbrev one_string : State
-one_string = string_at 1 no_strings (codes "boot") tags.Info (codes "boot {=u8}")
-
-abbrev two_strings : State
-two_strings = string_at 2 one_string (codes "temp") tags.Debug (codes "temp {=i16} of {=[u8]:02x}")
-
-abbrev three_strings : State
-three_strings = string_at 3 two_strings (codes "link") tags.Warn (codes "link {=bool} {=str:?}")
-
-abbrev four_strings : State
-four_strings = string_at 4 three_strings (codes "fail") tags.Error (codes "fail {=u32:#010x}")
-
--- behind the nine lines
-abbrev pub ready : State
-ready = string_at 5 four_strings (codes "tick") tags.Trace (codes "tick {=u64}")
-
--- ---- names and entries
-
-abbrev Named : Type 0
-Named = List (List ℕ × ℕ)
-
-abbrev one_name : Named
-one_name = (codes "boot", 1) ∷ []
-
-abbrev two_names : Named
-two_names = (codes "temp", 2) ∷ one_name
-
-abbrev three_names : Named
-three_names = (codes "link", 3) ∷ two_names
-
-abbrev four_names : Named
-four_names = (codes "fail", 4) ∷ three_names
-
-abbrev five_names : Named
-five_names = (codes "tick", 5) ∷ four_names
-
-abbrev pub all_names : NameMap
-all_names = map.from_entries five_names
-
-abbrev Entries : Type 0
-Entries = List (ℕ × Entry)
-
-abbrev entries : Entries
-entries =
-    (6, stamp_entry 6)
-    ∷ (5, entry_at 5 tags.Trace (codes "tick {=u64}"))
-    ∷ (4, entry_at 4 tags.Error (codes "fail {=u32:#010x}"))
-    ∷ (3, entry_at 3 tags.Warn (codes "link {=bool} {=str:?}"))
-    ∷ (2, entry_at 2 tags.Debug (codes "temp {=i16} of {=[u8]:02x}"))
-    ∷ (1, entry_at 1 tags.Info (codes "boot {=u8}")) ∷ []
-
-abbrev pub full_table : Map
-full_table = map.from_entries entries
-
-pub name_there : (name : List ℕ) (index : Option ℕ) → map.find (slice_cmp nat_cmp) name five_names ≡ index → map.get all_names name ≡ index
-name_there name index is = map.get-from_entries nat_list_cmp_total five_names name ∙ is
-
-pub entry_there : (index : ℕ) (o : Option Entry) → map.find nat_cmp index entries ≡ o → map.get full_table index ≡ o
-entry_there index o is = map.get-from_entries nat_cmp_total entries index ∙ is
-
-new_name : (es : Named) (name : List ℕ) → map.find (slice_cmp nat_cmp) name es ≡ None → map.get (map.from_entries {R = slice_cmp nat_cmp} es) name ≡ None
-new_name es name none = map.get-from_entries nat_list_cmp_total es name ∙ none
-
--- ---- how many strings there are
-
-one_more : (names : NameMap) (name : List ℕ) (k n : ℕ) → map.get names name ≡ None → map.len names ≡ n → map.len (map.insert names name k) ≡ n + 1
-one_more names name k n new is = len-added names name k new ∙ ap (λ (m : ℕ). m + 1) is
-
-none_yet : count_strings no_strings.script ≡ 0
-none_yet = no_names
-
-one_yet : count_strings one_string.script ≡ 1
-one_yet = one_more no_strings.script.names (codes "boot") 1 0 (new_name [] (codes "boot") refl) none_yet
-
-two_yet : count_strings two_strings.script ≡ 2
-two_yet = one_more one_string.script.names (codes "temp") 2 1 (new_name one_name (codes "temp") refl) one_yet
-
-three_yet : count_strings three_strings.script ≡ 3
-three_yet = one_more two_strings.script.names (codes "link") 3 2 (new_name two_names (codes "link") refl) two_yet
-
-four_yet : count_strings four_strings.script ≡ 4
-four_yet = one_more three_strings.script.names (codes "fail") 4 3 (new_name three_names (codes "fail") refl) three_yet
-
-pub all_counted : count_strings ready.script ≡ 5
-all_counted = one_more four_strings.script.names (codes "tick") 5 4 (new_name four_names (codes "tick") refl) four_yet
 
 -- ---- a line
 

@@ -1,7 +1,11 @@
 mod Texts
 mod Lines
 mod Words
+mod States
 mod Head
 mod Fields
+mod CallParts
+mod NumberCalls
+mod PairCalls
 mod Calls
 mod Reading

@@ -6,9 +6,11 @@ use Rattle.std.proofs.lemmas.Bool.Decides.{nat_tests}
 use Rattle.defmt_eager.specs.Line.{text_limit}
 use Rattle.defmt_eager.specs.Show.{eager_text}
 use Rattle.defmt_generate.specs.Generated.{drawn, generated}
-use Rattle.defmt_generated.proofs.Calls.{Call, called}
+use Rattle.defmt_generated.proofs.CallParts.{Call}
+use Rattle.defmt_generated.proofs.Calls.{called}
 use Rattle.defmt_generated.proofs.Fields.{statement_said}
-use Rattle.defmt_generated.proofs.Head.{all_counted, all_names, all_settings, full_table, head_read, ready}
+use Rattle.defmt_generated.proofs.Head.{head_read}
+use Rattle.defmt_generated.proofs.States.{all_counted, all_names, all_settings, full_table, ready}
 use Rattle.defmt_generated.proofs.Lines.{generated_lines, statement_printable}
 use Rattle.defmt_generated.specs.Lines.{head_lines, statement_line, statement_lines}
 use Rattle.defmt_intern.specs.Table.{Map}
