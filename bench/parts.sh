@@ -62,8 +62,7 @@ printf '%-44s %10s %10s\n' function calls "a call"
 row "$work/recorded" defmt_encode::writing::message; message=$cost
 row "$work/recorded" defmt_encode::framing::frame; frame=$cost
 row "$work/recorded" defmt_frames::framing::write_frame; encoding=$cost
-row "$work/decoded" defmt_framing::decoded::decode_piece_to_end
-row "$work/decoded" defmt_plan::planned::PlannedTable::message
+row "$work/decoded" rzcobs_core::decoder::decode_zeroless_to_end
 row "$work/decoded" defmt_recording::ear::EarListener::hear; piece=$cost
 
 [ -n "$encoding" ] || [ -z "$message" ] || [ -z "$frame" ] || encoding=$((message + frame))
