@@ -23,7 +23,6 @@ use rtt_booth::Said;
 use rtt_down::Turns;
 use rtt_ring::Settled;
 use std::alloc::Global;
-use std::mem::forget;
 use std::sync::Wait;
 use std::thread::Threads;
 
@@ -136,7 +135,7 @@ fn with_run(
         rest: _,
         looks,
     } = run;
-    forget(script);
+    script.forget();
     let Heard { events, output } = heard?;
     let fault = Fault::Fine;
     let outcome = Outcome {
@@ -173,7 +172,7 @@ fn with_steered(
         orders,
         unheard: _,
     } = run;
-    forget(script);
+    script.forget();
     let Heard { events, output } = heard?;
     let fault = Fault::Fine;
     let outcome = Outcome {
@@ -200,7 +199,7 @@ fn without_run(
     ensures { IfOk result (λ made. IsUntold (told made.outcome)
         × (output ≡ Ok made.output)) }
 {
-    forget(script);
+    script.forget();
     Ok(Making {
         output: output?,
         outcome: Outcome::silent(alloc, Fault::Fine),

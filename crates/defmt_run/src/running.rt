@@ -22,7 +22,6 @@ use dl_io::{Bytes, Failed, ReadFault, Sink, Source, read_all, write_all};
 use elf_table::size_grows;
 use rtt_down::{mode_line, modes_are_set};
 use std::alloc::Global;
-use std::mem::forget;
 use std::sync::Wait;
 use std::thread::Threads;
 
@@ -115,7 +114,7 @@ fn suited(alloc: Global, job: &ScriptJob, text: &[u8]) -> Result<Script, Fault>
     match unsuited(job, &script, text) {
         None => Ok(script),
         Some(line) => {
-            forget(script);
+            script.forget();
             Err(Fault::Script {
                 line,
                 cause: STEER,
