@@ -9,7 +9,7 @@
 # makes, and the command's own status was answered at 64 numbers that follow one another. In each run the status is 1 or the command's own:
 #   at 1           the output is empty, of 'decode' a front of the whole, and 'memory' was said
 #   at its own     the output is whole, and the words of this status were said. That may be so where an allocation was refused: a writer whose thread can't be
-#                  started is run by the calling thread
+#                  started is run by the calling thread, and a buffer for parts of a recording that can't be doubled stays as long as it is
 # Where the words themselves find no memory nothing is said; 'memory' is unsaid only where all allocations from one on are refused.
 # Where there is no C compiler, or the library can't be loaded, the script is skipped. The last line is 'N passed, M failed'.
 
