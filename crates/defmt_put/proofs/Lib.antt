@@ -4,3 +4,4 @@ pub mod Filling
 pub mod Fractions
 pub mod Places
 pub mod Signs
+pub mod TwoDigits

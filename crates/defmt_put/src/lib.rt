@@ -11,6 +11,7 @@ mod lists;
 mod numbers;
 mod quoted;
 mod radix;
+mod seconds;
 mod texts;
 
 pub use lists::put_bytes;

@@ -7,6 +7,7 @@ ghost use Rattle.defmt_put.specs.Signed.{signed_by, printed_by};
 ghost use Rattle.defmt_put.specs.Written.{Writes};
 
 use crate::radix::{put_fraction, put_radix};
+use crate::seconds::put_micros;
 use crate::texts::put;
 use defmt_grammar::{Hint, IntSize};
 use itoa::write_digits;
@@ -75,7 +76,7 @@ pub fn put_uint(out: &mut [u8], at: usize, number: u64, hint: Hint) -> Option<us
     match hint {
         Hint::Plain | Hint::Debug | Hint::Ascii => put_decimal(out, at, number),
         Hint::Radix { base, alt, width } => put_radix(out, at, number, base, alt, width),
-        Hint::Micros => put_fraction(out, at, number, 1_000_000, 6),
+        Hint::Micros => put_micros(out, at, number),
         Hint::Millis => put_fraction(out, at, number, 1_000, 3),
     }
 }

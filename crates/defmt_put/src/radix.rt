@@ -136,7 +136,9 @@ pub(crate) fn put_radix(
     put_in_base(out, middle, number, base, zeros_and_digits)
 }
 
-/// Writes a number divided by a unit, with as many digits behind the point as the unit has zeros.
+/// Writes a number divided by a unit, with as many digits behind the point as the unit has zeros. It stands apart, so that the
+/// numbers that most texts have are written without it.
+#[inline(never)]
 pub(crate) fn put_fraction(
     out: &mut [u8],
     at: usize,

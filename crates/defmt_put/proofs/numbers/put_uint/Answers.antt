@@ -12,8 +12,8 @@ returns-in-Radix c = rw c.in-Radix.is c.put_radix.ensures
 
 pub returns-in-Micros : goal.returns-in-Micros
 unfolding printed_uint
-returns-in-Micros c = rw c.in-Micros.is c.put_fraction.ensures
+returns-in-Micros c = rw c.in-Micros.is c.put_micros.ensures
 
 pub returns-in-Millis : goal.returns-in-Millis
 unfolding printed_uint
-returns-in-Millis c = rw c.in-Millis.is c.put_fraction-in-Millis.ensures
+returns-in-Millis c = rw c.in-Millis.is c.put_fraction.ensures
