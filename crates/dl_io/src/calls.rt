@@ -106,7 +106,8 @@ pub fn fetch_all<F: Shelf>(
 // The least number of bytes that are asked for at a time, unless the limit allows fewer.
 const PIECE: usize = 8192;
 
-// Makes a full buffer longer: about twice as long, and at most one byte longer than the limit.
+// Makes a full buffer longer: by an eighth, so that few bytes are cleared in vain, but by a piece at least, and at most one byte
+// longer than the limit.
 fn grow(buf: &mut Vec<u8>, limit: usize) -> Result<(), Memory>
     requires limited { limit < 2 ^ 64 - 1 }
     requires short { length buf.old.items ≤ limit }
@@ -114,7 +115,7 @@ fn grow(buf: &mut Vec<u8>, limit: usize) -> Result<(), Memory>
     ensures front { OnOk result (take (length buf.old.items) buf.new.items ≡ buf.old.items) }
 {
     let len = buf.len();
-    let more = len.max(PIECE).min(limit + 1 - len);
+    let more = (len / 8).max(PIECE).min(limit + 1 - len);
     buf.resize(len + more, 0)?;
     Ok(())
 }
