@@ -46,11 +46,23 @@ impl Statements {
         }
     }
 
+    // Makes the room of a full list four times as large, so that few statements are moved.
+    fn make_room(&mut self) -> Result<(), Memory>
+        ensures { self.new ≡ self.old }
+    {
+        let count = self.statements.len();
+        if count == self.statements.capacity() {
+            self.statements.reserve(count.saturating_mul(3))?;
+        }
+        Ok(())
+    }
+
     /// Puts one more statement behind the others. On `Memory` the list is unchanged.
     pub fn push(&mut self, item: Statement) -> Result<(), Memory>
         ensures ok { OnOk result (self.new ≡ self.old ++ item ∷ []) }
         ensures err { OnErr result (self.new ≡ self.old) }
     {
+        self.make_room()?;
         self.statements.push(item)?;
         Ok(())
     }
