@@ -9,4 +9,3 @@ pub mod Sizes
 pub mod Stamped
 pub mod Tables
 pub mod Texts
-pub mod Quick

@@ -6,12 +6,14 @@ ghost use Rattle.defmt_logger.specs.Tape.{mark_line};
 ghost use Rattle.defmt_recording.specs.Output.{ended};
 ghost use Rattle.defmt_eager.specs.Line.{eager_line};
 ghost use Rattle.defmt_print.specs.Printed.{IsPlaced, Prints, numbered, numbered_line, statement_lines};
+ghost use Rattle.defmt_put.specs.Written.{Writes};
 ghost use Rattle.defmt_script.specs.Lawful.{IsSound, stamp_in};
 
 use defmt_eager::{EagerFault, line};
 use defmt_flat::put_line;
 use defmt_intern::Table;
 use defmt_logger::Mark;
+use defmt_put::put;
 use defmt_script::{Script, stamps_fit};
 use defmt_values::{Args, Statement, Value};
 use dl_io::{Bytes, Memory};
@@ -137,7 +139,22 @@ pub fn add_mark_line(
     add_line(alloc, table, carried, statement, &mut args, room, out)
 }
 
-// Appends the line of a statement with a stamp or none, and a newline. The room takes the line; where it can't, the list takes the stamp's
+// Writes the line of a statement with a stamp or none, and a newline, to the front of the room.
+fn put_ended(
+    table: &Table,
+    stamp: Option<u64>,
+    statement: &Statement,
+    room: &mut [u8],
+) -> Option<usize>
+    ensures { Writes result room.old 0 room.new
+        (ended (eager_line table.now.entries (stamp_args stamp)
+        statement.now.index statement.now.args)) }
+{
+    let end = put_line(table, stamp, statement, room, 0)?;
+    put(room, end, b"\n")
+}
+
+// Appends the line of a statement with a stamp or none, and a newline. The room takes both; where it can't, the list takes the stamp's
 // arguments.
 fn add_line(
     alloc: Global,
@@ -153,11 +170,10 @@ fn add_line(
         ++ ended (eager_line table.now.entries (stamp_args stamp)
         statement.now.index statement.now.args)) }
 {
-    let Some(end) = put_line(table, stamp, statement, room, 0) else {
-        return add_any_line(alloc, table, stamp, statement, args, out);
-    };
-    out.extend_from_slice(&room[..end])?;
-    out.push(b'\n')
+    match put_ended(table, stamp, statement, room) {
+        Some(end) => out.extend_from_slice(&room[..end]),
+        None => add_any_line(alloc, table, stamp, statement, args, out),
+    }
 }
 
 // Appends any line and a newline. The list takes the stamp's arguments.
