@@ -60,6 +60,9 @@ pub flag_quick : (text rest : List ℕ) (b : Bool) → HeadShape text (shapes.fl
 unfolding meant_val scan_val
 flag_quick text rest b head = record { shape = shapes.flag b; head = head; meant = λ names t. refl; fits = λ t left weight sum. refl }
 
+pub flag_appended : (text rest : List ℕ) (b : Bool) (old new : Vals) → HeadShape text (shapes.flag b) rest → new ≡ snoc old (flag b) → Appended (slots.One kinds.Bool) text old new rest
+flag_appended text rest b old new head is = record { value = flag b; is = is; quick = flag_quick text rest b head }
+
 pub str_quick : (text rest inside s : List ℕ) → HeadShape text (shapes.quoted inside) rest → s ≡ inside → IsQuick (slots.One kinds.Str) text (str s) rest
 unfolding meant_val scan_val
 str_quick text rest inside s head is = record {
@@ -69,9 +72,15 @@ str_quick text rest inside s head is = record {
   fits = λ t left weight sum. refl;
 }
 
+pub str_appended : (text rest inside s : List ℕ) (old new : Vals) → HeadShape text (shapes.quoted inside) rest → s ≡ inside → new ≡ snoc old (str s) → Appended (slots.One kinds.Str) text old new rest
+str_appended text rest inside s old new head same is = record { value = str s; is = is; quick = str_quick text rest inside s head same }
+
 pub bytes_quick : (text rest bs : List ℕ) → HeadShape text (shapes.bytes bs) rest → IsQuick (slots.One kinds.Bytes) text (bytes bs) rest
 unfolding meant_val scan_val
 bytes_quick text rest bs head = record { shape = shapes.bytes bs; head = head; meant = λ names t. refl; fits = λ t left weight sum. refl }
+
+pub bytes_appended : (text rest bs : List ℕ) (old new : Vals) → HeadShape text (shapes.bytes bs) rest → new ≡ snoc old (bytes bs) → Appended (slots.One kinds.Bytes) text old new rest
+bytes_appended text rest bs old new head is = record { value = bytes bs; is = is; quick = bytes_quick text rest bs head }
 
 -- what is read quickly is what stands in front
 pub quick_front : (names : NameMap) (t : Map) (left : ℕ) (slot : Slot) (weight sum : ℕ) (text behind : List ℕ) (v : Val) (rest : List ℕ) → behind ≡ skip_spaces text → IsQuick slot behind v rest → Front names t left slot weight sum text v sum rest

@@ -42,57 +42,6 @@ fn below_zero(slot: Slot, text: &str) -> Option<(Value, &str)>
     }
 }
 
-fn truth(text: &str) -> Option<(Value, &str)>
-    ensures value { IfSome result
-        (λ p. IsQuick (Slot.One Kind.Bool) text.now (plain p.0) p.1.now) }
-    ensures utf8 { IfSome result (λ p. IsUtf8 p.1.now) }
-{
-    let (value, rest) = quick_flag(text)?;
-    Some((Value::Bool(value), rest))
-}
-
-fn quoted(alloc: Global, text: &str) -> Result<Option<(Value, &str)>, Memory>
-    ensures value { IfOk result
-        (λ o. IfSome o (λ p. IsQuick (Slot.One Kind.Str) text.now (plain p.0) p.1.now)) }
-    ensures utf8 { IfOk result (λ o. IfSome o (λ p. IsUtf8 p.1.now)) }
-{
-    let Some((inside, rest)) = quick_quoted(text) else {
-        return Ok(None);
-    };
-    let mut copy = Text::new(alloc);
-    match copy.push_str(inside) {
-        Ok(()) => Ok(Some((Value::Str(copy), rest))),
-        Err(_) => Err(Memory),
-    }
-}
-
-fn bytes(alloc: Global, text: &str) -> Result<Option<(Value, &str)>, Memory>
-    ensures value { IfOk result
-        (λ o. IfSome o (λ p. IsQuick (Slot.One Kind.Bytes) text.now (plain p.0) p.1.now)) }
-    ensures utf8 { IfOk result (λ o. IfSome o (λ p. IsUtf8 p.1.now)) }
-{
-    let Some((bytes, rest)) = quick_bytes(alloc, text)? else {
-        return Ok(None);
-    };
-    Ok(Some((Value::Bytes(bytes), rest)))
-}
-
-// The value of a slot that the text begins with, and what follows it, where it is one that most scripts have.
-fn quick_value(alloc: Global, slot: Slot, text: &str) -> Result<Option<(Value, &str)>, Memory>
-    requires { IsSound slot }
-    ensures value { IfOk result
-        (λ o. IfSome o (λ p. IsQuick slot text.now (plain p.0) p.1.now)) }
-    ensures utf8 { IfOk result (λ o. IfSome o (λ p. IsUtf8 p.1.now)) }
-{
-    match slot {
-        Slot::One(Kind::Uint(_) | Kind::Int(_)) | Slot::Bits { .. } => Ok(number(slot, text)),
-        Slot::One(Kind::Bool) => Ok(truth(text)),
-        Slot::One(Kind::Str) => quoted(alloc, text),
-        Slot::One(Kind::Bytes) => bytes(alloc, text),
-        _ => Ok(None),
-    }
-}
-
 /// Appends the value of a slot that the text begins with, where it is one that most scripts have, and answers what follows it.
 ///
 /// # Errors
@@ -107,16 +56,77 @@ pub fn push_quick<'a>(
     ensures value { IfOk result (λ o. Appends slot text.now args.old args.new o) }
     ensures utf8 { IfOk result (λ o. IfSome o (λ rest. IsUtf8 rest.now)) }
 {
-    if let Slot::One(Kind::Uint(size)) = slot {
-        return push_uint(size, text, args);
+    match slot {
+        Slot::One(Kind::Uint(size)) => push_uint(size, text, args),
+        Slot::Bits { first: 0, width } => push_bits(width, text, args),
+        Slot::One(Kind::Int(_)) | Slot::Bits { .. } => push_number(slot, text, args),
+        Slot::One(Kind::Bool) => push_truth(text, args),
+        Slot::One(Kind::Str) => push_quoted(alloc, text, args),
+        Slot::One(Kind::Bytes) => push_bytes(alloc, text, args),
+        _ => Ok(None),
     }
-    if let Slot::Bits { first: 0, width } = slot {
-        return push_bits(width, text, args);
-    }
-    let Some((value, rest)) = quick_value(alloc, slot, text)? else {
+}
+
+// The same of a number of a signed kind, or of any bit fields.
+fn push_number<'a>(slot: Slot, text: &'a str, args: &mut Args) -> Result<Option<&'a str>, Memory>
+    requires { IsSound slot }
+    ensures value { IfOk result (λ o. Appends slot text.now args.old args.new o) }
+    ensures utf8 { IfOk result (λ o. IfSome o (λ rest. IsUtf8 rest.now)) }
+{
+    let Some((value, rest)) = number(slot, text) else {
         return Ok(None);
     };
     args.push(value)?;
+    Ok(Some(rest))
+}
+
+// The same of a truth value.
+fn push_truth<'a>(text: &'a str, args: &mut Args) -> Result<Option<&'a str>, Memory>
+    ensures value { IfOk result
+        (λ o. Appends (Slot.One Kind.Bool) text.now args.old args.new o) }
+    ensures utf8 { IfOk result (λ o. IfSome o (λ rest. IsUtf8 rest.now)) }
+{
+    let Some((value, rest)) = quick_flag(text) else {
+        return Ok(None);
+    };
+    args.push(Value::Bool(value))?;
+    Ok(Some(rest))
+}
+
+// The same of a text in quotes.
+fn push_quoted<'a>(alloc: Global, text: &'a str, args: &mut Args) -> Result<Option<&'a str>, Memory>
+    ensures value { IfOk result
+        (λ o. Appends (Slot.One Kind.Str) text.now args.old args.new o) }
+    ensures utf8 { IfOk result (λ o. IfSome o (λ rest. IsUtf8 rest.now)) }
+{
+    let Some((inside, rest)) = quick_quoted(text) else {
+        return Ok(None);
+    };
+    let copy = copy_of(alloc, inside)?;
+    args.push(Value::Str(copy))?;
+    Ok(Some(rest))
+}
+
+fn copy_of(alloc: Global, text: &str) -> Result<Text, Memory>
+    ensures { IfOk result (λ copy. copy ≡ text.now) }
+{
+    let mut copy = Text::new(alloc);
+    match copy.push_str(text) {
+        Ok(()) => Ok(copy),
+        Err(_) => Err(Memory),
+    }
+}
+
+// The same of bytes.
+fn push_bytes<'a>(alloc: Global, text: &'a str, args: &mut Args) -> Result<Option<&'a str>, Memory>
+    ensures value { IfOk result
+        (λ o. Appends (Slot.One Kind.Bytes) text.now args.old args.new o) }
+    ensures utf8 { IfOk result (λ o. IfSome o (λ rest. IsUtf8 rest.now)) }
+{
+    let Some((bytes, rest)) = quick_bytes(alloc, text)? else {
+        return Ok(None);
+    };
+    args.push(Value::Bytes(bytes))?;
     Ok(Some(rest))
 }
 
