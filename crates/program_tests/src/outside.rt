@@ -160,7 +160,7 @@ sink defmtl decode --table hi.elf
 =
 status 4 sink, 0 marks, nothing
 status 4 sink, 0 marks, a front
-2 calls
+3 calls
 status 9 events with faults 2
 -- front 1
 INFO  hello
