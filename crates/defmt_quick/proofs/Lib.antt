@@ -1,2 +1,3 @@
+pub mod CallLaws
 pub mod Heads
 pub mod QuoteLaws

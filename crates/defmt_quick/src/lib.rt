@@ -4,12 +4,14 @@
 //! After docs/SCRIPT.md, "Arguments". So `255` is read as a decimal number (script_tests, `arguments`: the reading of arguments asks these readers first).
 #![tactic(auto)]
 
+mod calls;
 mod ends;
 mod numbers;
 mod pairs;
 mod quotes;
 mod words;
 
+pub use calls::quick_last_call;
 pub use numbers::{quick_decimal, quick_negative};
 pub use pairs::quick_bytes;
 pub use quotes::quick_quoted;
