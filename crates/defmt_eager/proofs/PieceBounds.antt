@@ -1,6 +1,6 @@
 -- How long the texts of pieces and of values with values inside are at most.
 use Rattle.std.proofs.Common.{◌≡◌, ◌≤◌, ◌+◌, ◌*◌, ℕ, false, List, [], ◌∷◌, ◌++◌, length, Option, Some, None, refl, ap, arith, length-append}
-use Rattle.std.specs.Prelude.{IfSome, codes, unwrap_or}
+use Rattle.std.specs.Prelude.{codes, unwrap_or}
 use Rattle.defmt_grammar.specs.declared.hint.Hint.{Hint}
 use Rattle.defmt_grammar.specs.declared.kind.Kind.{Kind}
 use Rattle.defmt_grammar.specs.declared.piece.Piece.{Piece}
@@ -11,6 +11,7 @@ use Rattle.defmt_values.specs.Scan.{index_or}
 use Rattle.defmt_values.specs.View.{elems_of}
 use Rattle.defmt_values.specs.declared.value.Item.{Item}
 use Rattle.defmt_eager.specs.Answers.{comma}
+use Rattle.defmt_eager.specs.Line.{text_limit}
 use Rattle.defmt_eager.specs.Show.{Shown, acting, node_pieces, param_text, piece_text, pieces_text, show_val, show_elems, shows}
 use Rattle.defmt_eager.proofs.Appends.{param_none, param_some, pieces_step, joined, elems_step}
 use Rattle.defmt_eager.proofs.Bounds.{str_most}
@@ -20,10 +21,9 @@ use Rattle.defmt_eager.proofs.Bounds.{str_most}
 pub none_taken : (t : Map) (outer : Hint) (args : Vals) (p : ℕ) (kind : Kind) (hint : Hint) → None ≡ vals_get args p → length (param_text outer (shows t args) p kind hint) ≤ 0
 none_taken t outer args p kind hint e = omega (arith, ap length (param_none t outer args p kind hint e))
 
-pub some_bound : (t : Map) (outer : Hint) (args : Vals) (p : ℕ) (kind : Kind) (hint : Hint) (v : Val) (bound : Option ℕ) → Some v ≡ vals_get args p
-    → IfSome bound (λ most. length (show_val t v kind (acting outer hint)) ≤ most) → IfSome bound (λ most. length (param_text outer (shows t args) p kind hint) ≤ most)
-some_bound t outer args p kind hint v None e h = tt
-some_bound t outer args p kind hint v (Some most) e h = omega (arith, ap length (param_some t outer args p kind hint v e), h)
+pub some_bound : (t : Map) (outer : Hint) (args : Vals) (p : ℕ) (kind : Kind) (hint : Hint) (v : Val) (most : ℕ) → Some v ≡ vals_get args p
+    → length (show_val t v kind (acting outer hint)) ≤ most → length (param_text outer (shows t args) p kind hint) ≤ most
+some_bound t outer args p kind hint v most e h = omega (arith, ap length (param_some t outer args p kind hint v e), h)
 
 -- what bounds the pieces that are still to come bounds all of them, with what was counted
 pub piece_more : (outer : Hint) (all : List Shown) (pieces rest more : List Piece) (piece : Piece) (most one sum : ℕ) → rest ≡ piece ∷ more → length (piece_text outer piece all) ≤ one → sum ≡ most + one + 0
@@ -59,9 +59,8 @@ list_few xs most h = omega (arith, parted_few xs, length-append (codes "[") (par
 
 -- ---- interned strings
 
-pub text_bound : (text : List ℕ) (hint : Hint) (bound : Option ℕ) → IfSome bound (λ count. count ≡ length text * 2 + 3) → IfSome bound (λ most. length (printed_str text hint) ≤ most)
-text_bound text hint None h = tt
-text_bound text hint (Some count) h = omega (arith, str_most text hint, h)
+pub text_bound : (text : List ℕ) (hint : Hint) (bound : ℕ) → (bound ≤ text_limit → bound ≡ length text * 2 + 3) → bound ≤ text_limit → length (printed_str text hint) ≤ bound
+text_bound text hint bound h few = omega (arith, str_most text hint, h few)
 
 pub index_is : (o : Option ℕ) → unwrap_or o 0 ≡ index_or o
 index_is None = refl

@@ -1,5 +1,5 @@
 //! Whether the text of a statement is too long.
-ghost use Rattle.std.specs.Prelude.{◌≡◌, ◌≤◌, ◌+◌, ◌*◌, nat_lt, length, IfOk, IfSome};
+ghost use Rattle.std.specs.Prelude.{◌≡◌, ◌≤◌, ◌+◌, ◌*◌, nat_lt, length, IfOk};
 ghost use Rattle.std.specs.Bool.{OnTrue};
 ghost use Rattle.defmt_eager.specs.Answers.{most_bytes};
 ghost use Rattle.defmt_eager.specs.Line.{text_limit};
@@ -28,48 +28,41 @@ fn most_bytes(hint: Hint) -> usize
     }
 }
 
-// The bytes of so many parts, and three around them.
-fn bytes_of(parts: usize, most: usize) -> Option<usize>
-    ensures { IfSome result (λ count. count ≡ parts * most + 3) }
+// The bytes of so many parts, and three around them. A bound above the limit, which sums stay at, says nothing.
+fn bytes_of(parts: usize, most: usize) -> usize
+    ensures { result ≤ text_limit → result ≡ parts * most + 3 }
 {
-    parts.checked_mul(most)?.checked_add(3)
+    parts.saturating_mul(most).saturating_add(3)
 }
 
 // No fewer bytes than the text of these bytes has.
-fn bytes_bound(bytes: &[u8], hint: Hint) -> Option<usize>
-    ensures { IfSome result (λ most. length (printed_bytes bytes.now hint) ≤ most) }
+fn bytes_bound(bytes: &[u8], hint: Hint) -> usize
+    ensures { result ≤ text_limit → length (printed_bytes bytes.now hint) ≤ result }
 {
     bytes_of(bytes.len(), 2 + most_bytes(hint))
 }
 
 // No fewer bytes than an interned string has, under any hint.
-fn interned_bound(table: &Table, index: u16) -> Option<usize>
-    ensures { (hint : AnyHint) → IfSome result
-        (λ most. length (printed_str (interned_text (look table.now.entries index)) hint) ≤ most) }
+fn interned_bound(table: &Table, index: u16) -> usize
+    ensures { (hint : AnyHint) → result ≤ text_limit
+        → length (printed_str (interned_text (look table.now.entries index)) hint) ≤ result }
 {
     bytes_of(interned_text(table, index).len(), 2)
-}
-
-// The sum of three numbers.
-fn sum_of(most: usize, more: usize, around: usize) -> Option<usize>
-    ensures { IfSome result (λ sum. sum ≡ most + more + around) }
-{
-    most.checked_add(more)?.checked_add(around)
 }
 
 // No fewer bytes than the text of a value has, which isn't printed.
 #[cycle(bound)]
 #[tactic(auto, unfolding(crate::specs::Show::show_val), using(crate::proofs::Bounds::leaves))]
-fn value_bound(table: &Table, hint: Hint, value: &Value) -> Option<usize>
-    ensures { (kind : AnyKind) → IfSome result
-        (λ most. length (show_val table.now.entries (plain value.now) kind hint) ≤ most) }
+fn value_bound(table: &Table, hint: Hint, value: &Value) -> usize
+    ensures { (kind : AnyKind) → result ≤ text_limit
+        → length (show_val table.now.entries (plain value.now) kind hint) ≤ result }
 {
     match value {
         Value::Uint(n) | Value::Bits(n) => {
             let _number = *n;
-            Some(most_bytes(hint))
+            most_bytes(hint)
         }
-        Value::Int(_) | Value::Bool(_) | Value::Char(_) => Some(most_bytes(hint)),
+        Value::Int(_) | Value::Bool(_) | Value::Char(_) => most_bytes(hint),
         Value::Str(text) => bytes_of(text.len(), 2),
         Value::Bytes(bytes) => bytes_bound(bytes.as_slice(), hint),
         Value::Istr(index) => interned_bound(table, *index),
@@ -83,14 +76,14 @@ fn value_bound(table: &Table, hint: Hint, value: &Value) -> Option<usize>
 
 // No fewer bytes than the text of a piece has.
 #[cycle(bound)]
-fn piece_bound(table: &Table, outer: Hint, piece: &Piece, args: &Args) -> Option<usize>
-    ensures { IfSome result
-        (λ most. length (piece_text outer piece.now (shows table.now.entries args.now)) ≤ most) }
+fn piece_bound(table: &Table, outer: Hint, piece: &Piece, args: &Args) -> usize
+    ensures { result ≤ text_limit
+        → length (piece_text outer piece.now (shows table.now.entries args.now)) ≤ result }
 {
     match piece {
-        Piece::Literal(text) => Some(text.len()),
+        Piece::Literal(text) => text.len(),
         Piece::Param(param) => match args.get(param.position) {
-            None => Some(0),
+            None => 0,
             Some(value) => {
                 let hint = acting(outer, param.hint);
                 value_bound(table, hint, value)
@@ -101,45 +94,34 @@ fn piece_bound(table: &Table, outer: Hint, piece: &Piece, args: &Args) -> Option
 
 // The same of pieces one after another.
 #[cycle(bound)]
-fn pieces_bound(table: &Table, outer: Hint, pieces: &[Piece], args: &Args) -> Option<usize>
-    ensures { IfSome result
-        (λ most. length (pieces_text outer pieces.now (shows table.now.entries args.now)) ≤ most) }
+fn pieces_bound(table: &Table, outer: Hint, pieces: &[Piece], args: &Args) -> usize
+    ensures { result ≤ text_limit
+        → length (pieces_text outer pieces.now (shows table.now.entries args.now)) ≤ result }
 {
     let mut rest = pieces;
     let mut most = 0usize;
     'each: while let Some((piece, more)) = cut(rest) {
-        let Some(one) = piece_bound(table, outer, piece, args) else {
-            return None;
-        };
-        let Some(sum) = sum_of(most, one, 0) else {
-            return None;
-        };
-        most = sum;
+        most = most.saturating_add(piece_bound(table, outer, piece, args));
         rest = more;
     }
-    Some(most)
+    most
 }
 
 // The same of a list, with its brackets and two bytes around each element.
 #[cycle(bound)]
-fn list_bound(table: &Table, hint: Hint, index: u16, items: &Items) -> Option<usize>
-    ensures { IfSome result
-        (λ most. length (list_text (show_elems table.now.entries index hint items.now)) ≤ most) }
+fn list_bound(table: &Table, hint: Hint, index: u16, items: &Items) -> usize
+    ensures { result ≤ text_limit
+        → length (list_text (show_elems table.now.entries index hint items.now)) ≤ result }
 {
     let mut rest = items.as_slice();
     let mut most = 2usize;
     'each: while let Some((item, more)) = cut(rest) {
         let pieces = node_pieces(table, index, item.variant);
-        let Some(one) = pieces_bound(table, hint, pieces, &item.args) else {
-            return None;
-        };
-        let Some(sum) = sum_of(most, one, 2) else {
-            return None;
-        };
-        most = sum;
+        let one = pieces_bound(table, hint, pieces, &item.args).saturating_add(2);
+        most = most.saturating_add(one);
         rest = more;
     }
-    Some(most)
+    most
 }
 
 // Whether the bounds of its pieces keep the text of a statement within the limit.
@@ -147,9 +129,7 @@ fn is_short(table: &Table, index: u16, args: &Args) -> bool
     ensures { OnTrue result (length (eager_text table.now.entries index args.now) ≤ text_limit) }
 {
     let pieces = own_pieces(table, index);
-    let Some(most) = pieces_bound(table, Hint::Plain, pieces, args) else {
-        return false;
-    };
+    let most = pieces_bound(table, Hint::Plain, pieces, args);
     if most > TEXT_LIMIT {
         return false;
     }

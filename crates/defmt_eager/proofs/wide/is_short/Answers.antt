@@ -3,5 +3,5 @@ use Rattle.defmt_eager.proofs.wide.is_short.Goals as goal
 
 pub returns : goal.returns
 returns c =
-    let few = rw c.own_pieces-pieces.ensures at c.in-Some.ensures in
+    let few = (rw c.own_pieces-pieces.ensures at c.pieces_bound-most.ensures) (omega arith) in
     omega (arith, few)
