@@ -1,3 +1,4 @@
 pub mod Frames
 mod SiteLaws
+mod SiteRows
 mod Stamps

@@ -51,6 +51,11 @@ module _ (old new : Sites) (index : ℕ) (site : Site) (more : (q : ℕ) → sit
   pub more_keeps : Keeps old new
   more_keeps q h = ap is_some (more q) ∙ kept_by q (is_eq (nat_cmp index q)) h
 
+  pub more_there : IsSome (site_at new index)
+  more_there =
+      let own : is_eq (nat_cmp index index) ≡ true = grind (arith, nat_tests) in
+      ap is_some (more index) ∙ rw own refl
+
 -- ---- the sites of lists of statements
 
 pub have_more : (old new : Sites) (list : List Statement) → Keeps old new → HaveSites old list → HaveSites new list

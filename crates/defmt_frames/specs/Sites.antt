@@ -1,7 +1,6 @@
 -- The sites of a script: for each string that its statements log, the string's tag and slots.
-use Rattle.std.specs.Prelude.{◌≡◌, ◌≤◌, ℕ, true, List, length, Option, Some, IsSome, slice_get}
-use Rattle.std.specs.BTreeMap.{get}
-use Rattle.std.specs.Ordering.{nat_cmp}
+use Rattle.std.specs.Prelude.{◌≡◌, ◌≤◌, ℕ, true, List, length, Option, Some, None, IsSome, slice_get, slice_index_or, if◌then◌else◌}
+use Rattle.std.specs.Ordering.{is_eq, nat_cmp}
 use Rattle.defmt_encode.specs.Carry.{message_of, stamp_args}
 use Rattle.defmt_frames.specs.Frames.{statements_of}
 use Rattle.defmt_frames.specs.declared.sites.Sites.{Sites}
@@ -20,9 +19,17 @@ use Rattle.defmt_values.specs.Fits.{Fits}
 use Rattle.defmt_values.specs.Plain.{Vals}
 use Rattle.defmt_values.specs.declared.value.Statement.{Statement}
 
--- the site of the string at an index
+-- the site of the string at an index, among rows of which each is at the index of its string
+abbrev pub row_at : List (Option Site) → ℕ → Option Site
+row_at rows index = slice_index_or rows index None
+
 abbrev pub site_at : Sites → ℕ → Option Site
-site_at sites index = get nat_cmp sites.sites index
+site_at sites index = row_at sites.rows.items index
+
+-- this row has this site, and each other what it had
+abbrev pub IsPut : List (Option Site) → ℕ → Site → List (Option Site) → Type 0
+IsPut old index site new = (q : ℕ)
+    → row_at new q ≡ (if is_eq (nat_cmp index q) then Some site else row_at old q)
 
 -- the string at the index is a message's, and its text was understood
 pub record IsMessage (table : Map) (index : ℕ) : Type 0 where

@@ -1,8 +1,8 @@
 //! The sites of a script.
-ghost use Rattle.std.specs.Prelude.{◌≡◌, IfOk, IsSome, OnOk};
+ghost use Rattle.std.specs.Prelude.{◌≡◌, ◌≤◌, ℕ, length, IfOk, IsSome, OnOk};
 ghost use Rattle.std.specs.Option.{option_copied};
 ghost use Rattle.defmt_frames.specs.Frames.{statements_of};
-ghost use Rattle.defmt_frames.specs.Sites.{AreSitesOf, HasSites, HaveSites, IsMessage, IsSiteOf, Keeps, site_at};
+ghost use Rattle.defmt_frames.specs.Sites.{AreSitesOf, HasSites, HaveSites, IsMessage, IsPut, IsSiteOf, Keeps, row_at, site_at};
 
 use defmt_intern::{Parsed, Table};
 use defmt_macros::Site;
@@ -10,12 +10,12 @@ use defmt_script::Script;
 use defmt_values::look_up;
 use dl_io::Memory;
 use std::alloc::Global;
-use std::collections::BTreeMap;
 
 /// For each string that a script's statements log, its site, by the string's index.
 #[derive(Drop)]
 pub struct Sites {
-    sites: BTreeMap<u16, Site>,
+    // At an index its site, where there is one.
+    rows: Vec<Option<Site>>,
 }
 
 // The site of the string at an index, which is a message's.
@@ -46,7 +46,7 @@ impl Sites {
     {
         script.lawful();
         let mut sites = Sites {
-            sites: BTreeMap::new(alloc),
+            rows: Vec::new(alloc),
         };
         for writer in 0..8u8 {
             sites.add_all(alloc, script, writer)?;
@@ -79,11 +79,11 @@ impl Sites {
         ensures kept { OnOk result (Keeps self.old self.new) }
         ensures there { OnOk result (IsSome (site_at self.new index)) }
     {
-        if self.sites.contains_key(&index) {
+        if self.get(index).is_some() {
             return Ok(());
         }
         let site = site_of(alloc, table, index)?;
-        self.sites.insert(index, site)?;
+        put(&mut self.rows, index, site)?;
         Ok(())
     }
 
@@ -91,6 +91,37 @@ impl Sites {
     pub(crate) fn get(&self, index: u16) -> Option<&Site>
         ensures { option_copied result ≡ site_at self.now index }
     {
-        self.sites.get(&index)
+        row(self.rows.as_slice(), index)
     }
+}
+
+// The site of a row.
+fn row(rows: &[Option<Site>], index: u16) -> Option<&Site>
+    ensures { option_copied result ≡ row_at rows.now index }
+{
+    match rows.get(index as usize) {
+        Some(Some(site)) => Some(site),
+        _ => None,
+    }
+}
+
+// Makes rows without sites until there are this many.
+fn grow(rows: &mut Vec<Option<Site>>, count: usize) -> Result<(), Memory>
+    ensures room { OnOk result (count ≤ length rows.new.items) }
+    ensures kept { (q : ℕ) → row_at rows.new.items q ≡ row_at rows.old.items q }
+{
+    'each: while rows.len() < count {
+        rows.push(None)?;
+    }
+    Ok(())
+}
+
+// Puts a site into the row of its index.
+fn put(rows: &mut Vec<Option<Site>>, index: u16, site: Site) -> Result<(), Memory>
+    ensures { OnOk result (IsPut rows.old.items index site rows.new.items) }
+{
+    let place = index as usize;
+    grow(rows, place + 1)?;
+    rows[place] = Some(site);
+    Ok(())
 }
