@@ -2,7 +2,7 @@
 ghost use Rattle.std.specs.Prelude.{◌≡◌, ◌≤◌, ◌++◌, [], length, IfOk, IfSome, OnOk};
 ghost use Rattle.std.specs.Option.{option_map, ForSome};
 ghost use Rattle.defmt_eager.specs.Answers.{Shows, GivesFront, GivesLine};
-ghost use Rattle.defmt_eager.specs.Line.{level_text, level_at, stamp_text, stamp_space};
+ghost use Rattle.defmt_eager.specs.Line.{level_text, level_at, stamp_text, stamp_space, text_limit};
 ghost use Rattle.defmt_eager.specs.Show.{own_pieces};
 ghost use Rattle.defmt_intern.specs.Stamp.{stamp_of};
 ghost use Rattle.defmt_values.specs.Fits.{Fits, FitsStamp, IsLogged};
@@ -49,8 +49,8 @@ fn push_stamp(
     at: Option<u16>,
     stamp: &Args,
 ) -> Result<(), EagerFault>
-    requires { length out.old ≤ 65536 }
-    ensures { Shows 65536 out.old out.new result (stamp_text table.now.entries at stamp.now) }
+    requires { length out.old ≤ text_limit }
+    ensures { Shows text_limit out.old out.new result (stamp_text table.now.entries at stamp.now) }
 {
     match at {
         None => Ok(()),

@@ -28,7 +28,8 @@ fn most_bytes(hint: Hint) -> usize
     }
 }
 
-// The bytes of so many parts, and three around them. A bound above the limit, which sums stay at, says nothing.
+// The bytes of so many parts, and three around them. Sums stay at the greatest number: a bound above the limit says
+// nothing.
 fn bytes_of(parts: usize, most: usize) -> usize
     ensures { result ≤ text_limit → result ≡ parts * most + 3 }
 {
