@@ -3,6 +3,7 @@ pub mod Complements
 pub mod Fields
 pub mod Fronting
 pub mod Leading
+pub mod Padding
 pub mod Places
 pub mod Planning
 pub mod Running

@@ -60,7 +60,8 @@ abbrev pub PassedStep : Map → Hint → Step → List ℕ → Progress → Prog
 PassedStep t outer (steps.Text text) bytes before after old new =
     (after.read ≡ before.read) × Written old before.written new after.written text
 PassedStep t outer (steps.Value kind hint) bytes before after old new =
-    PassedOne t kind (acting outer hint) bytes before.read after.read old before.written new after.written
+    PassedOne t kind (acting outer hint) bytes before.read after.read
+    old before.written new after.written
 PassedStep t outer (steps.Peek field hint) bytes before after old new =
     (after.read ≡ before.read)
     × PassedField field (acting outer hint) bytes before.read old before.written new after.written

@@ -64,7 +64,7 @@ abbrev pub PassAll : List Piece → ℕ → List Step → Type 0
 PassAll all next [] = length (slots_of all) ≡ next
 PassAll all next (step ∷ more) = IsNextStep all next step × PassAll all (behind next step) more
 
--- the steps are these pieces, which are all of a string's but a literal in front
+-- the steps are these pieces, and pass each position of all the pieces of a string
 pub record AreSteps (all pieces : List Piece) (steps : List Step) : Type 0 where
   pub are : pieces_of steps ≡ pieces
   pub pass : PassAll all 0 steps

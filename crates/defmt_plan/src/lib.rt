@@ -1,7 +1,7 @@
 //! Messages printed in one pass, from their bytes to their line, where all they carry is usual.
 //!
-//! A plan is made once of each string of a level, when a table is taken: its pieces as steps, which use the positions in order, and
-//! each once, unless for bit fields of one number.
+//! A plan is made once of each string of a level or of println, when a table is taken: its pieces as steps, which use the positions
+//! in order, and each once, unless for bit fields of one number.
 //! The invariant of [`PlannedTable`] is that each plan says what the pieces of its string say. A message is read and printed
 //! by its plan. Where anything isn't usual, or a message is refused, nothing is answered, and the caller goes another way.
 //!

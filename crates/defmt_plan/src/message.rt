@@ -1,6 +1,6 @@
 //! What stands in a message round its values.
 
-ghost use Rattle.std.specs.Prelude.{◌≡◌, ◌≤◌, true, length, IfSome};
+ghost use Rattle.std.specs.Prelude.{◌≡◌, ◌≤◌, true, length, sum, IfSome};
 ghost use Rattle.defmt_encode.specs.Read.{all_zero};
 ghost use Rattle.defmt_plan.specs.Told.{IsHead};
 
@@ -46,18 +46,35 @@ pub(crate) fn read_head(profile: Profile, bytes: &[u8]) -> Option<Head>
     }
 }
 
-/// Whether bytes are at most six zeros.
+// A byte as a part of a sum.
+fn part(byte: &u8) -> u32
+    ensures value { result ≡ byte.now }
+    ensures small { result ≤ 255 }
+{
+    u32::from(*byte)
+}
+
+// The sum of at most six bytes. Where they are more it isn't 0.
+#[inline(always)]
+fn few_sum(bytes: &[u8]) -> u32
+    ensures { result ≡ 0 → (length bytes.now ≤ 6) × (sum bytes.now ≡ 0) }
+{
+    match bytes {
+        [] => 0,
+        [a] => part(a),
+        [a, b] => part(a) + part(b),
+        [a, b, c] => part(a) + part(b) + part(c),
+        [a, b, c, d] => part(a) + part(b) + part(c) + part(d),
+        [a, b, c, d, e] => part(a) + part(b) + part(c) + part(d) + part(e),
+        [a, b, c, d, e, f] => part(a) + part(b) + part(c) + part(d) + part(e) + part(f),
+        _ => 1,
+    }
+}
+
+/// Whether bytes are at most six zeros, by their sum.
+#[inline(always)]
 pub(crate) fn is_padding(bytes: &[u8]) -> bool
     ensures { result ≡ true → (length bytes.now ≤ 6) × (all_zero bytes.now ≡ true) }
 {
-    match bytes {
-        [] => true,
-        [0] => true,
-        [0, 0] => true,
-        [0, 0, 0] => true,
-        [0, 0, 0, 0] => true,
-        [0, 0, 0, 0, 0] => true,
-        [0, 0, 0, 0, 0, 0] => true,
-        _ => false,
-    }
+    few_sum(bytes) == 0
 }

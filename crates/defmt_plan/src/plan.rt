@@ -1,11 +1,11 @@
 //! Plans: what a table's strings need to be read and printed.
 
 ghost use Rattle.std.specs.Prelude.{◌≡◌, ◌++◌, codes, IfSome, IfOk};
-ghost use Rattle.std.specs.Option.{option_copied};
 ghost use Rattle.defmt_eager.specs.Line.{level_text};
 ghost use Rattle.defmt_plan.specs.Plans.{AreStepsOf, ArePlansIn, HasFront, IsPlanIn, Leads, SaysStamp, space_if};
 
 use crate::steps::{Step, steps_of};
+use defmt_eager::level_text;
 use defmt_grammar::{Memory, Piece, Text};
 use defmt_intern::{Parsed, Table, Tag};
 use defmt_values::{is_logged, look_up};
@@ -54,20 +54,6 @@ pub(crate) fn stamp_plan(alloc: Global, table: &Table) -> Result<StampPlan, Memo
     match steps_at(alloc, table, index)? {
         Some(steps) => Ok(StampPlan::Steps(steps)),
         None => Ok(StampPlan::Unusual),
-    }
-}
-
-// The name of a level, in five places.
-fn level_text(tag: &Tag) -> Option<&'static str>
-    ensures { option_copied result ≡ level_text tag.now }
-{
-    match tag {
-        Tag::Trace => Some("TRACE"),
-        Tag::Debug => Some("DEBUG"),
-        Tag::Info => Some("INFO "),
-        Tag::Warn => Some("WARN "),
-        Tag::Error => Some("ERROR"),
-        _ => None,
     }
 }
 

@@ -17,7 +17,7 @@ use std::marker::Model;
 // The most bytes of a text that isn't too wide.
 const LONGEST: usize = 65536;
 
-/// A table, and a plan of each of its strings that is of a level and usual. Contracts see it as its table.
+/// A table, and a plan of each of its strings that is of a level or of println, and usual. Contracts see it as its table.
 ///
 /// A string is usual where it uses the positions in order, and each once, unless for bit fields of one number.
 #[derive(Drop)]
