@@ -1,11 +1,10 @@
 -- A line with a level that a buffer of so many bytes holds isn't too wide.
-use Rattle.std.proofs.Common.{◌≡◌, ◌≤◌, ◌++◌, inl, inr, ℕ, List, codes, length, length-append, length-take, take, Option, Some, None, refl, sym, ap, subst, ◌∙◌, arith, IfSome}
+use Rattle.std.proofs.Common.{◌≡◌, ◌≤◌, ◌++◌, inl, inr, ℕ, List, codes, length, length-append, length-take, take, Option, Some, None, refl, sym, ap, ◌∙◌, arith, IfSome}
 use Rattle.defmt_intern.specs.Stamp.{stamp_of}
 use Rattle.defmt_intern.specs.Table.{Map}
 use Rattle.defmt_values.specs.Plain.{Vals}
 use Rattle.defmt_eager.specs.Line.{eager_line, front_text, level_at, stamp_space, stamp_text, IsWide}
 use Rattle.defmt_eager.specs.Show.{eager_text}
-use Rattle.defmt_encode.specs.Carry.{stamp_args}
 use Rattle.defmt_put.specs.Written.{Written, Writes}
 use Rattle.defmt_decode.specs.Quick.{IsPut}
 

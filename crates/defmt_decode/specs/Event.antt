@@ -18,6 +18,9 @@ use Rattle.defmt_encode.specs.Read.{Read, message_at}
 use Rattle.defmt_decode.specs.declared.event.Event.{Event}
 use Rattle.defmt_decode.specs.declared.event.Event.TheVariants.{Line, Bad, CutFront, CutTail}
 use Rattle.defmt_decode.specs.declared.event.Mark.{Mark}
+use Rattle.defmt_framing.specs.declared.notice.Notice.{Notice}
+use Rattle.defmt_framing.specs.declared.notice.Notice.TheVariants as notices
+use Rattle.defmt_plan.specs.declared.message.Told.{Told}
 
 -- ---- the event of a piece
 
@@ -83,6 +86,11 @@ event_of t piece = of_piece (tells t) piece
 -- the line with this text
 abbrev pub line_with : Mark → List ℕ → Event
 line_with mark text = Line mark.index mark.place text
+
+-- the notice of a line that a plan wrote
+abbrev pub line_notice : Told → Notice Event Mark
+line_notice told =
+    notices.Line (record { index = told.index; place = told.place }) told.end
 
 -- ---- the events of a stream
 

@@ -1,6 +1,6 @@
 //! The host.
 
-ghost use Rattle.std.specs.Prelude.{◌≡◌, ◌≤◌, ◌<◌, ◌++◌, [], None, List, ℕ, length, take, drop, IfOk, OnErr, OnOk, option_to_list};
+ghost use Rattle.std.specs.Prelude.{◌≡◌, ◌≤◌, ◌<◌, ◌++◌, [], None, List, ℕ, length, take, drop, IfOk, OnErr, option_to_list};
 ghost use Rattle.defmt_decode.specs.Event.{tells, events_of, begun_of, line_with};
 ghost use Rattle.defmt_framing.specs.Notices.{HasText, told_by};
 
@@ -74,7 +74,7 @@ impl Host {
     }
 
     /// Does what `feed` does, but the text of a usual line is written behind a place of the buffer, which grows as it has to. What
-    /// stands in front of the place stays. It takes no memory for a usual line, once the buffers are large enough.
+    /// stands in front of the place stays, whatever is answered. It takes no memory for a usual line, once the buffers are large enough.
     pub fn hear(
         &mut self,
         bytes: &[u8],
@@ -88,7 +88,7 @@ impl Host {
             → Hears (tells self.old.table) self.new.framing stream (take r.0 bytes.now)
             (told_by line_with (drop at text.new.items) r.1)) }
         ensures text { IfOk result (λ r. HasText (drop at text.new.items) r.1) }
-        ensures front { OnOk result (take at text.new.items ≡ take at text.old.items) }
+        ensures front { take at text.new.items ≡ take at text.old.items }
         ensures some { IfOk result (λ r. 0 < length bytes.now → 0 < r.0) }
         // A notice of nothing comes only where all was taken.
         ensures all { IfOk result (λ r. told_by line_with (drop at text.new.items) r.1 ≡ None
@@ -100,13 +100,18 @@ impl Host {
             let (taken, event) = self.feed(bytes)?;
             return Ok((taken, notice_of(event)));
         };
-        match self.reader.notice(&bytes[start..start + size], text, at) {
-            Ok(notice) => {
-                self.framer.pass_piece::<Event>(bytes, start, size);
-                Ok((start + size + 1, notice))
-            }
-            Err(memory) => Err(memory),
+        let piece = &bytes[start..start + size];
+        if let Some(told) = self.reader.line(piece, text, at)? {
+            self.framer.pass_piece::<Event>(bytes, start, size);
+            let mark = Mark {
+                index: told.index,
+                place: told.place,
+            };
+            return Ok((start + size + 1, Notice::Line(mark, told.end)));
         }
+        let notice = self.reader.notice(piece, text, at)?;
+        self.framer.pass_piece::<Event>(bytes, start, size);
+        Ok((start + size + 1, notice))
     }
 
     /// The event that the end of the stream brings: a cut front where no zero was heard and

@@ -1,7 +1,7 @@
 //! Notices of messages.
 
-ghost use Rattle.std.specs.Prelude.{◌≡◌, ◌≤◌, Some, length, take, drop, IfOk};
-ghost use Rattle.defmt_decode.specs.Event.{line_with, of_heard, of_read, read_of};
+ghost use Rattle.std.specs.Prelude.{◌≡◌, ◌≤◌, Some, length, take, drop, IfOk, IfSome};
+ghost use Rattle.defmt_decode.specs.Event.{line_notice, line_with, of_heard, of_read, read_of};
 ghost use Rattle.defmt_encode.specs.Heard.{IsHeard};
 ghost use Rattle.defmt_framing.specs.Notices.{HasText, told_by};
 
@@ -11,15 +11,34 @@ use crate::reader::event_of_heard;
 use defmt_encode::{Heard, ReadCause};
 use defmt_framing::Notice;
 use defmt_intern::Table;
-use defmt_plan::PlannedTable;
+use defmt_plan::{PlannedTable, Told};
 use dl_io::Memory;
 use std::alloc::Global;
 
-/// What the bytes that a code stands for tell. The text of a line that is written by a plan stands behind a place of the buffer,
-/// and in front of another.
+/// The line of the bytes that a code stands for, where a plan writes it behind a place of the buffer, and in front of another.
+#[inline(always)]
+pub(crate) fn line_behind(
+    table: &PlannedTable,
+    bytes: &[u8],
+    text: &mut [u8],
+    at: usize,
+    end: usize,
+) -> Option<Told>
+    requires places { at ≤ end }
+    requires within { end ≤ length text.old }
+    ensures told { IfSome result (λ told. told_by line_with (drop at text.new) (line_notice told)
+        ≡ Some (of_read table.now (read_of table.now bytes.now))) }
+    ensures text { IfSome result (λ told. HasText (drop at text.new) (line_notice told)) }
+    ensures front { take at text.new ≡ take at text.old }
+{
+    table.message(bytes, &mut text[at..end], 0)
+}
+
+/// What the bytes that a code stands for tell, whatever they are. The text of a line may stand behind a place of the buffer, and in
+/// front of another.
 pub(crate) fn notice_behind(
     alloc: Global,
-    table: &PlannedTable,
+    table: &Table,
     bytes: &[u8],
     text: &mut [u8],
     at: usize,
@@ -33,33 +52,10 @@ pub(crate) fn notice_behind(
     ensures text { IfOk result (λ notice. HasText (drop at text.new) notice) }
     ensures front { take at text.new ≡ take at text.old }
 {
-    notice_of_message(alloc, table, bytes, &mut text[at..end], heard)
+    notice_of_any(alloc, table, bytes, &mut text[at..end], heard)
 }
 
 // The same, with the text at the front of the buffer.
-fn notice_of_message(
-    alloc: Global,
-    table: &PlannedTable,
-    bytes: &[u8],
-    text: &mut [u8],
-    heard: &mut Heard,
-) -> Result<Notice<Event, Mark>, Memory>
-    ensures told { IfOk result (λ notice. told_by line_with text.new notice
-        ≡ Some (of_read table.now (read_of table.now bytes.now))) }
-    ensures text { IfOk result (λ notice. HasText text.new notice) }
-{
-    let Some(told) = table.message(bytes, text, 0) else {
-        return notice_of_any(alloc, table.table(), bytes, text, heard);
-    };
-    let mark = Mark {
-        index: told.index,
-        place: told.place,
-    };
-    Ok(Notice::Line(mark, told.end))
-}
-
-// The same, whatever the message is. It stands apart from the way of a usual line.
-#[inline(never)]
 #[tactic(auto, using(crate::proofs::Deciding::heard_read))]
 fn notice_of_any(
     alloc: Global,

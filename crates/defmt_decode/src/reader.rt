@@ -1,21 +1,21 @@
 //! What a piece tells.
 
-ghost use Rattle.std.specs.Prelude.{◌≡◌, ◌≤◌, Some, false, length, take, drop, IfOk, IfSome, OnOk};
-ghost use Rattle.defmt_decode.specs.Event.{line_with, of_heard, of_read, read_of, tells};
+ghost use Rattle.std.specs.Prelude.{◌≡◌, ◌≤◌, Some, false, length, take, drop, IfOk, IfSome};
+ghost use Rattle.defmt_decode.specs.Event.{line_notice, line_with, of_heard, of_read, read_of, tells};
 ghost use Rattle.defmt_decode.specs.Refusal.{refusal_number};
 ghost use Rattle.defmt_encode.specs.Heard.{IsHeard};
 ghost use Rattle.defmt_framing.specs.Cut.{has_zero};
 ghost use Rattle.defmt_framing.specs.Notices.{HasText, told_by};
 
 use crate::event::{Event, Mark};
-use crate::notices::notice_behind;
+use crate::notices::{line_behind, notice_behind};
 use crate::room::{line_room, make_room, room_behind};
 use defmt_eager::{EagerFault, line};
 use defmt_encode::{Heard, ReadCause};
 use defmt_framing::{Notice, Teller, decode_piece, decode_zeroless_piece};
 use defmt_grammar::Text;
 use defmt_intern::Table;
-use defmt_plan::PlannedTable;
+use defmt_plan::{PlannedTable, Told};
 use dl_io::Memory;
 use std::alloc::Global;
 use std::marker::Model;
@@ -91,8 +91,39 @@ impl Reader {
         self.table.table()
     }
 
-    // What a piece without a zero tells. The text of a line that is written by a plan stands behind a place of the buffer, and what
-    // stands in front of that stays.
+    // The line of a piece without a zero, where a plan writes it: it stands behind a place of the buffer, and what stands in front
+    // of that stays. Nothing is said of another piece.
+    #[tactic(auto, unfolding(crate::specs::Event::tells))]
+    #[inline(always)]
+    pub(crate) fn line(
+        &mut self,
+        piece: &[u8],
+        text: &mut Vec<u8>,
+        at: usize,
+    ) -> Result<Option<Told>, Memory>
+        requires place { at ≤ length text.old.items }
+        requires short { length piece.now ≤ 65536 }
+        requires none { has_zero piece.now ≡ false }
+        ensures told { IfOk result (λ r. IfSome r (λ told.
+            told_by line_with (drop at text.new.items) (line_notice told)
+            ≡ Some ((tells self.old).piece piece.now))) }
+        ensures text { IfOk result (λ r. IfSome r (λ told.
+            HasText (drop at text.new.items) (line_notice told))) }
+        ensures front { take at text.new.items ≡ take at text.old.items }
+        ensures same { self.new ≡ self.old }
+    {
+        make_room(&mut self.buffer, 7 * piece.len())?;
+        let Some(begin) = decode_zeroless_piece(piece, &mut self.buffer) else {
+            return Ok(None);
+        };
+        let bytes = &self.buffer[begin..];
+        let end = room_behind(text, at, bytes.len())?;
+        Ok(line_behind(&self.table, bytes, text, at, end))
+    }
+
+    // What a piece without a zero tells, whatever it is. The text of a line may stand behind a place of the buffer, and what stands
+    // in front of that stays.
+    #[inline(never)]
     #[tactic(auto, unfolding(crate::specs::Event::tells))]
     pub(crate) fn notice(
         &mut self,
@@ -106,7 +137,7 @@ impl Reader {
         ensures told { IfOk result (λ notice. told_by line_with (drop at text.new.items) notice
             ≡ Some ((tells self.old).piece piece.now)) }
         ensures text { IfOk result (λ notice. HasText (drop at text.new.items) notice) }
-        ensures front { OnOk result (take at text.new.items ≡ take at text.old.items) }
+        ensures front { take at text.new.items ≡ take at text.old.items }
         ensures same { self.new ≡ self.old }
     {
         make_room(&mut self.buffer, 7 * piece.len())?;
@@ -116,7 +147,7 @@ impl Reader {
                 let end = room_behind(text, at, bytes.len())?;
                 notice_behind(
                     self.alloc,
-                    &self.table,
+                    self.table.table(),
                     bytes,
                     text,
                     at,

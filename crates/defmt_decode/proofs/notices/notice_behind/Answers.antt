@@ -4,12 +4,12 @@ use Rattle.defmt_decode.proofs.notices.notice_behind.Goals as goal
 
 pub returns-clause-told : goal.returns-clause-told
 returns-clause-told c =
-    told_put c.args.text.now c.notice_of_message.new.text c.args.at (c.args.end - c.args.at) (let e : c.args.at ≤ length c.args.text.now = omega arith in e) c.notice_of_message.result _ c.notice_of_message.ensures.text c.notice_of_message.ensures.told
+    told_put c.args.text.now c.notice_of_any.new.text c.args.at (c.args.end - c.args.at) (let e : c.args.at ≤ length c.args.text.now = omega arith in e) c.notice_of_any.result _ c.notice_of_any.ensures.text c.notice_of_any.ensures.told
 
 pub returns-clause-text : goal.returns-clause-text
 returns-clause-text c =
-    text_put c.args.text.now c.notice_of_message.new.text c.args.at (c.args.end - c.args.at) (let e : c.args.at ≤ length c.args.text.now = omega arith in e) c.notice_of_message.result c.notice_of_message.ensures.text
+    text_put c.args.text.now c.notice_of_any.new.text c.args.at (c.args.end - c.args.at) (let e : c.args.at ≤ length c.args.text.now = omega arith in e) c.notice_of_any.result c.notice_of_any.ensures.text
 
 pub returns-clause-front : goal.returns-clause-front
 returns-clause-front c =
-    front_put c.args.text.now c.notice_of_message.new.text c.args.at (c.args.end - c.args.at) (let e : c.args.at ≤ length c.args.text.now = omega arith in e)
+    front_put c.args.text.now c.notice_of_any.new.text c.args.at (c.args.end - c.args.at) (let e : c.args.at ≤ length c.args.text.now = omega arith in e)
