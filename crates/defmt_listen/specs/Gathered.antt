@@ -6,6 +6,6 @@ use Rattle.defmt_listen.specs.declared.report.Report.{Report}
 abbrev pub gathered : Report → List ℕ
 gathered report = report.lines.items ++ take report.end report.text.items
 
--- the buffer is as long as that front
+-- the buffer is at least as long as that front
 abbrev pub IsGathered : Report → Type 0
 IsGathered report = report.end ≤ length report.text.items

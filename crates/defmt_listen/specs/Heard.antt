@@ -8,6 +8,8 @@ use Rattle.defmt_framing.specs.Framing.{Framing}
 use Rattle.defmt_listen.specs.Streams.{Input, Output, Wrote, WroteFront, IsRest}
 use Rattle.defmt_listen.specs.declared.fault.ListenFault.{ListenFault}
 use Rattle.defmt_listen.specs.declared.fault.ListenFault.TheVariants.{Source, Sink, Long, Memory}
+use Rattle.defmt_listen.specs.declared.reporter.Passing.{Passing}
+use Rattle.defmt_listen.specs.declared.reporter.Passing.TheVariants.{Kept, LeftOut, Asked}
 
 -- the most bytes of a recording
 abbrev pub recording_limit : ℕ
@@ -19,6 +21,12 @@ pub record Reporting (S E : Type 0) : Type 0 where
   pub line : S → E → List ℕ
   pub after : S → E → S
   pub is_fault : E → Bool
+
+-- the reporter says what is printed of a line before it sees the text
+abbrev pub IsSettled : Passing → Type 0
+IsSettled Kept = Unit {0}
+IsSettled LeftOut = Unit {0}
+IsSettled Asked = ⊥
 
 -- what is printed of some events from a state on
 abbrev pub lines_from : {S E : Type 0} → Reporting S E → S → List E → List ℕ

@@ -21,4 +21,4 @@ pub use bytes::{hear_bytes, listen_bytes};
 pub use fault::ListenFault;
 pub use listener::Listener;
 pub use listening::listen;
-pub use reporter::Reporter;
+pub use reporter::{Passing, Reporter};

@@ -1,6 +1,6 @@
 //! Who hears a stream of frames.
 
-ghost use Rattle.std.specs.Prelude.{◌≡◌, ◌≤◌, ◌<◌, ◌++◌, ℕ, List, length, take, drop, IfOk, OnErr, OnOk, option_to_list};
+ghost use Rattle.std.specs.Prelude.{◌≡◌, ◌≤◌, ◌<◌, ◌++◌, ℕ, None, List, length, take, drop, IfOk, OnErr, OnOk, option_to_list};
 ghost use Rattle.defmt_framing.specs.Told.{Tells, events, begun};
 ghost use Rattle.defmt_framing.specs.Framing.{Framing, Stands, Hears};
 ghost use Rattle.defmt_framing.specs.Notices.{HasText, told_by};
@@ -29,7 +29,8 @@ pub trait Listener {
 
     /// Takes bytes up to and with the zero that ends the first part which tells something, and answers how many it took with
     /// a notice of that event, which may be a line whose text it wrote behind a place of the buffer. What stands in front of the place
-    /// stays. Some byte is taken where there is one. On want of memory nothing was taken, and the listener goes on from there.
+    /// stays. Some byte is taken where there is one, and all where nothing is told. On want of memory nothing was taken, and the
+    /// listener goes on from there.
     fn hear(
         &mut self,
         bytes: &[u8],
@@ -44,6 +45,8 @@ pub trait Listener {
         ensures text { IfOk result (λ r. HasText (drop at text.new.items) r.1) }
         ensures front { OnOk result (take at text.new.items ≡ take at text.old.items) }
         ensures some { IfOk result (λ r. 0 < length bytes.now → 0 < r.0) }
+        ensures all { IfOk result (λ r. told_by line (drop at text.new.items) r.1 ≡ None
+            → r.0 ≡ length bytes.now) }
         ensures same { tells self.new ≡ tells self.old }
         ensures err { OnErr result (framing self.new ≡ framing self.old) };
 

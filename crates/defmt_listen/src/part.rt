@@ -11,7 +11,7 @@ ghost use Rattle.defmt_listen.specs.Streams.{output_of};
 use crate::fault::ListenFault;
 use crate::listener::Listener;
 use crate::report::{Report, end_line, put_aside, write_gathered, write_lines};
-use crate::reporter::Reporter;
+use crate::reporter::{Passing, Reporter};
 use defmt_framing::Notice;
 use dl_io::{Memory, Sink};
 
@@ -105,9 +105,30 @@ fn add_line_told<L: Listener, R: Reporter<L>>(
         (L.line mark (take size (drop report.old.end report.old.text.items))) ≡ false) }
     ensures faults { report.new.faults ≡ report.old.faults }
 {
-    if reporter.passes(&mark) {
-        return end_line(report, size);
+    match reporter.passes(&mark) {
+        Passing::Kept => end_line(report, size),
+        Passing::LeftOut => Ok(()),
+        Passing::Asked => add_asked::<L, R>(reporter, report, mark, size),
     }
+}
+
+// The same of a line of which the reporter is asked what it appends.
+fn add_asked<L: Listener, R: Reporter<L>>(
+    reporter: &mut R,
+    report: &mut Report,
+    mark: L::Mark,
+    size: usize,
+) -> Result<(), Memory>
+    requires within { report.old.end + size ≤ length report.old.text.items }
+    ensures lines { OnOk result (gathered report.new ≡ gathered report.old ++ R.reporting.line
+        reporter.old (L.line mark (take size (drop report.old.end report.old.text.items)))) }
+    ensures within { OnOk result (IsGathered report.new) }
+    ensures moved { OnOk result (reporter.new ≡ R.reporting.after reporter.old
+        (L.line mark (take size (drop report.old.end report.old.text.items)))) }
+    ensures fine { OnOk result (R.reporting.is_fault
+        (L.line mark (take size (drop report.old.end report.old.text.items))) ≡ false) }
+    ensures faults { report.new.faults ≡ report.old.faults }
+{
     let start = report.end;
     put_aside(report)?;
     reporter.add_text(

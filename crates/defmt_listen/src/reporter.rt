@@ -1,11 +1,22 @@
 //! Who reports events.
 
-ghost use Rattle.std.specs.Prelude.{◌≡◌, ◌++◌, ◌∷◌, [], ℕ, List, true, false, OnOk, OnErr};
-ghost use Rattle.defmt_listen.specs.Heard.{Reporting};
+ghost use Rattle.std.specs.Prelude.{◌≡◌, ◌++◌, ◌∷◌, [], ℕ, List, false, OnOk, OnErr};
+ghost use Rattle.defmt_listen.specs.Heard.{IsSettled, Reporting};
 
 use crate::listener::Listener;
 use dl_io::{Bytes, Memory};
 use std::alloc::Global;
+
+/// What a reporter says of the lines with a mark.
+#[derive(Clone, Copy, Debug, PartialEq, Eq)]
+pub enum Passing {
+    /// Of each of them its text and a newline are printed, and nothing else.
+    Kept,
+    /// Of none of them anything is printed.
+    LeftOut,
+    /// It doesn't say, and is asked for what it appends.
+    Asked,
+}
 
 /// Reports the events of a listener, one after the other.
 ///
@@ -38,19 +49,21 @@ pub trait Reporter<L: Listener> {
         ensures err { OnErr result (out.new.items ≡ out.old.items) }
         ensures same { OnErr result (self.new ≡ self.old) };
 
-    /// Whether what is printed of each line with this mark is its text and a newline alone. Then the reporter goes on behind that
-    /// line; else it is as before. One that doesn't tell is asked for what it appends.
-    fn passes(&mut self, mark: &L::Mark) -> bool
-        ensures line { result ≡ true → (text : List ℕ)
+    /// What is printed of each line with this mark, where that is settled before its text is seen. Then the reporter goes on behind
+    /// that line, which is no fault; else it is as before.
+    fn passes(&mut self, mark: &L::Mark) -> Passing
+        ensures kept { result ≡ Passing.Kept → (text : List ℕ)
             → reporting.line self.old (L.line mark.now text) ≡ text ++ 10 ∷ [] }
-        ensures moved { result ≡ true → (text : List ℕ)
+        ensures left_out { result ≡ Passing.LeftOut → (text : List ℕ)
+            → reporting.line self.old (L.line mark.now text) ≡ [] }
+        ensures moved { IsSettled result → (text : List ℕ)
             → self.new ≡ reporting.after self.old (L.line mark.now text) }
-        ensures fine { result ≡ true → (text : List ℕ)
+        ensures fine { IsSettled result → (text : List ℕ)
             → reporting.is_fault (L.line mark.now text) ≡ false }
-        ensures same { result ≡ false → self.new ≡ self.old }
+        ensures same { result ≡ Passing.Asked → self.new ≡ self.old }
     {
         let _ = mark;
-        false
+        Passing::Asked
     }
 
     /// Whether an event is a fault of the recording.

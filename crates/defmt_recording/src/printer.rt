@@ -5,7 +5,7 @@ ghost use Rattle.defmt_recording.specs.Output.{by_line};
 use crate::ear::Ear;
 use crate::output::{add_line, add_line_of_text, gap_between, is_fault, last_behind};
 use defmt_decode::{Event, Mark};
-use defmt_listen::Reporter;
+use defmt_listen::{Passing, Reporter};
 use dl_io::{Bytes, Memory};
 use std::alloc::Global;
 
@@ -52,12 +52,12 @@ impl Reporter<Ear> for Printer {
         Ok(())
     }
 
-    fn passes(&mut self, mark: &Mark) -> bool {
+    fn passes(&mut self, mark: &Mark) -> Passing {
         if gap_between(self.last, mark.place) != 0 {
-            return false;
+            return Passing::Asked;
         }
         self.last = mark.place;
-        true
+        Passing::Kept
     }
 
     fn is_fault(&self, event: &Event) -> bool {

@@ -10,7 +10,7 @@ use crate::output::{
 use defmt_decode::{Event, Mark, shows, shows_line};
 use defmt_hooks::Rules;
 use defmt_intern::Table;
-use defmt_listen::Reporter;
+use defmt_listen::{Passing, Reporter};
 use dl_io::{Bytes, Memory};
 use std::alloc::Global;
 use std::marker::Model;
@@ -111,14 +111,16 @@ impl<'a> Reporter<Ear> for Screened<'a> {
         Ok(())
     }
 
-    fn passes(&mut self, mark: &Mark) -> bool {
-        if gap_between(self.last, mark.place) != 0
-            || !shows_line(self.rules, &self.table, mark.index)
-        {
-            return false;
+    fn passes(&mut self, mark: &Mark) -> Passing {
+        if gap_between(self.last, mark.place) != 0 {
+            return Passing::Asked;
         }
         self.last = mark.place;
-        true
+        if shows_line(self.rules, &self.table, mark.index) {
+            Passing::Kept
+        } else {
+            Passing::LeftOut
+        }
     }
 
     fn is_fault(&self, event: &Event) -> bool {
