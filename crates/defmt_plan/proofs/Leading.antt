@@ -1,5 +1,6 @@
 -- Pieces that begin with a literal.
-use Rattle.std.proofs.Common.{◌≡◌, ℕ, List, ◌++◌, refl, sym, ap, subst, ◌∙◌, Option, Some, None}
+use Rattle.std.proofs.Common.{◌≡◌, ◌≤◌, ◌+◌, ℕ, List, ◌++◌, length, take, drop, refl, sym, ap, subst, ◌∙◌, arith, Option, Some, None}
+use Rattle.std.proofs.lemmas.List.{take-append-drop}
 use Rattle.defmt_grammar.specs.Slots.{slots_of}
 use Rattle.defmt_grammar.specs.declared.hint.Hint.TheVariants as hints
 use Rattle.defmt_grammar.specs.declared.piece.Piece.{Piece}
@@ -9,14 +10,22 @@ use Rattle.defmt_values.specs.Entries.{places_of}
 use Rattle.defmt_values.specs.Fits.{FitsVals, weigh_vals}
 use Rattle.defmt_values.specs.Plain.{Vals}
 use Rattle.defmt_values.specs.Sound.{AreSound}
-use Rattle.defmt_encode.specs.Carry.{bytes_vals}
+use Rattle.defmt_encode.specs.Carry.{bytes_vals, slots_at}
+use Rattle.defmt_encode.specs.Read.{value_at}
+use Rattle.defmt_encode.proofs.Entries.{slots_at_places}
+use Rattle.defmt_encode.proofs.FindsAll.{each_found, value_found}
+use Rattle.defmt_encode.proofs.Numbers.{AreBytes, bytes_rest}
 use Rattle.defmt_encode.specs.Lengths.{LengthsFit}
 use Rattle.defmt_eager.specs.Show.{Shown, pieces_text, shows}
 use Rattle.defmt_plan.specs.Carried.{Carried}
 use Rattle.defmt_plan.proofs.Slotting.{slots_are, fits_are, weighs_are, texts_are}
-use Rattle.defmt_plan.specs.Passed.{Passed, text_along}
+use Rattle.defmt_plan.specs.Passed.{Passed, Passes, text_along}
 use Rattle.defmt_plan.specs.Plans.{led, lead_text}
 use Rattle.defmt_plan.specs.Steps.{AreSteps, slots_along}
+use Rattle.defmt_plan.specs.Readers.{PassesPieces}
+use Rattle.defmt_plan.specs.Told.{ArgumentsPassed, PassesArguments}
+use Rattle.defmt_plan.specs.declared.leaves.Progress.{Progress}
+use Rattle.defmt_plan.specs.declared.reach.Reach.{Reach}
 use Rattle.defmt_plan.specs.declared.steps.Step.{Step}
 use Rattle.defmt_put.specs.Written.{Written}
 
@@ -24,7 +33,7 @@ use Rattle.defmt_put.specs.Written.{Written}
 pub record PassedLed (t : Map) (lead : Option (List ℕ)) (qs : List Piece) (bytes : List ℕ) (from to : ℕ) (old : List ℕ) (at : ℕ) (new : List ℕ) (end : ℕ) : Type 0 where
   pub args : Vals
   pub fits : FitsVals t 16 (places_of qs) args
-  pub weightless : weigh_vals t (places_of qs) 1 args ≡ 0
+  pub light : weigh_vals t (places_of qs) 1 args ≤ 8192
   pub sound : AreSound args
   pub lengths : LengthsFit t (slots_of qs) args
   pub carried : Carried bytes from to (bytes_vals t (slots_of qs) args)
@@ -37,20 +46,57 @@ unfolding pieces_text
 text_led None ps all = refl
 text_led (Some text) ps all = refl
 
-pub passed_led : (t : Map) (lead : Option (List ℕ)) (qs ps : List Piece) (ss : List Step) (bytes : List ℕ) (from to : ℕ) (old : List ℕ) (at : ℕ) (new : List ℕ) (end : ℕ)
-    → qs ≡ led lead ps → AreSteps qs ps ss → Passed t ss bytes from to old at new end → PassedLed t lead qs bytes from to old at new end
-passed_led t lead qs ps ss bytes from to old at new end same are p =
-    let slots : slots_along ss ≡ slots_of qs = sym (slots_are qs ss are.pass) in
-    let text : pieces_text hints.Plain ps (shows t p.args) ≡ text_along t hints.Plain ss p.args
-    = ap (λ (rs : List Piece). pieces_text hints.Plain rs (shows t p.args)) (sym are.are) ∙ texts_are t hints.Plain 16 qs ss p.args are.pass p.fits in
+-- the arguments that steps without values in others pass
+pub arguments_flat : (t : Map) (all ps : List Piece) (ss : List Step) (bytes : List ℕ) (from to : ℕ) (old : List ℕ) (at : ℕ) (new : List ℕ) (end : ℕ)
+    → AreSteps all ps ss → Passed t ss bytes from to old at new end → ArgumentsPassed t all ps bytes from to old at new end
+arguments_flat t all ps ss bytes from to old at new end are p =
+    let slots : slots_along ss ≡ slots_of all = sym (slots_are all ss are.pass) in
+    let none : weigh_vals t (places_of all) 1 p.args ≡ 0 = weighs_are t 16 all ss p.args are.pass p.fits ∙ p.weightless in
+    let text : text_along t hints.Plain ss p.args ≡ pieces_text hints.Plain ps (shows t p.args)
+    = sym (ap (λ (rs : List Piece). pieces_text hints.Plain rs (shows t p.args)) (sym are.are) ∙ texts_are t hints.Plain 16 all ss p.args are.pass p.fits) in
     record {
       args = p.args;
-      fits = fits_are t 16 qs ss p.args are.pass p.fits;
-      weightless = weighs_are t 16 qs ss p.args are.pass p.fits ∙ p.weightless;
+      fits = fits_are t 16 all ss p.args are.pass p.fits;
+      light = omega (arith, none);
       sound = p.sound;
-      lengths = subst (λ (all : List Slot). LengthsFit t all p.args) slots p.lengths;
-      carried = subst (λ (all : List Slot). Carried bytes from to (bytes_vals t all p.args)) slots p.carried;
-      rest = text_along t hints.Plain ss p.args;
-      text_is = ap (λ (rs : List Piece). pieces_text hints.Plain rs (shows t p.args)) same ∙ text_led lead ps (shows t p.args) ∙ ap (λ (x : List ℕ). lead_text lead ++ x) text;
+      lengths = subst (λ (some : List Slot). LengthsFit t some p.args) slots p.lengths;
+      carried = subst (λ (some : List Slot). Carried bytes from to (bytes_vals t some p.args)) slots p.carried;
+      written = subst (λ (x : List ℕ). Written old at new end x) text p.written;
+    }
+
+pub flat_by : (r : Option Progress) (t : Map) (all ps : List Piece) (ss : List Step) (bytes : List ℕ) (from : ℕ) (old : List ℕ) (at : ℕ) (new : List ℕ)
+    → AreSteps all ps ss → Passes r t ss bytes from old at new → PassesArguments r t all ps bytes from old at new
+flat_by None t all ps ss bytes from old at new are p = p
+flat_by (Some after) t all ps ss bytes from old at new are p = arguments_flat t all ps ss bytes from after.read old at new after.written are p
+
+-- the arguments that steps with values in others pass
+pub arguments_nested : (t : Map) (all ps : List Piece) (bytes : List ℕ) (from at : ℕ) (after : Reach) (old new : List ℕ) → AreBytes bytes → from ≤ length bytes
+    → PassesPieces (Some after) t 16 hints.Plain all ps bytes (record { read = from; written = at; opened = 0 }) old new → ArgumentsPassed t all ps bytes from after.read old at new after.written
+arguments_nested t all ps bytes from at after old new small le p =
+    let behind : AreBytes (drop from bytes) = bytes_rest bytes (take from bytes) (drop from bytes) small (sym (take-append-drop from bytes)) in
+    let f = each_found t 16 (value_at t 16) (value_found t 16) (places_of all) 1 0 (drop from bytes) (p.value, after.opened, drop after.read bytes) behind p.reads in
+    let slots : slots_at (places_of all) ≡ slots_of all = slots_at_places all in
+    let sum : 0 + weigh_vals t (places_of all) 1 p.value ≡ after.opened = f.sums.sum in
+    record {
+      args = p.value;
+      fits = f.fits;
+      light = omega (arith, sum, p.few);
+      sound = f.sound;
+      lengths = subst (λ (some : List Slot). LengthsFit t some p.value) slots f.lengths;
+      carried = record { within = p.within; parts = f.carries ∙ ap (λ (some : List Slot). bytes_vals t some p.value ++ drop after.read bytes) slots };
       written = p.written;
     }
+
+pub passed_led : (t : Map) (lead : Option (List ℕ)) (qs ps : List Piece) (bytes : List ℕ) (from to : ℕ) (old : List ℕ) (at : ℕ) (new : List ℕ) (end : ℕ)
+    → qs ≡ led lead ps → ArgumentsPassed t qs ps bytes from to old at new end → PassedLed t lead qs bytes from to old at new end
+passed_led t lead qs ps bytes from to old at new end same p = record {
+  args = p.args;
+  fits = p.fits;
+  light = p.light;
+  sound = p.sound;
+  lengths = p.lengths;
+  carried = p.carried;
+  rest = pieces_text hints.Plain ps (shows t p.args);
+  text_is = ap (λ (rs : List Piece). pieces_text hints.Plain rs (shows t p.args)) same ∙ text_led lead ps (shows t p.args);
+  written = p.written;
+}

@@ -1,11 +1,17 @@
 pub mod Carrying
 pub mod Complements
+pub mod Elements
 pub mod Fields
+pub mod Forming
 pub mod Fronting
+pub mod Insides
 pub mod Leading
+pub mod Onward
 pub mod Padding
 pub mod Places
 pub mod Planning
+pub mod Reached
+pub mod Remaining
 pub mod Running
 pub mod Slotting
 pub mod Striding

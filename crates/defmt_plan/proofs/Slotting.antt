@@ -9,7 +9,7 @@ use Rattle.defmt_grammar.specs.declared.slot.Slot.{Slot}
 use Rattle.defmt_grammar.specs.declared.slot.Slot.TheVariants as slots
 use Rattle.defmt_intern.specs.Table.{Map}
 use Rattle.defmt_values.specs.Entries.{places_from}
-use Rattle.defmt_values.specs.Fits.{FitsVal, FitsVals, weigh_val, weigh_vals}
+use Rattle.defmt_values.specs.Fits.{FitsVals, weigh_val, weigh_vals}
 use Rattle.defmt_values.specs.Plain.{Vals, no_vals, val}
 use Rattle.defmt_eager.specs.Show.{Shown, show_val, shows, acting, pieces_text}
 use Rattle.defmt_plan.proofs.Fields.{bits_weigh}

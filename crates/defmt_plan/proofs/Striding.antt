@@ -1,5 +1,5 @@
 -- Steps as they are made.
-use Rattle.std.proofs.Common.{◌≡◌, ◌+◌, ℕ, List, [], ◌∷◌, ◌++◌, length, sym, ap, subst, ◌∙◌, append_assoc}
+use Rattle.std.proofs.Common.{◌≡◌, ℕ, List, [], ◌∷◌, ◌++◌, length, sym, ap, subst, ◌∙◌, append_assoc}
 use Rattle.std.proofs.lemmas.List.{append-nil}
 use Rattle.defmt_grammar.specs.Slots.{slots_of}
 use Rattle.defmt_grammar.specs.declared.piece.Piece.{Piece}

@@ -25,12 +25,12 @@ use Rattle.defmt_eager.specs.Show.{eager_text, own_pieces, pieces_text, shows}
 use Rattle.defmt_plan.proofs.Carrying.{carried_two, carried_none}
 use Rattle.defmt_put.proofs.Chains.{written_none, written_end}
 use Rattle.defmt_plan.proofs.Fronting.{fronted, lead_within, line_written}
-use Rattle.defmt_plan.proofs.Leading.{PassedLed, passed_led}
+use Rattle.defmt_plan.proofs.Leading.{PassedLed, arguments_flat, passed_led}
 use Rattle.defmt_plan.specs.Carried.{Carried}
 use Rattle.defmt_plan.specs.Passed.{Passed, Passes}
 use Rattle.defmt_plan.specs.Plans.{AreStepsOf, IsPlanIn, AreStampSteps, lead_text}
 use Rattle.defmt_plan.specs.Steps.{PassAll}
-use Rattle.defmt_plan.specs.Told.{Fronts, IsHead, StampPassed, StampPasses, IsTold}
+use Rattle.defmt_plan.specs.Told.{ArgumentsPassed, Fronts, IsHead, StampPassed, StampPasses, IsTold}
 use Rattle.defmt_put.specs.Written.{Written}
 use Rattle.defmt_plan.specs.declared.leaves.Progress.{Progress}
 use Rattle.defmt_plan.specs.declared.message.Head.{Head}
@@ -56,11 +56,11 @@ record OwnPassed (t : Map) (index : ℕ) (bytes : List ℕ) (from to : ℕ) (old
 own_passed : (t : Map) (index : ℕ) (steps : List Step) (bytes : List ℕ) (from to : ℕ) (old : List ℕ) (at : ℕ) (new : List ℕ) (end : ℕ) → AreStepsOf t index steps → Passed t steps bytes from to old at new end → OwnPassed t index bytes from to old at new end
 own_passed t index steps bytes from to old at new end own passed =
     let ps : List Piece = own.pieces in
-    let p = passed_led t None ps ps steps bytes from to old at new end refl own.steps_are passed in
+    let p = passed_led t None ps ps bytes from to old at new end refl (arguments_flat t ps ps steps bytes from to old at new end own.steps_are passed) in
     let same : slots_of ps ≡ own_slots t index = sym (own_slots_are t index own.entry ps own.there own.body) in
     record {
       args = p.args;
-      fits = record { entry = own.entry; pieces = ps; there = own.there; body = own.body; values = p.fits; light = omega (arith, p.weightless) };
+      fits = record { entry = own.entry; pieces = ps; there = own.there; body = own.body; values = p.fits; light = p.light };
       sound = p.sound;
       lengths = subst (λ (ss : List Slot). LengthsFit t ss p.args) same p.lengths;
       carried = subst (λ (ss : List Slot). Carried bytes from to (bytes_vals t ss p.args)) same p.carried;
@@ -83,7 +83,7 @@ own_led t index e lead qs bytes from to old at new end there body p =
     let same : slots_of qs ≡ own_slots t index = sym (own_slots_are t index e qs there body) in
     record {
       args = p.args;
-      fits = record { entry = e; pieces = qs; there = there; body = body; values = p.fits; light = omega (arith, p.weightless) };
+      fits = record { entry = e; pieces = qs; there = there; body = body; values = p.fits; light = p.light };
       sound = p.sound;
       lengths = subst (λ (ss : List Slot). LengthsFit t ss p.args) same p.lengths;
       carried = subst (λ (ss : List Slot). Carried bytes from to (bytes_vals t ss p.args)) same p.carried;
@@ -171,11 +171,11 @@ told_at t plan head bytes padding middle to old mid begun new at m k end le room
     }
 
 pub told_all : (t : Catalog) (plan : Plan) (head : Head) (bytes padding : List ℕ) (middle to : ℕ) (old mid begun new : List ℕ) (at m k end : ℕ) → at ≤ length old → length old ≤ 65536
-    → plan.index ≡ head.index → IsPlanIn t.entries plan → IsHead t.profile bytes head → StampPassed t.entries bytes head.read middle old at mid m → Fronts plan.front (Some k) mid m at begun
-    → ((t : Map) (all : List Piece) → PassAll all 0 plan.steps.items → Passed t plan.steps.items bytes middle to begun k new end)
+    → plan.index ≡ head.index → (is : IsPlanIn t.entries plan) → IsHead t.profile bytes head → StampPassed t.entries bytes head.read middle old at mid m → Fronts plan.front (Some k) mid m at begun
+    → ArgumentsPassed t.entries is.pieces is.rest bytes middle to begun k new end
     → padding ≡ take (length bytes - to) (drop to bytes) → (length padding ≤ 6) × (all_zero padding ≡ true) → IsTold t bytes head.place head.index old at new end
 told_all t plan head bytes padding middle to old mid begun new at m k end le room same is h s f o pad p =
     subst (λ (i : ℕ). IsTold t bytes head.place i old at new end) same
     (told_at t plan head bytes padding middle to old mid begun new at m k end le room same is h s f
     (own_led t.entries plan.index is.entry is.own.lead is.pieces bytes middle to begun k new end is.there is.body
-    (passed_led t.entries is.own.lead is.pieces is.rest plan.steps.items bytes middle to begun k new end is.own.pieces_are is.steps_are (o t.entries is.pieces is.steps_are.pass))) pad p)
+    (passed_led t.entries is.own.lead is.pieces is.rest bytes middle to begun k new end is.own.pieces_are o)) pad p)

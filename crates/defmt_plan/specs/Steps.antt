@@ -1,5 +1,5 @@
 -- The pieces that the steps of a plan are, and the slots of their values.
-use Rattle.std.specs.Prelude.{◌≡◌, ◌+◌, ℕ, List, [], ◌∷◌, length, Some}
+use Rattle.std.specs.Prelude.{◌≡◌, ◌+◌, ℕ, Bool, true, false, List, [], ◌∷◌, length, Some}
 use Rattle.std.specs.List.{slice_get}
 use Rattle.defmt_grammar.specs.Slots.{slots_of, uses_at}
 use Rattle.defmt_grammar.specs.declared.hint.Hint.{Hint}
@@ -76,3 +76,10 @@ slots_along (steps.Text text ∷ more) = slots_along more
 slots_along (steps.Value kind hint ∷ more) = slots.One kind ∷ slots_along more
 slots_along (steps.Peek field hint ∷ more) = slots_along more
 slots_along (steps.Bits field hint ∷ more) = field_slot field ∷ slots_along more
+
+-- other values may stand inside one of this kind
+abbrev pub holds_values : Kind → Bool
+holds_values kinds.Format = true
+holds_values kinds.FormatSlice = true
+holds_values (kinds.FormatArray count) = true
+holds_values kind = false

@@ -1,11 +1,15 @@
 -- What one pass over a whole message leaves.
-use Rattle.std.specs.Prelude.{◌≡◌, ℕ, List, ◌++◌, Option, Some, None}
+use Rattle.std.specs.Prelude.{◌≡◌, ◌≤◌, ℕ, List, ◌++◌, Option, Some, None}
 use Rattle.byteorder.specs.Endian.{little_bytes}
+use Rattle.defmt_grammar.specs.Slots.{slots_of}
+use Rattle.defmt_grammar.specs.declared.hint.Hint.TheVariants as hints
+use Rattle.defmt_grammar.specs.declared.piece.Piece.{Piece}
 use Rattle.defmt_intern.specs.Catalog.{Catalog}
 use Rattle.defmt_intern.specs.Stamp.{stamp_of}
 use Rattle.defmt_intern.specs.Table.{Map}
 use Rattle.defmt_intern.specs.declared.table.Profile.{Profile}
-use Rattle.defmt_values.specs.Fits.{FitsStamp}
+use Rattle.defmt_values.specs.Entries.{places_of}
+use Rattle.defmt_values.specs.Fits.{FitsStamp, FitsVals, weigh_vals}
 use Rattle.defmt_values.specs.Plain.{Vals}
 use Rattle.defmt_values.specs.Sound.{AreSound}
 use Rattle.defmt_encode.specs.Carry.{bytes_vals, stamp_slots}
@@ -13,6 +17,7 @@ use Rattle.defmt_encode.specs.Heard.{IsHeard}
 use Rattle.defmt_encode.specs.Lengths.{LengthsFit}
 use Rattle.defmt_encode.specs.Placed.{HasPlace, place_bytes}
 use Rattle.defmt_eager.specs.Line.{eager_line, stamp_text, IsWide}
+use Rattle.defmt_eager.specs.Show.{pieces_text, shows}
 use Rattle.defmt_plan.specs.Carried.{Carried}
 use Rattle.defmt_put.specs.Written.{Kept, Written, Writes}
 use Rattle.defmt_plan.specs.declared.leaves.Progress.{Progress}
@@ -36,6 +41,23 @@ pub record StampPassed (t : Map) (bytes : List ℕ) (from to : ℕ) (old : List 
 abbrev pub StampPasses : Option Progress → Map → List ℕ → ℕ → List ℕ → ℕ → List ℕ → Type 0
 StampPasses None t bytes from old at new = Kept old at new
 StampPasses (Some after) t bytes from old at new = StampPassed t bytes from after.read old at new after.written
+
+-- the arguments of a string, with the text of these of its pieces
+pub record ArgumentsPassed (t : Map) (all pieces : List Piece) (bytes : List ℕ) (from to : ℕ)
+    (old : List ℕ) (at : ℕ) (new : List ℕ) (end : ℕ) : Type 0 where
+  pub args : Vals
+  pub fits : FitsVals t 16 (places_of all) args
+  pub light : weigh_vals t (places_of all) 1 args ≤ 8192
+  pub sound : AreSound args
+  pub lengths : LengthsFit t (slots_of all) args
+  pub carried : Carried bytes from to (bytes_vals t (slots_of all) args)
+  pub written : Written old at new end (pieces_text hints.Plain pieces (shows t args))
+
+abbrev pub PassesArguments : Option Progress → Map → List Piece → List Piece → List ℕ → ℕ
+    → List ℕ → ℕ → List ℕ → Type 0
+PassesArguments None t all pieces bytes from old at new = Kept old at new
+PassesArguments (Some after) t all pieces bytes from old at new =
+    ArgumentsPassed t all pieces bytes from after.read old at new after.written
 
 -- a message that is heard, with its line behind a place
 pub record IsTold (t : Catalog) (bytes : List ℕ) (place : Option ℕ) (index : ℕ) (old : List ℕ) (at : ℕ) (new : List ℕ) (end : ℕ) : Type 0 where

@@ -4,7 +4,7 @@ ghost use Rattle.std.specs.Prelude.{◌≡◌, ◌++◌, codes, IfSome, IfOk};
 ghost use Rattle.defmt_eager.specs.Line.{level_text};
 ghost use Rattle.defmt_plan.specs.Plans.{AreStepsOf, ArePlansIn, HasFront, IsPlanIn, Leads, SaysStamp, space_if};
 
-use crate::steps::{Step, steps_of};
+use crate::steps::{Step, are_nested, steps_of};
 use defmt_eager::level_text;
 use defmt_grammar::{Memory, Piece, Text};
 use defmt_intern::{Parsed, Table, Tag};
@@ -19,6 +19,8 @@ pub(crate) struct Plan {
     /// neither stands in front of the steps, which have that literal.
     pub front: Option<Text>,
     pub steps: Vec<Step>,
+    /// Whether values may stand inside others. Nothing is said of it: both ways hold.
+    pub nested: bool,
 }
 
 /// The plan of a table's stamp.
@@ -121,10 +123,12 @@ fn plan_of(alloc: Global, table: &Table, index: u16) -> Result<Option<Plan>, Mem
     let Some(steps) = steps_of(alloc, rest, pieces)? else {
         return Ok(None);
     };
+    let nested = are_nested(&steps);
     Ok(Some(Plan {
         index,
         front,
         steps,
+        nested,
     }))
 }
 

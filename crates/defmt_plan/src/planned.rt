@@ -1,14 +1,22 @@
 //! A table with the plans of its strings.
 
-ghost use Rattle.std.specs.Prelude.{◌≡◌, ◌≤◌, length, IfOk, IfSome};
+ghost use Rattle.std.specs.Prelude.{◌≡◌, ◌≤◌, List, length, IfOk, IfSome};
+ghost use Rattle.defmt_grammar.specs.declared.piece.Piece.{Piece as AnyPiece};
+ghost use Rattle.defmt_intern.specs.Table.{Map};
+ghost use Rattle.defmt_plan.specs.Forms.{AreFormsIn, ArePlanned};
 ghost use Rattle.defmt_plan.specs.Plans.{IsPlanIn};
-ghost use Rattle.defmt_plan.specs.Told.{Fronts, StampPasses, Tells};
+ghost use Rattle.defmt_plan.specs.Steps.{AreSteps};
+ghost use Rattle.defmt_plan.specs.Told.{Fronts, PassesArguments, StampPasses, Tells};
 
+use crate::forms::{Forms, forms_of};
+use crate::inside::pass_steps;
 use crate::leaves::Progress;
 use crate::message::{Told, is_padding, read_head};
+use crate::numbers::numbers_of;
 use crate::plan::{Plan, StampPlan, plans_of, stamp_plan};
+use crate::reach::Reach;
 use crate::run::run;
-use defmt_grammar::{Memory, Text};
+use defmt_grammar::{Hint, Memory, Text};
 use defmt_intern::Table;
 use defmt_put::put;
 use std::alloc::Global;
@@ -16,6 +24,9 @@ use std::marker::Model;
 
 // The most bytes of a text that isn't too wide.
 const LONGEST: usize = 65536;
+
+// The most levels of Format values.
+const LEVELS: u8 = 16;
 
 /// A table, and a plan of each of its strings that is of a level or of println, and usual. Contracts see it as its table.
 ///
@@ -27,11 +38,13 @@ pub struct PlannedTable {
     plans: Vec<Plan>,
     // At an index the number of its plan, where it has one.
     numbers: Vec<u16>,
+    forms: Forms,
 }
 
 impl Model for PlannedTable {
     ghost use Rattle.defmt_intern.specs.declared.table.Table.{Table as AnyTable};
     ghost use Rattle.defmt_intern.specs.contracts.table.Table.{the_row};
+    ghost use Rattle.defmt_plan.specs.Forms.{AreFormsIn};
     ghost use Rattle.defmt_plan.specs.Plans.{ArePlansIn, SaysStamp};
 
     ghost Value = { AnyTable };
@@ -40,22 +53,18 @@ impl Model for PlannedTable {
 
     ghost view = { λ p. p.table };
 
-    ghost invariant = { λ p. SaysStamp p.table.entries p.stamp × ArePlansIn p.table.entries p.plans.items };
+    ghost invariant = { λ p. SaysStamp p.table.entries p.stamp
+        × ArePlansIn p.table.entries p.plans.items
+        × AreFormsIn p.table.entries p.forms.items.items };
 }
 
-// At each index up to the greatest of the plans the number of its plan.
-fn numbers_of(alloc: Global, plans: &[Plan]) -> Result<Vec<u16>, Memory> {
-    let Some(last) = plans.last() else {
-        return Ok(Vec::new(alloc));
-    };
-    let size = usize::from(last.index).saturating_add(1);
-    let mut numbers = vec![in alloc; 0u16; size]?;
-    for (number, plan) in plans.iter().enumerate() {
-        if let Some(place) = numbers.get_mut(usize::from(plan.index)) {
-            *place = number.min(65535) as u16;
-        }
+// The indexes of plans.
+fn indexes_of(alloc: Global, plans: &[Plan]) -> Result<Vec<u16>, Memory> {
+    let mut indexes = Vec::with_capacity(alloc, plans.len())?;
+    for plan in plans {
+        indexes.push(plan.index)?;
     }
-    Ok(numbers)
+    Ok(indexes)
 }
 
 // Writes what stands between the stamp's text and the statement's, and answers where the latter begins.
@@ -70,6 +79,35 @@ fn put_front(front: &Option<Text>, out: &mut [u8], stamped: usize, at: usize) ->
     }
 }
 
+// The steps of a plan that may have values inside others.
+#[inline(never)]
+fn pass_nested(
+    forms: &Forms,
+    plan: &Plan,
+    bytes: &[u8],
+    from: usize,
+    out: &mut [u8],
+    at: usize,
+) -> Option<Progress>
+    requires read { from ≤ length bytes.now }
+    requires written { at ≤ length out.old }
+    requires planned { ArePlanned forms.now }
+    ensures { (t : Map) (all pieces : List AnyPiece) → AreFormsIn t forms.now.items.items
+        → AreSteps all pieces plan.now.steps.items
+        → PassesArguments result t all pieces bytes.now from out.old at out.new }
+{
+    let before = Reach {
+        read: from,
+        written: at,
+        opened: 0,
+    };
+    let after = pass_steps(forms, &plan.steps, LEVELS, Hint::Plain, bytes, before, out)?;
+    Some(Progress {
+        read: after.read,
+        written: after.written,
+    })
+}
+
 impl PlannedTable {
     /// The table with its plans, which are made here.
     pub fn new(alloc: Global, table: Table) -> Result<PlannedTable, Memory>
@@ -77,12 +115,15 @@ impl PlannedTable {
     {
         let stamp = stamp_plan(alloc, &table)?;
         let plans = plans_of(alloc, &table)?;
-        let numbers = numbers_of(alloc, &plans)?;
+        let indexes = indexes_of(alloc, &plans)?;
+        let numbers = numbers_of(alloc, &indexes)?;
+        let forms = forms_of(alloc, &table)?;
         Ok(PlannedTable {
             table,
             stamp,
             plans,
             numbers,
+            forms,
         })
     }
 
@@ -125,6 +166,29 @@ impl PlannedTable {
         }
     }
 
+    /// The arguments of a plan's string, with what its text has behind its front.
+    #[inline(always)]
+    fn arguments(
+        &self,
+        plan: &Plan,
+        bytes: &[u8],
+        from: usize,
+        out: &mut [u8],
+        at: usize,
+    ) -> Option<Progress>
+        requires read { from ≤ length bytes.now }
+        requires written { at ≤ length out.old }
+        ensures { (is : IsPlanIn self.now.entries plan.now)
+            → PassesArguments result self.now.entries is.pieces is.rest bytes.now from
+            out.old at out.new }
+    {
+        if plan.nested {
+            pass_nested(&self.forms, plan, bytes, from, out, at)
+        } else {
+            run(&plan.steps, bytes, from, out, at)
+        }
+    }
+
     /// The line of a message whose plan there is, written behind a place of the buffer. Where it is answered, the message is
     /// heard, and neither its stamp's text nor its own is too wide. What stands in front of the place is as before in any case.
     /// Takes no memory.
@@ -140,7 +204,7 @@ impl PlannedTable {
         let plan = self.plan(head.index)?;
         let stamped = self.stamp(bytes, head.read, out, at)?;
         let start = put_front(&plan.front, out, stamped.written, at)?;
-        let said = run(&plan.steps, bytes, stamped.read, out, start)?;
+        let said = self.arguments(plan, bytes, stamped.read, out, start)?;
         if !is_padding(&bytes[said.read..]) {
             return None;
         }

@@ -4,7 +4,7 @@ ghost use Rattle.std.specs.Prelude.{◌≡◌, ◌<◌, ℕ, List, Some, IfSome,
 ghost use Rattle.std.specs.List.{slice_get};
 ghost use Rattle.defmt_grammar.specs.Slots.{slots_of, uses_at};
 ghost use Rattle.defmt_grammar.specs.declared.piece.Piece.{Piece as AnyPiece};
-ghost use Rattle.defmt_plan.specs.Steps.{AreSteps, IsNextStep, behind, field_kind, field_slot, piece_of};
+ghost use Rattle.defmt_plan.specs.Steps.{AreSteps, IsNextStep, behind, field_kind, field_slot, holds_values, piece_of};
 
 use crate::bits::Field;
 use defmt_grammar::{Hint, Kind, Memory, Param, Piece, Pieces, Slot, Text};
@@ -154,4 +154,26 @@ pub(crate) fn steps_of(
     } else {
         Ok(None)
     }
+}
+
+// Whether other values may stand inside a value of this kind.
+fn holds_values(kind: Kind) -> bool
+    ensures { result ≡ holds_values kind }
+{
+    matches!(
+        kind,
+        Kind::Format | Kind::FormatSlice | Kind::FormatArray(_)
+    )
+}
+
+/// Whether other values may stand inside one that the steps pass.
+pub(crate) fn are_nested(steps: &[Step]) -> bool {
+    for step in steps {
+        if let Step::Value(kind, _) = step
+            && holds_values(*kind)
+        {
+            return true;
+        }
+    }
+    false
 }

@@ -13,21 +13,21 @@ returns-in_err-start c = rw c.from_residual-in_err-start.ensures (front_fails c.
 pub returns-in_err-said : goal.returns-in_err-said
 returns-in_err-said c =
     let f = fronted c.in_ok-plan.plan.now.front _ c.args.out.now c.stamp.new.out c.put_front.new.out c.args.at c.in_ok-stamped.stamped.written c.in_ok-start.start c.requires c.in_ok-stamped.ensures.written c.in_ok-start.ensures in
-    rw c.from_residual-in_err-said.ensures (kept_two c.args.out.now c.put_front.new.out c.run.new.out c.args.at c.in_ok-start.start f.behind f.kept ((rw c.deref.ensures.value at c.in_err-said.ensures) c.args.self.now.entries c.in_ok-plan.ensures.is.pieces c.in_ok-plan.ensures.is.steps_are.pass))
+    rw c.from_residual-in_err-said.ensures (kept_two c.args.out.now c.put_front.new.out c.arguments.new.out c.args.at c.in_ok-start.start f.behind f.kept (c.in_err-said.ensures c.in_ok-plan.ensures.is))
 
 pub returns-then-not-is_padding : goal.returns-then-not-is_padding
 returns-then-not-is_padding c =
     let f = fronted c.in_ok-plan.plan.now.front _ c.args.out.now c.stamp.new.out c.put_front.new.out c.args.at c.in_ok-stamped.stamped.written c.in_ok-start.start c.requires c.in_ok-stamped.ensures.written c.in_ok-start.ensures in
-    kept_two c.args.out.now c.put_front.new.out c.run.new.out c.args.at c.in_ok-start.start f.behind f.kept
-    (kept_written c.put_front.new.out c.run.new.out c.in_ok-start.start c.in_ok-said.said.written _ f.within ((rw c.deref.ensures.value at c.in_ok-said.ensures) c.args.self.now.entries c.in_ok-plan.ensures.is.pieces c.in_ok-plan.ensures.is.steps_are.pass).written)
+    kept_two c.args.out.now c.put_front.new.out c.arguments.new.out c.args.at c.in_ok-start.start f.behind f.kept
+    (kept_written c.put_front.new.out c.arguments.new.out c.in_ok-start.start c.in_ok-said.said.written _ f.within (c.in_ok-said.ensures c.in_ok-plan.ensures.is).written)
 
 pub returns : goal.returns
-returns c = told_all c.args.self.now c.in_ok-plan.plan.now c.in_ok-head.head c.args.bytes.now _ c.in_ok-stamped.stamped.read c.in_ok-said.said.read c.args.out.now c.stamp.new.out c.put_front.new.out c.run.new.out c.args.at c.in_ok-stamped.stamped.written c.in_ok-start.start c.in_ok-said.said.written c.requires (omega arith) c.in_ok-plan.ensures.at c.in_ok-plan.ensures.is
+returns c = told_all c.args.self.now c.in_ok-plan.plan.now c.in_ok-head.head c.args.bytes.now _ c.in_ok-stamped.stamped.read c.in_ok-said.said.read c.args.out.now c.stamp.new.out c.put_front.new.out c.arguments.new.out c.args.at c.in_ok-stamped.stamped.written c.in_ok-start.start c.in_ok-said.said.written c.requires (omega arith) c.in_ok-plan.ensures.at c.in_ok-plan.ensures.is
     (subst (λ (p : Profile). IsHead p c.args.bytes.now c.in_ok-head.head) (c.profile.ensures ∙ ap (λ (t : Catalog). t.profile) c.self.view_is) c.in_ok-head.ensures)
-    c.in_ok-stamped.ensures c.in_ok-start.ensures (rw c.deref.ensures.value at c.in_ok-said.ensures) refl (c.is_padding.ensures c.if-not-is_padding.false)
+    c.in_ok-stamped.ensures c.in_ok-start.ensures (c.in_ok-said.ensures c.in_ok-plan.ensures.is) refl (c.is_padding.ensures c.if-not-is_padding.false)
 
 pub slice_bounds-is_padding-count : goal.slice_bounds-is_padding-count
-slice_bounds-is_padding-count c = let h = (rw c.deref.ensures.value at c.in_ok-said.ensures) c.args.self.now.entries c.in_ok-plan.ensures.is.pieces c.in_ok-plan.ensures.is.steps_are.pass in omega (arith, h.carried.within)
+slice_bounds-is_padding-count c = let h = c.in_ok-said.ensures c.in_ok-plan.ensures.is in omega (arith, h.carried.within)
 
 pub slice_bounds-is_padding-start : goal.slice_bounds-is_padding-start
-slice_bounds-is_padding-start c = let h = (rw c.deref.ensures.value at c.in_ok-said.ensures) c.args.self.now.entries c.in_ok-plan.ensures.is.pieces c.in_ok-plan.ensures.is.steps_are.pass in omega (arith, h.carried.within)
+slice_bounds-is_padding-start c = let h = c.in_ok-said.ensures c.in_ok-plan.ensures.is in omega (arith, h.carried.within)

@@ -1,0 +1,25 @@
+//! At which place of a list the plan of an index stands.
+
+use defmt_grammar::Memory;
+use std::alloc::Global;
+
+/// At each index up to the greatest of these, which grow, the number of its plan.
+pub(crate) fn numbers_of(alloc: Global, indexes: &[u16]) -> Result<Vec<u16>, Memory> {
+    let Some(last) = indexes.last() else {
+        return Ok(Vec::new(alloc));
+    };
+    let size = usize::from(*last).saturating_add(1);
+    let mut numbers = vec![in alloc; 0u16; size]?;
+    for (number, index) in indexes.iter().enumerate() {
+        if let Some(place) = numbers.get_mut(usize::from(*index)) {
+            *place = number.min(65535) as u16;
+        }
+    }
+    Ok(numbers)
+}
+
+/// The number that stands at an index: that of its plan, or of another where it has none.
+#[inline(always)]
+pub(crate) fn number_at(numbers: &[u16], index: u16) -> Option<u16> {
+    numbers.get(usize::from(index)).copied()
+}
