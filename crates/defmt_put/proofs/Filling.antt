@@ -1,9 +1,9 @@
 -- Digits written from the last to the first.
-use Rattle.std.proofs.Common.{◌≡◌, ◌<◌, ◌≤◌, ◌+◌, ◌-◌, ◌/◌, ◌%◌, ◌^◌, ℕ, zero, suc, max, min, Bool, true, false, eqb, List, [], ◌∷◌, ◌++◌, length, map, set, take, drop, refl, sym, ap, subst, ◌∙◌, arith, append_assoc, length-append, length-set}
+use Rattle.std.proofs.Common.{◌≡◌, ◌<◌, ◌≤◌, ◌+◌, ◌-◌, ◌/◌, ◌%◌, ◌^◌, ℕ, max, Bool, true, false, eqb, List, [], ◌∷◌, ◌++◌, length, map, set, take, drop, refl, sym, ap, subst, ◌∙◌, arith, append_assoc, length-set}
 use Rattle.std.proofs.lemmas.Bool.{eqb-true}
 use Rattle.std.proofs.lemmas.Grind.{replicate_next}
 use Rattle.std.proofs.lemmas.Int.Digits.{digits_of_step, length-digits_of_step, length-digits_of-le}
-use Rattle.std.proofs.lemmas.List.{append-nil, length-map, length-replicate, map_push, drop-set, take-set}
+use Rattle.std.proofs.lemmas.List.{append-nil, length-map, map_push, drop-set, take-set}
 use Rattle.std.proofs.Math.Nat.{pow-le-pow_left, div-eq_of_lt, mod-eq_of_lt}
 use Rattle.std.specs.Fmt.{digit_glyph}
 use Rattle.std.specs.Int.Digits.{digits_of}
@@ -11,7 +11,7 @@ use Rattle.std.specs.Prelude.{replicate}
 use Rattle.defmt_hints.specs.Digits.{number_text, zero_filled}
 use Rattle.defmt_hints.proofs.DigitsLaws.{above_zero, number_text_zero, number_text_some}
 use Rattle.defmt_put.proofs.Places.{written_here}
-use Rattle.defmt_put.proofs.Chains.{take_less, written_two}
+use Rattle.defmt_put.proofs.Chains.{take_less}
 use Rattle.defmt_put.specs.Written.{Written}
 
 pub few_digits : (base n : ℕ) → 2 ≤ base → n < 2 ^ 64 → length (digits_of base n) ≤ 64

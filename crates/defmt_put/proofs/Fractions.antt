@@ -1,5 +1,5 @@
 -- The digits behind a decimal point.
-use Rattle.std.proofs.Common.{◌≡◌, ◌<◌, ◌≤◌, ◌+◌, ◌-◌, ◌%◌, ◌^◌, ℕ, false, List, [], ◌∷◌, ◌++◌, length, take, drop, set, length-append, length-drop, length-set, codes, refl, sym, ap, subst, ◌∙◌, arith}
+use Rattle.std.proofs.Common.{◌≡◌, ◌<◌, ◌≤◌, ◌+◌, ◌-◌, ◌%◌, ◌^◌, ℕ, false, List, ◌∷◌, ◌++◌, length, take, drop, set, length-append, length-drop, length-set, codes, sym, ap, subst, ◌∙◌, arith}
 use Rattle.std.proofs.lemmas.Fmt.{decimal_nonempty}
 use Rattle.std.proofs.lemmas.List.{drop-set, take-set, drop-drop, drop-append-le, length-replicate}
 use Rattle.std.proofs.lemmas.Nat.{mod_below}
@@ -7,7 +7,7 @@ use Rattle.std.specs.Fmt.{decimal}
 use Rattle.std.specs.Prelude.{replicate}
 use Rattle.defmt_hints.proofs.DigitsLaws.{text_fits}
 use Rattle.defmt_hints.proofs.PartsLaws.{behind_one, unit_some}
-use Rattle.defmt_hints.specs.Digits.{number_text, zero_filled}
+use Rattle.defmt_hints.specs.Digits.{zero_filled}
 use Rattle.defmt_hints.specs.Printed.{decimal_text}
 use Rattle.defmt_put.proofs.Places.{written_here}
 use Rattle.defmt_put.specs.Written.{Written}

@@ -1,5 +1,5 @@
 -- The texts of signed numbers by their two's complements.
-use Rattle.std.proofs.Common.{◌≡◌, ◌<◌, ◌≤◌, ◌-◌, ◌*◌, ℕ, suc, List, ◌++◌, codes, ap, arith}
+use Rattle.std.proofs.Common.{◌≡◌, ◌<◌, ◌≤◌, ◌-◌, ◌*◌, ℕ, suc, ◌++◌, codes, ap, arith}
 use Rattle.std.proofs.lemmas.Bool.{le-ltb}
 use Rattle.defmt_hints.specs.Printed.{decimal_text, signed_text}
 use Rattle.defmt_put.specs.Signed.{signed_by}

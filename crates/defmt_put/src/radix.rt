@@ -4,7 +4,7 @@ ghost use Rattle.std.specs.Prelude.{◌≡◌, ◌≤◌, ◌<◌, ◌^◌, leng
 ghost use Rattle.std.specs.Fmt.{digit_glyph};
 ghost use Rattle.std.specs.Int.Digits.{digits_of};
 ghost use Rattle.defmt_hints.specs.Digits.{number_text, zero_filled};
-ghost use Rattle.defmt_hints.specs.Printed.{base_number, is_upper, prefix_text, radix_text, fraction_text};
+ghost use Rattle.defmt_hints.specs.Printed.{base_number, base_prefix, is_upper, radix_text, fraction_text};
 ghost use Rattle.defmt_put.specs.Written.{Writes};
 
 use crate::numbers::put_decimal;
@@ -72,12 +72,11 @@ fn put_digits(
     Some(end)
 }
 
-fn prefix_text(base: Base, alt: bool) -> &'static str
-    ensures text { result.now ≡ prefix_text base alt }
+fn prefix_of(base: Base) -> &'static str
+    ensures text { result.now ≡ base_prefix base }
     ensures short { length result.now ≤ 2 }
 {
     match base {
-        _ if !alt => "",
         Base::Hex | Base::HexUpper => "0x",
         Base::Binary => "0b",
         Base::Octal => "0o",
@@ -106,6 +105,7 @@ fn put_hex(out: &mut [u8], at: usize, number: u64, upper: bool, width: u8) -> Op
 }
 
 // Writes the digits in a hint's base, with zeros in front up to a width.
+#[inline(never)]
 fn put_in_base(out: &mut [u8], at: usize, number: u64, base: Base, width: u8) -> Option<usize>
     requires { at ≤ length out.old }
     ensures { Writes result out.old at out.new (zero_filled width (number_text (base_number base) (is_upper base) number)) }
@@ -130,7 +130,10 @@ pub(crate) fn put_radix(
     requires { at ≤ length out.old }
     ensures { Writes result out.old at out.new (radix_text base alt width number) }
 {
-    let prefix = prefix_text(base, alt);
+    if !alt {
+        return put_in_base(out, at, number, base, width);
+    }
+    let prefix = prefix_of(base);
     let middle = put(out, at, prefix.as_bytes())?;
     let zeros_and_digits = width.saturating_sub(prefix.len() as u8);
     put_in_base(out, middle, number, base, zeros_and_digits)

@@ -1,5 +1,5 @@
-use Rattle.std.proofs.Common.{◌++◌, List, ℕ, map, codes, arith, sym, subst, length, ◌≤◌}
-use Rattle.defmt_hints.specs.Printed.{list_text, printed_byte}
+use Rattle.std.proofs.Common.{◌++◌, List, ℕ, codes, arith, sym, subst, length, ◌≤◌}
+use Rattle.defmt_hints.specs.Printed.{printed_byte}
 use Rattle.defmt_put.proofs.Chains.{written_two, writes_two, kept_behind}
 use Rattle.defmt_put.proofs.Elements.{list_none, list_first}
 use Rattle.defmt_put.specs.Lists.{others_text}

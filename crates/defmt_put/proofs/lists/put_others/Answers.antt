@@ -1,4 +1,4 @@
-use Rattle.std.proofs.Common.{List, ℕ, arith, subst, take, ap}
+use Rattle.std.proofs.Common.{List, ℕ, subst}
 use Rattle.std.proofs.lemmas.List.{take_all}
 use Rattle.defmt_hints.specs.Printed.{printed_byte}
 use Rattle.defmt_put.proofs.Chains.{written_none, written_two, kept_behind}

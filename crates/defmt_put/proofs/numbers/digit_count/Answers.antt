@@ -1,4 +1,4 @@
-use Rattle.std.proofs.Common.{◌≡◌, ◌+◌, ◌≤◌, ◌/◌, length, decimal, arith}
+use Rattle.std.proofs.Common.{◌≤◌, length, decimal, arith}
 use Rattle.std.proofs.lemmas.Fmt.{length-decimal-le}
 use Rattle.defmt_put.proofs.Places.{four_more}
 use Rattle.defmt_put.proofs.numbers.digit_count.Goals as goal

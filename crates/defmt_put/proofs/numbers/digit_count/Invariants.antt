@@ -1,4 +1,4 @@
-use Rattle.std.proofs.Common.{◌+◌, ◌-◌, ◌≡◌, length, decimal}
+use Rattle.std.proofs.Common.{◌+◌, ◌≡◌, length, decimal}
 use Rattle.defmt_put.proofs.numbers.digit_count.Given as goal
 
 abbrev pub invariant-digits : goal.invariant-digits

@@ -1,5 +1,4 @@
 use Rattle.std.proofs.Common.{List, ℕ, subst, sym, refl, codes}
-use Rattle.defmt_hints.specs.Printed.{decimal_text}
 use Rattle.defmt_put.proofs.Chains.{writes_two}
 use Rattle.defmt_put.proofs.Signs.{signed_high}
 use Rattle.defmt_put.specs.Written.{Writes}

@@ -1,4 +1,4 @@
-use Rattle.std.proofs.Common.{arith, refl}
+use Rattle.std.proofs.Common.{arith}
 use Rattle.defmt_put.proofs.Elements.{bare_all, bare_more}
 use Rattle.defmt_put.proofs.quoted.are_bare.Goals as goal
 

@@ -1,6 +1,5 @@
-use Rattle.std.proofs.Common.{◌≡◌, ◌+◌, ◌≤◌, ◌<◌, ◌/◌, length, arith}
+use Rattle.std.proofs.Common.{arith}
 use Rattle.std.proofs.lemmas.Int.Digits.{length-digits_of_step}
-use Rattle.std.specs.Int.Digits.{digits_of}
 use Rattle.defmt_put.proofs.Filling.{few_digits}
 use Rattle.defmt_put.proofs.radix.count_in.Goals as goal
 
