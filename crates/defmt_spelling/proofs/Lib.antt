@@ -1,5 +1,6 @@
 mod Arms
 mod Backs
+mod Calls
 mod Exits
 mod Firsts
 mod Fronts

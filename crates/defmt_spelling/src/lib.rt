@@ -8,6 +8,7 @@ mod fault;
 mod forms;
 mod leaves;
 mod names;
+mod nested;
 mod printing;
 mod quick;
 mod reading;

@@ -1,209 +1,25 @@
-//! Reading values from text, and those inside of them.
-ghost use Rattle.std.specs.Prelude.{◌≡◌, ◌≤◌, ℕ, Option, Ok, IfOk};
+//! Reading the values of a text, one after another.
+ghost use Rattle.std.specs.Prelude.{◌≤◌, IfOk};
 ghost use Rattle.std.specs.Str.{IsUtf8};
 ghost use Rattle.defmt_grammar.specs.Slots.{IsSound};
-ghost use Rattle.defmt_shapes.specs.Shape.{Shape as AnyShape, Shapes, Items as AnyItems, call, sequence, SpellsShapes, SpellsItems, StartsThere};
-ghost use Rattle.defmt_shapes.specs.Spelling.{Tells, HoldsVariant};
-ghost use Rattle.defmt_spelling.specs.Meaning.{meant_val, meant_elems};
-ghost use Rattle.defmt_spelling.specs.Reading.{GivesValue, GivesElems, GivesItem, item_scan, meant_inside, ReadsValues, ReadsFront, SmallValue, SmallFront};
+ghost use Rattle.defmt_spelling.specs.Reading.{IsCallOf, ReadsValues, ReadsFront, SmallValue, SmallFront};
 ghost use Rattle.defmt_values.specs.Entries.{places_of};
-ghost use Rattle.defmt_values.specs.Scan.{form_at, scan_val, scan_elems};
+ghost use Rattle.defmt_values.specs.View.{plain};
 
 use crate::fault::{ArgFault, Cause};
-use crate::forms::{add, check_count, check_list, check_node, find_form, find_pieces};
-use crate::leaves::read_leaf;
+use crate::forms::{add, find_form, find_pieces};
 use crate::names::Names;
+use crate::nested::read_value;
 use crate::quick::push_quick;
-use defmt_grammar::{Pieces, Slot};
-use defmt_intern::{Parsed, Table};
-use defmt_shapes::{Number, Spelling, first_item, first_value, skip_spaces};
-use defmt_values::{Args, Item, Items, Node, Seq, Value, cut};
+use defmt_grammar::{Kind, Pieces, Slot};
+use defmt_intern::Table;
+use defmt_quick::quick_last_call;
+use defmt_shapes::{first_value, skip_spaces};
+use defmt_values::{Args, Node, Value, cut};
 use std::alloc::Global;
 
-// One value of a slot. At most `left` levels of Format values may still be opened.
-#[cycle(read)]
-fn read_value(
-    alloc: Global,
-    names: &Names,
-    table: &Table,
-    slot: Slot,
-    left: u8,
-    weight: usize,
-    sum: usize,
-    spelling: Spelling<'_>,
-) -> Result<(Value, usize), ArgFault>
-    requires sum { sum ≤ 8192 }
-    requires sound { IsSound slot }
-    ensures value { (s : AnyShape) → Tells spelling.entry s
-        → GivesValue result (meant_val names.now table.now.entries slot s)
-        (scan_val table.now.entries left slot weight sum
-        (meant_val names.now table.now.entries slot s)) }
-    ensures small { SmallValue result }
-{
-    match spelling {
-        Spelling::Call {
-            name,
-            variant,
-            inside,
-        } => read_node(
-            alloc, names, table, slot, left, weight, sum, name, variant, inside,
-        ),
-        Spelling::Sequence { name, inside } => {
-            read_list(alloc, names, table, slot, left, weight, sum, name, inside)
-        }
-        leaf => read_leaf(alloc, names, table, slot, sum, leaf),
-    }
-}
-
-// A Format value.
-#[cycle(read)]
-fn read_node(
-    alloc: Global,
-    names: &Names,
-    table: &Table,
-    slot: Slot,
-    left: u8,
-    weight: usize,
-    sum: usize,
-    name: &str,
-    variant: Option<Number>,
-    inside: &str,
-) -> Result<(Value, usize), ArgFault>
-    requires sum { sum ≤ 8192 }
-    ensures value { (v : Option ℕ) (ss : Shapes) → HoldsVariant variant v
-        → SpellsShapes inside.now ss
-        → GivesValue result (meant_val names.now table.now.entries slot (call name.now v ss))
-        (scan_val table.now.entries left slot weight sum
-        (meant_val names.now table.now.entries slot (call name.now v ss))) }
-    ensures small { SmallValue result }
-{
-    check_node(slot)?;
-    let (index, form) = find_form(names, table, left, name)?;
-    let (item, sum) = read_item(
-        alloc,
-        names,
-        table,
-        form,
-        left - 1,
-        weight,
-        sum,
-        variant,
-        inside,
-    )?;
-    let Item { variant, args } = item;
-    Ok((
-        Value::Format(Node {
-            index,
-            variant,
-            args,
-        }),
-        sum,
-    ))
-}
-
-// A list of some elements.
-#[cycle(read)]
-fn read_list(
-    alloc: Global,
-    names: &Names,
-    table: &Table,
-    slot: Slot,
-    left: u8,
-    weight: usize,
-    sum: usize,
-    name: &str,
-    inside: &str,
-) -> Result<(Value, usize), ArgFault>
-    requires sum { sum ≤ 8192 }
-    ensures value { (items : AnyItems) → StartsThere inside.now → SpellsItems inside.now items
-        → GivesValue result (meant_val names.now table.now.entries slot (sequence name.now items))
-        (scan_val table.now.entries left slot weight sum
-        (meant_val names.now table.now.entries slot (sequence name.now items))) }
-    ensures small { SmallValue result }
-{
-    check_list(slot)?;
-    let (index, form) = find_form(names, table, left, name)?;
-    let (items, sum) = read_items(alloc, names, table, form, left - 1, weight, sum, inside)?;
-    check_count(slot, items.len())?;
-    Ok((
-        Value::Seq(Seq {
-            index: Some(index),
-            items,
-        }),
-        sum,
-    ))
-}
-
-// The elements of a list.
-#[cycle(read)]
-fn read_items(
-    alloc: Global,
-    names: &Names,
-    table: &Table,
-    form: &Parsed,
-    left: u8,
-    weight: usize,
-    sum: usize,
-    text: &str,
-) -> Result<(Items, usize), ArgFault>
-    requires sum { sum ≤ 8192 }
-    ensures value { (index : ℕ) (items : AnyItems) → form_at table.now.entries index ≡ Ok form.now
-        → SpellsItems text.now items
-        → GivesElems result (meant_elems names.now table.now.entries index items)
-        (scan_elems table.now.entries left form.now weight sum
-        (meant_elems names.now table.now.entries index items)) }
-    ensures small { SmallValue result }
-{
-    let mut items = Items::new(alloc);
-    let mut total = sum;
-    let mut rest = text;
-    'each: while let Some((told, more)) = first_item(alloc, skip_spaces(rest))? {
-        let (item, next) = read_item(
-            alloc,
-            names,
-            table,
-            form,
-            left,
-            weight,
-            total,
-            told.variant,
-            told.inside,
-        )?;
-        items.push(item)?;
-        total = next;
-        rest = more;
-    }
-    Ok((items, total))
-}
-
-// The values of a form, or of its variant.
-#[cycle(read)]
-fn read_item(
-    alloc: Global,
-    names: &Names,
-    table: &Table,
-    form: &Parsed,
-    left: u8,
-    weight: usize,
-    sum: usize,
-    variant: Option<Number>,
-    inside: &str,
-) -> Result<(Item, usize), ArgFault>
-    requires sum { sum ≤ 8192 }
-    ensures value { (v : Option ℕ) (ss : Shapes) → HoldsVariant variant v
-        → SpellsShapes inside.now ss
-        → GivesItem result v (meant_inside names.now table.now.entries form.now v ss)
-        (item_scan table.now.entries left form.now weight sum v
-        (meant_inside names.now table.now.entries form.now v ss)) }
-    ensures small { SmallValue result }
-{
-    let sum = add(weight, sum)?;
-    let (pieces, variant) = find_pieces(form, variant)?;
-    let (args, sum) = read_values(alloc, names, table, pieces, left, weight, sum, inside)?;
-    Ok((Item { variant, args }, sum))
-}
-
-/// The values of a text, in a text that has this weight.
+/// The values of a text, in a text that has this weight. The value is the same with `quick` and without; with it the
+/// last Format value of a text is tried without a search for its closing bracket.
 #[cycle(read)]
 pub fn read_values(
     alloc: Global,
@@ -213,6 +29,7 @@ pub fn read_values(
     left: u8,
     weight: usize,
     sum: usize,
+    quick: bool,
     text: &str,
 ) -> Result<(Args, usize), ArgFault>
     requires sum { sum ≤ 8192 }
@@ -233,7 +50,8 @@ pub fn read_values(
             continue 'each;
         }
         let weight_there = pieces.uses(position).saturating_mul(weight);
-        let (value, next, after) = read_front(
+        let last = others.is_empty();
+        let (value, next, after) = read_next(
             alloc,
             names,
             table,
@@ -241,6 +59,8 @@ pub fn read_values(
             left,
             weight_there,
             total,
+            quick,
+            last,
             rest,
         )?;
         args.push(value)?;
@@ -266,6 +86,7 @@ fn read_front<'a>(
     left: u8,
     weight: usize,
     sum: usize,
+    quick: bool,
     text: &'a str,
 ) -> Result<(Value, usize, &'a str), ArgFault>
     requires sum { sum ≤ 8192 }
@@ -281,6 +102,108 @@ fn read_front<'a>(
     let Some((spelling, rest)) = first_value(alloc, text)? else {
         return Err(Cause::Syntax.into());
     };
-    let (value, sum) = read_value(alloc, names, table, slot, left, weight, sum, spelling)?;
+    let (value, sum) = read_value(
+        alloc, names, table, slot, left, weight, sum, quick, spelling,
+    )?;
     Ok((value, sum, rest))
+}
+
+// The first value of a text, which may be its last, and what follows it.
+#[cycle(read)]
+fn read_next<'a>(
+    alloc: Global,
+    names: &Names,
+    table: &Table,
+    slot: Slot,
+    left: u8,
+    weight: usize,
+    sum: usize,
+    quick: bool,
+    last: bool,
+    text: &'a str,
+) -> Result<(Value, usize, &'a str), ArgFault>
+    requires sum { sum ≤ 8192 }
+    requires sound { IsSound slot }
+    ensures value { ReadsFront names.now table.now.entries left slot weight sum text.now result }
+    ensures small { SmallFront result }
+    ensures utf8 { IfOk result (λ r. IsUtf8 r.2.now) }
+{
+    if quick
+        && last
+        && let Slot::One(Kind::Format) = slot
+    {
+        return read_last_call(alloc, names, table, left, weight, sum, text);
+    }
+    read_front(alloc, names, table, slot, left, weight, sum, quick, text)
+}
+
+// The last value of a text, where it is a Format value: one that goes up to the text's end is read without a search for its closing
+// bracket. Where it can't be read so, the way of all values reads it or finds the cause, and looks for every bracket inside: a second
+// try at each level would double the readings from level to level.
+#[cycle(read)]
+fn read_last_call<'a>(
+    alloc: Global,
+    names: &Names,
+    table: &Table,
+    left: u8,
+    weight: usize,
+    sum: usize,
+    text: &'a str,
+) -> Result<(Value, usize, &'a str), ArgFault>
+    requires sum { sum ≤ 8192 }
+    ensures value { ReadsFront names.now table.now.entries left (Slot.One Kind.Format) weight sum
+        text.now result }
+    ensures small { SmallFront result }
+    ensures utf8 { IfOk result (λ r. IsUtf8 r.2.now) }
+{
+    let slot = Slot::One(Kind::Format);
+    let Some((name, inside)) = quick_last_call(skip_spaces(text)) else {
+        return read_front(alloc, names, table, slot, left, weight, sum, true, text);
+    };
+    match read_call(alloc, names, table, left, weight, sum, name, inside) {
+        Ok((value, sum)) => {
+            let (_, rest) = text.split_at(text.len());
+            Ok((value, sum, rest))
+        }
+        Err(_) => read_front(alloc, names, table, slot, left, weight, sum, false, text),
+    }
+}
+
+// A Format value without a variant, from its name and the text between its brackets.
+#[cycle(read)]
+fn read_call(
+    alloc: Global,
+    names: &Names,
+    table: &Table,
+    left: u8,
+    weight: usize,
+    sum: usize,
+    name: &str,
+    inside: &str,
+) -> Result<(Value, usize), ArgFault>
+    requires sum { sum ≤ 8192 }
+    ensures value { IfOk result (λ r. IsCallOf names.now table.now.entries left weight sum name.now
+        inside.now (plain r.0) r.1) }
+    ensures small { SmallValue result }
+{
+    let (index, form) = find_form(names, table, left, name)?;
+    let sum = add(weight, sum)?;
+    let (pieces, _) = find_pieces(form, None)?;
+    let (args, sum) = read_values(
+        alloc,
+        names,
+        table,
+        pieces,
+        left - 1,
+        weight,
+        sum,
+        true,
+        inside,
+    )?;
+    let node = Node {
+        index,
+        variant: None,
+        args,
+    };
+    Ok((Value::Format(node), sum))
 }
