@@ -147,58 +147,62 @@ pub type W6 = Numbered<6>;
 /// The writer 7.
 pub type W7 = Numbered<7>;
 
+// Counts so many steps more in a ledger of one part: in its book, and in the share that has the part.
+fn count_in<L: Ledger>(book: &mut Book<L>, share: &mut Share<L>, more: u64)
+    requires whole { (L.parts ≡ 1) × (share.old.parts ≡ 1) }
+    ensures same { share.old.amount ≡ book.old.total }
+    ensures total { book.new.total ≡ book.old.total + more }
+    ensures amount { share.new.amount ≡ share.old.amount + more }
+    ensures parts { share.new.parts ≡ share.old.parts }
+{
+    book.audit(share);
+    book.add(share, more)
+}
+
 impl<E: Names> HasBook<Eight<Named<E>>, LedgerOf<W0, E>> for W0 {
     fn count(books: &mut Eight<Named<E>>, share: &mut Share<LedgerOf<W0, E>>, more: u64) {
-        books.b0.audit(share);
-        books.b0.add(share, more)
+        count_in(&mut books.b0, share, more)
     }
 }
 
 impl<E: Names> HasBook<Eight<Named<E>>, LedgerOf<W1, E>> for W1 {
     fn count(books: &mut Eight<Named<E>>, share: &mut Share<LedgerOf<W1, E>>, more: u64) {
-        books.b1.audit(share);
-        books.b1.add(share, more)
+        count_in(&mut books.b1, share, more)
     }
 }
 
 impl<E: Names> HasBook<Eight<Named<E>>, LedgerOf<W2, E>> for W2 {
     fn count(books: &mut Eight<Named<E>>, share: &mut Share<LedgerOf<W2, E>>, more: u64) {
-        books.b2.audit(share);
-        books.b2.add(share, more)
+        count_in(&mut books.b2, share, more)
     }
 }
 
 impl<E: Names> HasBook<Eight<Named<E>>, LedgerOf<W3, E>> for W3 {
     fn count(books: &mut Eight<Named<E>>, share: &mut Share<LedgerOf<W3, E>>, more: u64) {
-        books.b3.audit(share);
-        books.b3.add(share, more)
+        count_in(&mut books.b3, share, more)
     }
 }
 
 impl<E: Names> HasBook<Eight<Named<E>>, LedgerOf<W4, E>> for W4 {
     fn count(books: &mut Eight<Named<E>>, share: &mut Share<LedgerOf<W4, E>>, more: u64) {
-        books.b4.audit(share);
-        books.b4.add(share, more)
+        count_in(&mut books.b4, share, more)
     }
 }
 
 impl<E: Names> HasBook<Eight<Named<E>>, LedgerOf<W5, E>> for W5 {
     fn count(books: &mut Eight<Named<E>>, share: &mut Share<LedgerOf<W5, E>>, more: u64) {
-        books.b5.audit(share);
-        books.b5.add(share, more)
+        count_in(&mut books.b5, share, more)
     }
 }
 
 impl<E: Names> HasBook<Eight<Named<E>>, LedgerOf<W6, E>> for W6 {
     fn count(books: &mut Eight<Named<E>>, share: &mut Share<LedgerOf<W6, E>>, more: u64) {
-        books.b6.audit(share);
-        books.b6.add(share, more)
+        count_in(&mut books.b6, share, more)
     }
 }
 
 impl<E: Names> HasBook<Eight<Named<E>>, LedgerOf<W7, E>> for W7 {
     fn count(books: &mut Eight<Named<E>>, share: &mut Share<LedgerOf<W7, E>>, more: u64) {
-        books.b7.audit(share);
-        books.b7.add(share, more)
+        count_in(&mut books.b7, share, more)
     }
 }
