@@ -104,21 +104,49 @@ fn send_statement<U: UpEnd, R: Relief, W: Wait>(
     send(rt, up, script.mode(), &frame[..size], relief)
 }
 
-// What a desk of a script has of its own before anything is logged: the sites of its strings, a tape with room for all
-// statements that a script can have, and the buffers for a message and a frame.
-fn prepare(alloc: Global, script: &Script) -> Result<(Sites, Tape, Vec<u8>, Vec<u8>), Memory>
-    ensures sites { IfOk result (λ s. HasSites script.now s.0) }
-    ensures marks { IfOk result (λ s. s.1.marks ≡ []) }
-    ensures room { IfOk result (λ s. s.1.room ≡ 4096) }
-    ensures message { IfOk result (λ s. length s.2.items ≡ 2000) }
-    ensures frame { IfOk result (λ s. length s.3.items ≡ 2288) }
+// What a desk of a script has of its own before anything is logged.
+struct Prepared {
+    sites: Sites,
+    tape: Tape,
+    message: Vec<u8>,
+    frame: Vec<u8>,
+}
+
+// So many zeros.
+fn zeros(alloc: Global, count: usize) -> Result<Vec<u8>, Memory>
+    ensures { IfOk result (λ bytes. length bytes.items ≡ count) }
+{
+    Ok(vec![in alloc; 0u8; count]?)
+}
+
+// A tape with room for all statements that a script can have.
+fn blank_tape(alloc: Global) -> Result<Tape, Memory>
+    ensures marks { IfOk result (λ tape. tape.marks ≡ []) }
+    ensures room { IfOk result (λ tape. tape.room ≡ 4096) }
 {
     let mut tape = Tape::new(alloc);
     tape.reserve(STATEMENTS)?;
-    let message = vec![in alloc; 0u8; MESSAGE_SIZE]?;
-    let frame = vec![in alloc; 0u8; FRAME_SIZE]?;
+    Ok(tape)
+}
+
+// The sites of a script's strings, a tape, and the buffers for a message and a frame.
+fn prepare(alloc: Global, script: &Script) -> Result<Prepared, Memory>
+    ensures sites { IfOk result (λ p. HasSites script.now p.sites) }
+    ensures marks { IfOk result (λ p. p.tape.marks ≡ []) }
+    ensures room { IfOk result (λ p. p.tape.room ≡ 4096) }
+    ensures message { IfOk result (λ p. length p.message.items ≡ 2000) }
+    ensures frame { IfOk result (λ p. length p.frame.items ≡ 2288) }
+{
+    let message = zeros(alloc, MESSAGE_SIZE)?;
+    let frame = zeros(alloc, FRAME_SIZE)?;
+    let tape = blank_tape(alloc)?;
     let sites = Sites::of(alloc, script)?;
-    Ok((sites, tape, message, frame))
+    Ok(Prepared {
+        sites,
+        tape,
+        message,
+        frame,
+    })
 }
 
 impl<U: UpEnd, C: Clock> Desk<U, C> {
@@ -185,7 +213,13 @@ impl<U: UpEnd + Drop, C: Clock + Drop> Desk<U, C> {
         ensures up { IfOk result (λ desk. desk.up ≡ U.view up) }
         ensures kept { IfOk result (λ desk. IsKept desk) }
     {
-        let (sites, tape, message, frame) = prepare(alloc, &script)?;
+        let own = prepare(alloc, &script)?;
+        let Prepared {
+            sites,
+            tape,
+            message,
+            frame,
+        } = own;
         Ok(Desk {
             script,
             sites,

@@ -2,7 +2,7 @@
 use rtt_modes::Fate;
 
 /// A statement that was logged, and what became of its frame.
-#[derive(Clone, Copy, PartialEq, Eq, Debug)]
+#[derive(Clone, Copy)]
 pub struct Mark {
     /// The number of the writer, from 0 to 7.
     pub writer: u8,

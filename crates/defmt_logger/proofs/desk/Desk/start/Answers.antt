@@ -4,11 +4,11 @@ use Rattle.defmt_logger.proofs.desk.Desk.start.Goals as goal
 
 pub invariant_of-result : goal.invariant_of-result
 invariant_of-result g c =
-    let made = c.in_ok-sites.ensures in
+    let made = c.in_ok-own.ensures in
     record {
-      kept = kept_first c.args.script c.in_ok-sites.tape (g.U.UpEnd.view c.args.up) made.marks made.room c.requires.fresh c.requires.told;
+      kept = kept_first c.args.script c.in_ok-own.own.tape (g.U.UpEnd.view c.args.up) made.marks made.room c.requires.fresh c.requires.told;
       sites_are = made.sites;
-      counts = no_counts c.in_ok-sites.tape.marks made.marks;
+      counts = no_counts c.in_ok-own.own.tape.marks made.marks;
       pace_is = c.requires.pace;
       message_size = made.message;
       frame_size = made.frame;
@@ -16,5 +16,5 @@ invariant_of-result g c =
 
 pub returns-clause-kept : goal.returns-clause-kept
 returns-clause-kept g c =
-    let made = c.in_ok-sites.ensures in
-    kept_first c.args.script c.in_ok-sites.tape (g.U.UpEnd.view c.args.up) made.marks made.room c.requires.fresh c.requires.told
+    let made = c.in_ok-own.ensures in
+    kept_first c.args.script c.in_ok-own.own.tape (g.U.UpEnd.view c.args.up) made.marks made.room c.requires.fresh c.requires.told
