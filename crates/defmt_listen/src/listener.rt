@@ -1,6 +1,6 @@
 //! Who hears a stream of frames.
 
-ghost use Rattle.std.specs.Prelude.{◌≡◌, ◌≤◌, ◌<◌, ◌++◌, ℕ, None, List, length, take, drop, IfOk, OnErr, OnOk, option_to_list};
+ghost use Rattle.std.specs.Prelude.{◌≡◌, ◌≤◌, ◌<◌, ◌++◌, ℕ, None, List, length, take, drop, IfOk, OnErr, option_to_list};
 ghost use Rattle.defmt_framing.specs.Told.{Tells, events, begun};
 ghost use Rattle.defmt_framing.specs.Framing.{Framing, Stands, Hears};
 ghost use Rattle.defmt_framing.specs.Notices.{HasText, told_by};
@@ -43,7 +43,7 @@ pub trait Listener {
             → Hears (tells self.old) (framing self.new) stream (take r.0 bytes.now)
             (told_by line (drop at text.new.items) r.1)) }
         ensures text { IfOk result (λ r. HasText (drop at text.new.items) r.1) }
-        ensures front { OnOk result (take at text.new.items ≡ take at text.old.items) }
+        ensures front { take at text.new.items ≡ take at text.old.items }
         ensures some { IfOk result (λ r. 0 < length bytes.now → 0 < r.0) }
         ensures all { IfOk result (λ r. told_by line (drop at text.new.items) r.1 ≡ None
             → r.0 ≡ length bytes.now) }

@@ -19,7 +19,7 @@ parts-init g c = record {
 }
 
 pub add_noticed-requires-clause-within : goal.add_noticed-requires-clause-within
-add_noticed-requires-clause-within g c = long_front c.parts.report.text.items c.hear.new.text.items c.parts.report.end c.parts.invariant.within c.in-Ok.ensures.front
+add_noticed-requires-clause-within g c = long_front c.parts.report.text.items c.hear.new.text.items c.parts.report.end c.parts.invariant.within c.hear.ensures.front
 
 pub returns-in-Err-clause-some : goal.returns-in-Err-clause-some
 returns-in-Err-clause-some g c =
@@ -37,7 +37,7 @@ parts-preserved g c =
     c.parts.reporter c.add_noticed.new.reporter (g.L.Listener.framing c.parts.listener) (g.L.Listener.framing c.hear.new.self) c.parts.rest.now c.split_at.result.1.now (g.K.Sink.held c.parts.out) (gathered c.parts.report) (gathered c.add_noticed.new.report)
     c.parts.report.faults c.add_noticed.new.report.faults c.in-Ok.taken (told_by g.L.Listener.line (drop c.parts.report.end c.hear.new.text.items) c.in-Ok.notice) c.parts.invariant.hearing
     (λ stream st. subst (λ tells. Hears tells (g.L.Listener.framing c.hear.new.self) stream (take c.in-Ok.taken c.parts.rest.now) (told_by g.L.Listener.line (drop c.parts.report.end c.hear.new.text.items) c.in-Ok.notice)) c.parts.invariant.same (c.in-Ok.ensures.hears stream st))
-    c.split_at.ensures.back (c.in_ok-add_noticed-in-Ok.ensures.lines ∙ ap (λ (l : List ℕ). l ++ lines_from g.R.Reporter.reporting c.parts.reporter (option_to_list (told_by g.L.Listener.line (drop c.parts.report.end c.hear.new.text.items) c.in-Ok.notice))) (ap (λ (l : List ℕ). c.parts.report.lines.items ++ l) c.in-Ok.ensures.front)) c.in_ok-add_noticed-in-Ok.ensures.moved c.in_ok-add_noticed-in-Ok.ensures.faults (one_event g.R.Reporter.reporting (told_by g.L.Listener.line (drop c.parts.report.end c.hear.new.text.items) c.in-Ok.notice))
+    c.split_at.ensures.back (c.in_ok-add_noticed-in-Ok.ensures.lines ∙ ap (λ (l : List ℕ). l ++ lines_from g.R.Reporter.reporting c.parts.reporter (option_to_list (told_by g.L.Listener.line (drop c.parts.report.end c.hear.new.text.items) c.in-Ok.notice))) (ap (λ (l : List ℕ). c.parts.report.lines.items ++ l) c.hear.ensures.front)) c.in_ok-add_noticed-in-Ok.ensures.moved c.in_ok-add_noticed-in-Ok.ensures.faults (one_event g.R.Reporter.reporting (told_by g.L.Listener.line (drop c.parts.report.end c.hear.new.text.items) c.in-Ok.notice))
     (c.in-Ok.ensures.some (some_left c.parts.rest.now _ c.is_empty.ensures c.parts-test.true)) (some_left c.parts.rest.now _ c.is_empty.ensures c.parts-test.true) in
     let wrote = c.in_ok-write_gathered-in-Ok.ensures.ok in
     record {
@@ -54,7 +54,7 @@ returns-in_err-write_gathered-in-Ok-clause-some g c =
     c.parts.reporter c.add_noticed.new.reporter (g.L.Listener.framing c.parts.listener) (g.L.Listener.framing c.hear.new.self) c.parts.rest.now c.split_at.result.1.now (g.K.Sink.held c.parts.out) (gathered c.parts.report) (gathered c.add_noticed.new.report)
     c.parts.report.faults c.add_noticed.new.report.faults c.in-Ok.taken (told_by g.L.Listener.line (drop c.parts.report.end c.hear.new.text.items) c.in-Ok.notice) c.parts.invariant.hearing
     (λ stream st. subst (λ tells. Hears tells (g.L.Listener.framing c.hear.new.self) stream (take c.in-Ok.taken c.parts.rest.now) (told_by g.L.Listener.line (drop c.parts.report.end c.hear.new.text.items) c.in-Ok.notice)) c.parts.invariant.same (c.in-Ok.ensures.hears stream st))
-    c.split_at.ensures.back (c.in_ok-add_noticed-in-Ok.ensures.lines ∙ ap (λ (l : List ℕ). l ++ lines_from g.R.Reporter.reporting c.parts.reporter (option_to_list (told_by g.L.Listener.line (drop c.parts.report.end c.hear.new.text.items) c.in-Ok.notice))) (ap (λ (l : List ℕ). c.parts.report.lines.items ++ l) c.in-Ok.ensures.front)) c.in_ok-add_noticed-in-Ok.ensures.moved c.in_ok-add_noticed-in-Ok.ensures.faults (one_event g.R.Reporter.reporting (told_by g.L.Listener.line (drop c.parts.report.end c.hear.new.text.items) c.in-Ok.notice))
+    c.split_at.ensures.back (c.in_ok-add_noticed-in-Ok.ensures.lines ∙ ap (λ (l : List ℕ). l ++ lines_from g.R.Reporter.reporting c.parts.reporter (option_to_list (told_by g.L.Listener.line (drop c.parts.report.end c.hear.new.text.items) c.in-Ok.notice))) (ap (λ (l : List ℕ). c.parts.report.lines.items ++ l) c.hear.ensures.front)) c.in_ok-add_noticed-in-Ok.ensures.moved c.in_ok-add_noticed-in-Ok.ensures.faults (one_event g.R.Reporter.reporting (told_by g.L.Listener.line (drop c.parts.report.end c.hear.new.text.items) c.in-Ok.notice))
     (c.in-Ok.ensures.some (some_left c.parts.rest.now _ c.is_empty.ensures c.parts-test.true)) (some_left c.parts.rest.now _ c.is_empty.ensures c.parts-test.true) in
     on_err c.from_residual-in_err-write_gathered-in-Ok.result (stops (g.L.Listener.tells c.args.listener.now) g.R.Reporter.reporting c.args.reporter.now (g.L.Listener.framing c.args.listener.now) c.args.bytes.now (g.K.Sink.held c.args.out.now) c.args.report.now.faults
     c.add_noticed.new.reporter (g.L.Listener.framing c.hear.new.self) c.split_at.result.1.now (g.K.Sink.held c.parts.out) (g.K.Sink.held c.write_gathered.new.out) (gathered c.add_noticed.new.report) c.add_noticed.new.report.faults
