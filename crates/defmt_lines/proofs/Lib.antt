@@ -11,3 +11,4 @@ pub mod OrderLaws
 pub mod SettingLaws
 mod Verdicts
 mod Spaces
+mod TextCuts

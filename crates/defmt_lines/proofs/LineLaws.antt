@@ -72,7 +72,7 @@ text_by text true o e f utf8 = (utf8, passed_found text e)
 text_by text false (Some line) e f utf8 = formed text line utf8 (worded_found text line f)
 text_by text false None e f utf8 = λ _ line s. nothing_spelled text line e f s
 
-text_found : (text : Text) → IsUtf8 text → Says text (line_of_text text)
+pub text_found : (text : Text) → IsUtf8 text → Says text (line_of_text text)
 text_found text utf8 = text_by text (is_blank text) (worded text) refl refl utf8
 
 known_by : (bytes : Text) (b : Bool) → is_utf8 bytes ≡ b → Says bytes (line_of_known (cond b (Some bytes) None))

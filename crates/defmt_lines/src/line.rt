@@ -3,7 +3,7 @@
 ghost use Rattle.std.specs.Prelude.{◌≡◌, ◌<◌, ◌++◌, ℕ, List, true, IfSome, codes, option_copied, option_map};
 ghost use Rattle.std.specs.Fmt.{decimal};
 ghost use Rattle.defmt_grammar.specs.Cut.{cut, parts_of};
-ghost use Rattle.defmt_lines.specs.Line.{Line as Said, Says, act_of, by_form, entry_of, field_and_rest, is_blank, is_string_tag, line_of, one_field, one_word, tag_of, text_of, two_fields, two_words, worded};
+ghost use Rattle.defmt_lines.specs.Line.{Line as Said, Says, act_of, by_form, entry_of, field_and_rest, is_blank, is_string_tag, line_of, line_of_text, one_field, one_word, tag_of, text_of, two_fields, two_words, worded};
 ghost use Rattle.defmt_lines.specs.LineView.{line_view};
 
 use crate::content::{ActionLine, EntryLine, Line, Words};
@@ -16,6 +16,13 @@ pub fn read_line(line: &[u8]) -> Line<'_>
     ensures { Says line.now (line_view result) }
 {
     line_of(line)
+}
+
+/// The same of a line that is known to be UTF-8.
+pub fn read_text_line(line: &str) -> Line<'_>
+    ensures { Says line.now (line_view result) }
+{
+    line_of_text(line)
 }
 
 /// A line says one thing.
@@ -31,6 +38,13 @@ fn line_of(line: &[u8]) -> Line<'_>
     let Some(text) = text_of(line) else {
         return Line::Other;
     };
+    line_of_text(text)
+}
+
+// The same of a text.
+fn line_of_text(text: &str) -> Line<'_>
+    ensures { line_view result ≡ line_of_text text.now }
+{
     if is_blank(text.as_bytes()) {
         return Line::Blank;
     }

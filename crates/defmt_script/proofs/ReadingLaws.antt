@@ -14,7 +14,7 @@ use Rattle.defmt_lines.specs.declared.cause.Cause.{Cause}
 use Rattle.defmt_lines.specs.declared.form.Form.{Form}
 use Rattle.defmt_lines.specs.declared.form.Form.TheVariants as forms
 use Rattle.defmt_lines.specs.declared.settings.Settings.{Settings}
-use Rattle.defmt_script.specs.Answers.{Answers, Becomes, GivesOnly, TakesLine}
+use Rattle.defmt_script.specs.Answers.{Answers, Becomes, GivesOnly, TakesLine, fault_of}
 use Rattle.defmt_script.specs.Reads.{Reads, ReadsLines, Takes, TakesAction, TakesSetting, TakesString, TakesStatement, admits_statement, admits_string, refusal_at, sets, takes_arguments, takes_string}
 use Rattle.defmt_script.specs.Script.{Script, Refusal}
 use Rattle.defmt_script.specs.State.{State, closed, no_lines}
@@ -47,6 +47,12 @@ pub refuses : (state : State) (number : ℕ) (rest text bytes after : List ℕ) 
 refuses state number rest text bytes after reading next line cause says wrong =
     let read : Answer = Err (refusal_at (number + 1) cause) in
     reading.then read (subst (λ (ls : List (List ℕ)). ReadsLines state (number + 1) ls read) (sym next) (inr (line, cause, says, wrong, refl)))
+
+-- the same as it is answered
+pub refuses_by : (state new : State) (number n : ℕ) (rest text bytes after : List ℕ) → IsReading state number rest text → lines rest ≡ bytes ∷ lines after
+    → (line : Line) (fault : LineFault) → Says bytes line → n ≡ number + 1 → TakesLine state line (Err fault) new → Answers text (Err (fault_of n fault))
+refuses_by state new number n rest text bytes after reading next line (line_faults.Refused cause) says e wrong = rw e (refuses state number rest text bytes after reading next line cause says wrong)
+refuses_by state new number n rest text bytes after reading next line line_faults.Memory says e wrong = tt
 
 -- no bytes are no lines
 pub ends : (state : State) (number : ℕ) (rest text : List ℕ) → IsReading state number rest text → (length rest == 0) ≡ true → (script : Script) → script ≡ (closed state).script

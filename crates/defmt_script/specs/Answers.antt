@@ -1,5 +1,6 @@
 -- What the calls answer.
 use Rattle.std.specs.Prelude.{◌≡◌, ℕ, List, Result, Ok, Err}
+use Rattle.defmt_lines.specs.Cause.{cause_number, inner_number}
 use Rattle.defmt_lines.specs.Line.{Line}
 use Rattle.defmt_lines.specs.declared.cause.Cause.{Cause}
 use Rattle.defmt_script.specs.Reads.{Reads, Takes}
@@ -25,6 +26,12 @@ GivesOnly (Err (faults.Refused line cause inner)) read =
 GivesOnly (Err faults.Memory) read = Unit {0}
 
 -- ---- one line
+
+-- what is answered for a line of this number that isn't taken
+abbrev pub fault_of : ℕ → LineFault → ScriptFault
+fault_of line (line_faults.Refused cause) =
+    faults.Refused line (cause_number cause) (inner_number cause)
+fault_of line line_faults.Memory = faults.Memory
 
 -- the line was taken, or is refused, or memory ran out
 abbrev pub TakesLine : State → Line → Result (Unit {0}) LineFault → State → Type 0

@@ -1,15 +1,16 @@
 //! The reading of a script.
 
 ghost use Rattle.std.specs.Prelude.{◌≡◌, ◌<◌, ◌^◌, ℕ, List, Result, length};
-ghost use Rattle.defmt_script.specs.Answers.{Answers, GivesOnly};
+ghost use Rattle.defmt_script.specs.Answers.{Answers, GivesOnly, fault_of};
 ghost use Rattle.defmt_script.specs.Reads.{Reads};
 ghost use Rattle.defmt_script.specs.Script.{Refusal, Script as Read};
 
 use crate::fault::{LineFault, ScriptFault};
 use crate::reading::Reading;
 use crate::script::Script;
-use defmt_lines::{next_line, one_verdict, read_line};
+use defmt_lines::{next_line, next_text_line, one_verdict, read_line, read_text_line};
 use std::alloc::Global;
+use std::str;
 
 /// The script that a text spells, line by line.
 ///
@@ -36,7 +37,54 @@ pub fn one_reading()
     defmt_spelling::one_reading();
 }
 
+// What is answered for a line that isn't taken.
+fn fault_of(number: u32, fault: LineFault) -> ScriptFault
+    ensures { result ≡ fault_of number fault }
+{
+    match fault {
+        LineFault::Refused(cause) => ScriptFault::Refused {
+            line: number,
+            cause: cause.number(),
+            inner: cause.inner(),
+        },
+        LineFault::Memory => ScriptFault::Memory,
+    }
+}
+
+// Whether the whole text is UTF-8 is looked at once: then each of its lines is.
 fn read_lines(alloc: Global, text: &[u8]) -> Result<Script, ScriptFault>
+    requires { length text.now < 2 ^ 32 }
+    ensures { Answers text.now result }
+{
+    match str::from_utf8(text) {
+        Ok(text) => read_text(alloc, text),
+        Err(_) => read_bytes(alloc, text),
+    }
+}
+
+// A script that is UTF-8.
+fn read_text(alloc: Global, text: &str) -> Result<Script, ScriptFault>
+    requires { length text.now < 2 ^ 32 }
+    ensures { Answers text.now result }
+{
+    let mut reading = Reading::new(alloc)?;
+    let mut number = 0u32;
+    let mut rest = text;
+    while !rest.is_empty() {
+        let (line, after) = next_text_line(rest);
+        number += 1;
+        match reading.take_line(read_text_line(line)) {
+            Ok(()) => {}
+            Err(fault) => return Err(fault_of(number, fault)),
+        }
+        rest = after;
+    }
+    Ok(reading.finish()?)
+}
+
+// A script that isn't: each line is looked at by itself.
+#[inline(never)]
+fn read_bytes(alloc: Global, text: &[u8]) -> Result<Script, ScriptFault>
     requires { length text.now < 2 ^ 32 }
     ensures { Answers text.now result }
 {
@@ -48,14 +96,7 @@ fn read_lines(alloc: Global, text: &[u8]) -> Result<Script, ScriptFault>
         number += 1;
         match reading.take_line(read_line(line)) {
             Ok(()) => {}
-            Err(LineFault::Refused(cause)) => {
-                return Err(ScriptFault::Refused {
-                    line: number,
-                    cause: cause.number(),
-                    inner: cause.inner(),
-                });
-            }
-            Err(LineFault::Memory) => return Err(ScriptFault::Memory),
+            Err(fault) => return Err(fault_of(number, fault)),
         }
         rest = after;
     }

@@ -1,0 +1,15 @@
+use Rattle.std.proofs.Common.{refl, arith}
+use Rattle.defmt_lines.specs.LineView.{line_view}
+use Rattle.defmt_script.proofs.ReadingLaws.{goes_on, refuses_by}
+use Rattle.defmt_script.proofs.top.read_bytes.Goals as goal
+
+pub loop-rest-preserved : goal.loop-rest-preserved
+loop-rest-preserved c = record {
+  reading = goes_on _ _ _ _ _ c.next_line.result.1.now c.loop-rest.invariant.reading c.next_line.ensures.lines (line_view c.read_line.result) c.take_line.new.self c.read_line.ensures c.in-Ok.ensures;
+  number = omega (arith, c.next_line.ensures.shorter);
+}
+
+pub returns-in-Err : goal.returns-in-Err
+returns-in-Err c =
+    rw c.fault_of.ensures
+    (refuses_by c.loop-rest.reading c.take_line.new.self c.loop-rest.number _ _ c.args.text.now c.next_line.result.0.now c.next_line.result.1.now c.loop-rest.invariant.reading c.next_line.ensures.lines (line_view c.read_line.result) c.in-Err.fault c.read_line.ensures refl c.in-Err.ensures)
