@@ -1,4 +1,4 @@
--- What a notice tells, where the text of a line stands at the front of a buffer.
+-- What a notice tells, where the text of a line stands behind a place of a buffer. The definitions take what lies behind the place.
 use Rattle.std.specs.Prelude.{◌≤◌, ℕ, List, length, take, Option, Some, None}
 use Rattle.defmt_framing.specs.declared.notice.Notice.{Notice}
 use Rattle.defmt_framing.specs.declared.notice.Notice.TheVariants as notices

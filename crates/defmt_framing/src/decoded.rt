@@ -4,7 +4,7 @@ ghost use Rattle.rzcobs_core.specs.Blocks.{Blocks, IsNoCode};
 ghost use Rattle.defmt_framing.specs.Cut.{has_zero};
 ghost use Rattle.defmt_framing.specs.Decoded.{decoded};
 
-use rzcobs_core::{Malformed, decode, decode_to_end, decode_zeroless_to_end};
+use rzcobs_core::{Malformed, decode, decode_zeroless_to_end};
 
 /// What a piece stands for as a function of it, and as a sequence of blocks, agree.
 pub fn decoded_is()
@@ -31,21 +31,8 @@ pub fn decode_piece(piece: &[u8], out: &mut [u8]) -> Option<usize>
     }
 }
 
-/// The same, but what the piece stands for is written to the end of the buffer, and where it begins
-/// is answered. The buffer may hold anything in front of that.
-#[inline(never)]
-pub fn decode_piece_to_end(piece: &[u8], out: &mut [u8]) -> Option<usize>
-    requires { 7 * length piece.now ≤ length out.old }
-    ensures decoded { decoded piece.now ≡ option_map (λ begin. drop begin out.new) result }
-    ensures within { IfSome result (λ begin. begin ≤ length out.new) }
-{
-    match decode_to_end(piece, out) {
-        Ok(begin) => Some(begin),
-        Err(Malformed) => None,
-    }
-}
-
-/// The same of a piece without a zero, as it stands between two zeros of a stream.
+/// The same of a piece without a zero, as it stands between two zeros of a stream, but what the piece stands for is written to the
+/// end of the buffer, and where it begins is answered. The buffer may hold anything in front of that.
 pub fn decode_zeroless_piece(piece: &[u8], out: &mut [u8]) -> Option<usize>
     requires room { 7 * length piece.now ≤ length out.old }
     requires none { has_zero piece.now ≡ false }

@@ -1,6 +1,6 @@
 //! What a listener notices.
 
-/// What some bytes of a stream tell, where the text of a line stands at the front of a buffer.
+/// What some bytes of a stream tell, where the text of a line stands behind a place of a buffer.
 #[derive(Drop)]
 pub enum Notice<E, M> {
     /// Nothing: they end no front and no piece.

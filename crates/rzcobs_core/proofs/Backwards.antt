@@ -2,7 +2,7 @@
 use Rattle.std.proofs.Common.{◌≡◌, ◌≢◌, inl, inr, ℕ, zero, suc, ◌+◌, ◌-◌, ◌*◌, ◌/◌, ◌%◌, ◌^◌, ◌<◌, ◌≤◌, ◌==◌, false, List, [], ◌∷◌, ◌++◌, length, get_or, take, drop, set, All, refl, sym, ◌∙◌, ap, subst, arith, length-append, append_assoc}
 use Rattle.std.proofs.lemmas.Bool.{cases_eq}
 use Rattle.std.proofs.lemmas.Bool.Decides.{nat_tests}
-use Rattle.std.proofs.lemmas.List.{append-nil, take_more_set, take_more, take_all, drop_all, drop-set, get_or-append-add, get_or_append_left, length-take-le, length-drop, get_or-take, get_or-drop, same_lists, nil_from_length, drop_at, drop-drop, take-append-drop}
+use Rattle.std.proofs.lemmas.List.{append-nil, take_more_set, take_more, take_all, drop_all, drop-set, get_or-append-add, get_or_append_left, length-take-le, length-drop, get_or-take, get_or-drop, same_lists, drop_at, drop-drop, take-append-drop}
 use Rattle.std.proofs.Math.Nat.{pow-succ'}
 use Rattle.std.specs.Int.Count.{ones, ones_step, ones-le}
 use borrow.Rule.Slice.PartMut.{put_mid, post_of}
@@ -303,11 +303,6 @@ no_code piece out rest at some d none bytes blocks =
       | inl empty ↦ absurd (omega (arith, ap length empty.0))
       | inr l ↦ none l.front l.last l.last_bytes l.is l.code_is
     ]
-
-pub all_read : (piece out rest after : List ℕ) (at : ℕ) → length rest ≡ 0 → Decodes piece out rest at → take (length out - at) after ≡ drop at out → Blocks piece (take (length out - at) after)
-all_read piece out rest after at none d moved =
-    let e : piece ≡ d.done = d.piece_is ∙ ap (λ (l : List ℕ). l ++ d.done) (nil_from_length rest none) in
-    subst (λ (l : List ℕ). Blocks piece l) (sym (moved ∙ d.put)) (subst (λ (l : List ℕ). Blocks l d.bytes) (sym e) d.blocks)
 
 pub moved_down : (out old : List ℕ) (at n : ℕ) → length out ≡ length old → n ≡ length old - at → at ≤ length old → ((k d : ℕ) → k < n → get_or out k d ≡ get_or old (at + k) d) → take n out ≡ drop at old
 moved_down out old at n size is within moved = same_lists (take n out) (drop at old)

@@ -22,30 +22,20 @@ pub fn decode(piece: &[u8], out: &mut [u8]) -> Result<usize, Malformed>
         (λ count. (count ≤ length out.new) × Blocks piece.now (take count out.new)) }
     ensures malformed { IsErr result → IsNoCode piece.now }
 {
-    let at = decode_to_end(piece, out)?;
+    if has_zero(piece) {
+        return Err(Malformed);
+    }
+    let at = decode_zeroless_to_end(piece, out)?;
     move_down(out, at);
     Ok(out.len() - at)
 }
 
-/// The same, but what the piece stands for is written to the end of the buffer, and where it begins is
-/// answered. The buffer may hold anything in front of that.
-pub fn decode_to_end(piece: &[u8], out: &mut [u8]) -> Result<usize, Malformed>
-    requires { 7 * length piece.now ≤ length out.old }
-    ensures found { IfOk result
-        (λ begin. (begin ≤ length out.new) × Blocks piece.now (drop begin out.new)) }
-    ensures malformed { IsErr result → IsNoCode piece.now }
-{
-    if has_zero(piece) {
-        return Err(Malformed);
-    }
-    decode_zeroless_to_end(piece, out)
-}
-
-/// The same of a piece without a zero, as it stands between two zeros of a stream.
+/// Reads a piece without a zero, as it stands between two zeros of a stream: what it stands for is written to the end of the
+/// buffer, and where it begins is answered. The buffer may hold anything in front of that. Takes no memory.
 #[inline(never)]
 pub fn decode_zeroless_to_end(piece: &[u8], out: &mut [u8]) -> Result<usize, Malformed>
     requires room { 7 * length piece.now ≤ length out.old }
-    requires non { All (λ b. b ≢ 0) piece.now }
+    requires none { All (λ b. b ≢ 0) piece.now }
     ensures found { IfOk result
         (λ begin. (begin ≤ length out.new) × Blocks piece.now (drop begin out.new)) }
     ensures malformed { IsErr result → IsNoCode piece.now }
@@ -79,7 +69,7 @@ fn has_zero(bytes: &[u8]) -> bool
 // Reads the last block, and puts what it stands for in front of the place. None where no block
 // stands at the end.
 fn read_last<'a>(piece: &'a [u8], out: &mut [u8], at: usize) -> Option<(&'a [u8], usize)>
-    requires non { All (λ b. b ≢ 0) piece.now }
+    requires none { All (λ b. b ≢ 0) piece.now }
     requires within { at ≤ length out.old }
     requires room { 7 * length piece.now ≤ at }
     ensures { MatchOption result (EndsInNoBlock piece.now)
@@ -98,7 +88,7 @@ fn read_last<'a>(piece: &'a [u8], out: &mut [u8], at: usize) -> Option<(&'a [u8]
 
 // Reads a last block of the first form.
 fn read_few<'a>(before: &'a [u8], code: u8, out: &mut [u8], at: usize) -> Option<(&'a [u8], usize)>
-    requires non { All (λ b. b ≢ 0) before.now }
+    requires none { All (λ b. b ≢ 0) before.now }
     requires small { code < 128 }
     requires within { at ≤ length out.old }
     requires room { 7 ≤ at }
@@ -124,7 +114,7 @@ fn read_zero_after<'a>(
     out: &mut [u8],
     at: usize,
 ) -> Option<(&'a [u8], usize)>
-    requires non { All (λ b. b ≢ 0) before.now }
+    requires none { All (λ b. b ≢ 0) before.now }
     requires large { 128 ≤ code }
     requires small { code < 255 }
     requires within { at ≤ length out.old }
@@ -142,7 +132,7 @@ fn read_zero_after<'a>(
 
 // Reads a last block of the third form.
 fn read_none_zero<'a>(before: &'a [u8], out: &mut [u8], at: usize) -> Option<(&'a [u8], usize)>
-    requires non { All (λ b. b ≢ 0) before.now }
+    requires none { All (λ b. b ≢ 0) before.now }
     requires within { at ≤ length out.old }
     requires room { 7 * length before.now + 7 ≤ at }
     ensures { MatchOption result (EndsInNoBlock (before.now ++ 255 ∷ []))
@@ -157,7 +147,6 @@ fn read_none_zero<'a>(before: &'a [u8], out: &mut [u8], at: usize) -> Option<(&'
 // Puts the last bytes in front of the place. It stands apart, so that what reads short blocks has none of the copying's registers.
 #[inline(never)]
 fn read_run<'a>(before: &'a [u8], stored: usize, out: &mut [u8], at: usize) -> (&'a [u8], usize)
-    requires non { All (λ b. b ≢ 0) before.now }
     requires stored { stored ≤ length before.now }
     requires within { at ≤ length out.old }
     requires room { stored ≤ at }
@@ -180,7 +169,7 @@ fn stored_of(code: u8) -> usize
 
 // Puts seven bytes: a zero for each set bit, and the stored bytes, of which none is zero, in their order.
 fn put_seven(code: u8, stored: &[u8], seven: &mut [u8])
-    requires non { All (λ b. b ≢ 0) stored.now }
+    requires none { All (λ b. b ≢ 0) stored.now }
     requires small { code < 128 }
     requires count { length stored.now ≡ clear_bits 7 code }
     requires seven { length seven.old ≡ 7 }

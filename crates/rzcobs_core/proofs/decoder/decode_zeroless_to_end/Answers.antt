@@ -14,5 +14,5 @@ blocks-2-smaller c = shorter c.blocks-2.rest.now c.blocks-2.out c.in-Some.front.
 pub blocks-2-preserved : goal.blocks-2-preserved
 blocks-2-preserved c = goes_on c.args.piece.now c.blocks-2.out c.blocks-2.rest.now c.in-Some.front.now c.read_last.new.out c.blocks-2.at c.in-Some.begin (omega arith) c.blocks-2.invariant c.in-Some.ensures
 
-pub read_last-requires-clause-non : goal.read_last-requires-clause-non
-read_last-requires-clause-non c = NoZero-before c.args.piece.now c.blocks-2.rest.now c.blocks-2.invariant.done c.blocks-2.invariant.piece_is c.requires.non
+pub read_last-requires-clause-none : goal.read_last-requires-clause-none
+read_last-requires-clause-none c = NoZero-before c.args.piece.now c.blocks-2.rest.now c.blocks-2.invariant.done c.blocks-2.invariant.piece_is c.requires.none
