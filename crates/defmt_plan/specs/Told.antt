@@ -30,7 +30,8 @@ pub record IsHead (profile : Profile) (bytes : List ℕ) (head : Head) : Type 0 
   pub carried : Carried bytes 0 head.read (little_bytes 2 head.index ++ place_bytes head.place)
 
 -- the stamp, where the table has one
-pub record StampPassed (t : Map) (bytes : List ℕ) (from to : ℕ) (old : List ℕ) (at : ℕ) (new : List ℕ) (end : ℕ) : Type 0 where
+pub record StampPassed (t : Map) (bytes : List ℕ) (from to : ℕ) (old : List ℕ) (at : ℕ)
+    (new : List ℕ) (end : ℕ) : Type 0 where
   pub stamp : Vals
   pub fits : FitsStamp t (stamp_of t) stamp
   pub sound : AreSound stamp
@@ -40,7 +41,8 @@ pub record StampPassed (t : Map) (bytes : List ℕ) (from to : ℕ) (old : List 
 
 abbrev pub StampPasses : Option Progress → Map → List ℕ → ℕ → List ℕ → ℕ → List ℕ → Type 0
 StampPasses None t bytes from old at new = Kept old at new
-StampPasses (Some after) t bytes from old at new = StampPassed t bytes from after.read old at new after.written
+StampPasses (Some after) t bytes from old at new =
+    StampPassed t bytes from after.read old at new after.written
 
 -- the arguments of a string, with the text of these of its pieces
 pub record ArgumentsPassed (t : Map) (all pieces : List Piece) (bytes : List ℕ) (from to : ℕ)
@@ -60,7 +62,8 @@ PassesArguments (Some after) t all pieces bytes from old at new =
     ArgumentsPassed t all pieces bytes from after.read old at new after.written
 
 -- a message that is heard, with its line behind a place
-pub record IsTold (t : Catalog) (bytes : List ℕ) (place : Option ℕ) (index : ℕ) (old : List ℕ) (at : ℕ) (new : List ℕ) (end : ℕ) : Type 0 where
+pub record IsTold (t : Catalog) (bytes : List ℕ) (place : Option ℕ) (index : ℕ) (old : List ℕ)
+    (at : ℕ) (new : List ℕ) (end : ℕ) : Type 0 where
   pub stamp : Vals
   pub args : Vals
   pub heard : IsHeard t bytes place stamp index args

@@ -28,7 +28,8 @@ pub(crate) fn pass_uint(
 ) -> Option<Progress>
     requires read { before.read ≤ length bytes.now }
     requires written { before.written ≤ length out.old }
-    ensures { (t : Map) → PassesOne result t (kinds.Uint size) hint bytes.now before out.old out.new }
+    ensures { (t : Map) → PassesOne result t (kinds.Uint size) hint bytes.now before
+        out.old out.new }
 {
     let number = take_sized(bytes, before.read, size)?;
     let written = put_uint(out, before.written, number, hint)?;
@@ -42,7 +43,8 @@ pub(crate) fn pass_uint(
 fn pass_bool(bytes: &[u8], before: Progress, out: &mut [u8]) -> Option<Progress>
     requires read { before.read ≤ length bytes.now }
     requires written { before.written ≤ length out.old }
-    ensures { (t : Map) (hint : Shape) → PassesOne result t kinds.Bool hint bytes.now before out.old out.new }
+    ensures { (t : Map) (hint : Shape) → PassesOne result t kinds.Bool hint bytes.now before
+        out.old out.new }
 {
     let value = take_bool(bytes, before.read)?;
     let written = put_bool(out, before.written, value)?;
@@ -76,7 +78,8 @@ fn pass_int(
 ) -> Option<Progress>
     requires read { before.read ≤ length bytes.now }
     requires written { before.written ≤ length out.old }
-    ensures { (t : Map) → PassesOne result t (kinds.Int size) hint bytes.now before out.old out.new }
+    ensures { (t : Map) → PassesOne result t (kinds.Int size) hint bytes.now before
+        out.old out.new }
 {
     let half = half_of(size)?;
     let number = take_sized(bytes, before.read, size)?;
@@ -127,7 +130,8 @@ fn pass_array(
 ) -> Option<Progress>
     requires read { before.read ≤ length bytes.now }
     requires written { before.written ≤ length out.old }
-    ensures { (t : Map) → PassesOne result t (kinds.ByteArray count) hint bytes.now before out.old out.new }
+    ensures { (t : Map) → PassesOne result t (kinds.ByteArray count) hint bytes.now before
+        out.old out.new }
 {
     let size = usize::from(count);
     let chunk = take_chunk(bytes, before.read, size)?;

@@ -35,7 +35,8 @@ pub(crate) enum StampPlan {
 
 // The steps of the string at an index, where it has some that are usual.
 fn steps_at(alloc: Global, table: &Table, index: u16) -> Result<Option<Vec<Step>>, Memory>
-    ensures { IfOk result (λ r. IfSome r (λ steps. AreStepsOf table.now.entries index steps.items)) }
+    ensures { IfOk result (λ r. IfSome r (λ steps.
+        AreStepsOf table.now.entries index steps.items)) }
 {
     let Some((_, body)) = look_up(table, index) else {
         return Ok(None);

@@ -28,7 +28,8 @@ const LONGEST: usize = 65536;
 // The most levels of Format values.
 const LEVELS: u8 = 16;
 
-/// A table, and a plan of each of its strings that is of a level or of println, and usual. Contracts see it as its table.
+/// A table, and a plan of each of its strings that is of a level, of println or of Format values, and usual. Contracts see it as its
+/// table.
 ///
 /// A string is usual where it uses the positions in order, and each once, unless for bit fields of one number.
 #[derive(Drop)]

@@ -16,7 +16,8 @@ use std::str;
 #[inline(always)]
 pub(crate) fn take_uint(bytes: &[u8], at: usize, width: usize) -> Option<u64>
     requires within { at ≤ length bytes.now }
-    ensures carried { IfSome result (λ n. Carried bytes.now at (at + width) (little_bytes width n)) }
+    ensures carried { IfSome result (λ n. Carried bytes.now at (at + width)
+        (little_bytes width n)) }
     ensures small { IfSome result (λ n. n < 256 ^ width) }
 {
     if bytes.len() - at < width {
@@ -81,7 +82,8 @@ pub(crate) fn take_bool(bytes: &[u8], at: usize) -> Option<bool>
 /// The text behind a place, in front of which its length stands.
 pub(crate) fn take_str(bytes: &[u8], at: usize) -> Option<&str>
     requires within { at ≤ length bytes.now }
-    ensures carried { IfSome result (λ s. Carried bytes.now at (at + 4 + length s.now) (little_bytes 4 (length s.now) ++ s.now)) }
+    ensures carried { IfSome result (λ s. Carried bytes.now at (at + 4 + length s.now)
+        (little_bytes 4 (length s.now) ++ s.now)) }
     ensures text { IfSome result (λ s. IsUtf8 s.now) }
     ensures few { IfSome result (λ s. length s.now < 2 ^ 32) }
 {
