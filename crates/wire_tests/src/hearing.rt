@@ -1,157 +1,37 @@
-//! Recordings heard by a listener of letters.
-ghost use Rattle.std.specs.Prelude.{[], ◌∷◌, true, false, None};
+//! Recordings that a listener hears.
+ghost use Rattle.std.specs.Prelude.{None};
 
-// Recordings that a listener hears, which has a letter for each part.
+use crate::ears::{Ear, Scribe};
 use crate::rows::Kind;
-use defmt_framing::{Framer, Notice, Teller};
-use defmt_listen::{ListenFault, Listener, Reporter, listen, listen_bytes};
-use dl_io::{Bytes, Failed, MemSink, MemSource, Memory, RepeatSource, Source};
+use defmt_listen::{ListenFault, listen, listen_bytes};
+use dl_io::{Bytes, Failed, MemSink, MemSource, RepeatSource, Source};
 use std::alloc::Global;
 use std::fmt::Write;
 use std::test::Fail;
 use test_rows::{bytes_of, each_line, put_str};
 
-// The digits of a recording, of a read and of a write that fail, and the answer and the lines: a letter and a point for its newline.
+// The digits of a recording, of a read and of a write that fail, and the answer and what is printed, with a point for each
+// newline. A piece of one byte is asked for, one of two is kept, and a longer one is left out; a fault has a letter alone.
 const HEARD: &str = "\
-07 00 01 02 00 00 03 00 09/ /  = 2 faults, f.p.p.t.
-07 00 01 02 00 00 03 00 09/01/ = source, f.p.p.
-07 00 01 02 00 00 03 00 09/ /01 = sink, f.p.p.";
+07 00 61 62 00 00 63 00 09/ / = 2 faults, fab.c.t
+07 00 61 62 00 00 63 00 09/01/ = source, fab.c.
+07 00 61 62 00 00 63 00 09/ /01 = sink, fab.c.
+00 61 62 00 63 64 00 65 66 67 00 68 00 69 6a 00/ / = 0 faults, ab.cd.h.ij.
+61 62 63 00 65 66 67 00/ / = 1 faults, f
+00 61 62 63 00/ / = 0 faults, nothing";
 
-// A byte and how often the source gives it, and the answer, the lines, and for how many bytes the source was asked at most at a time.
+// A byte and how often the source gives it, and the answer, what is printed, and for how many bytes the source was asked at most
+// at a time.
 const REPEATED: &str = "\
 0 268435457 = too long, nothing, 65536 at most
 0 200000 = 0 faults, nothing, 65536 at most";
 
-// The digits of bytes at hand and of a write that fails, and the answer and the lines.
+// The digits of bytes at hand and of a write that fails, and the answer and what is printed.
 const AT_HAND: &str = "\
-07 00 01 02 00 00 03 00 09/ = 2 faults, f.p.p.t.
-07 00 01 02 00 00 03 00 09/01 = sink, f.p.p.
+07 00 61 62 00 00 63 00 09/ = 2 faults, fab.c.t
+07 00 61 62 00 00 63 00 09/01 = sink, fab.c.
+00 61 62 00/00 = sink, nothing
 / = 0 faults, nothing";
-
-// What a part tells: a letter. All but pieces are faults.
-#[derive(Drop)]
-struct Mark {
-    letter: u8,
-    fault: bool,
-}
-
-#[derive(Drop)]
-struct Letters;
-
-impl Teller for Letters {
-    type Told = Mark;
-
-    ghost tells = { λ _. record {
-      piece = λ _. record { letter = 112; fault = false };
-      long = record { letter = 108; fault = true };
-      cut_front = λ _. record { letter = 102; fault = true };
-      cut_tail = λ _. record { letter = 116; fault = true };
-    } };
-
-    fn piece(&mut self, _piece: &[u8]) -> Result<Mark, Memory> {
-        Ok(Mark {
-            letter: b'p',
-            fault: false,
-        })
-    }
-
-    fn long(&self) -> Mark {
-        Mark {
-            letter: b'l',
-            fault: true,
-        }
-    }
-
-    fn cut_front(&self, _bytes: u64) -> Mark {
-        Mark {
-            letter: b'f',
-            fault: true,
-        }
-    }
-
-    fn cut_tail(&self, _bytes: u64) -> Mark {
-        Mark {
-            letter: b't',
-            fault: true,
-        }
-    }
-}
-
-#[derive(Drop)]
-struct Ear {
-    framer: Framer,
-    letters: Letters,
-}
-
-impl Listener for Ear {
-    type Event = Mark;
-
-    type Mark = u8;
-
-    ghost line = { λ letter _. record { letter = letter; fault = false } };
-
-    ghost tells = { λ _. record {
-      piece = λ _. record { letter = 112; fault = false };
-      long = record { letter = 108; fault = true };
-      cut_front = λ _. record { letter = 102; fault = true };
-      cut_tail = λ _. record { letter = 116; fault = true };
-    } };
-
-    ghost framing = { λ ear. ear.framer };
-
-    fn hear(
-        &mut self,
-        bytes: &[u8],
-        _text: &mut Vec<u8>,
-        _at: usize,
-    ) -> Result<(usize, Notice<Mark, u8>), Memory> {
-        let (taken, told) = self.framer.feed(&mut self.letters, bytes)?;
-        match told {
-            Some(mark) => Ok((taken, Notice::Event(mark))),
-            None => Ok((taken, Notice::Nothing)),
-        }
-    }
-
-    fn finish(self) -> Option<Mark> {
-        self.framer.finish(&self.letters)
-    }
-}
-
-// Prints the letter of each mark.
-#[derive(Drop)]
-struct Scribe;
-
-impl Reporter<Ear> for Scribe {
-    ghost reporting = { record {
-      line = λ _ mark. mark.letter ∷ 10 ∷ [];
-      after = λ scribe _. scribe;
-      is_fault = λ mark. mark.fault;
-    } };
-
-    fn add_line(&mut self, _alloc: Global, event: Mark, out: &mut Bytes) -> Result<(), Memory> {
-        out.reserve(2)?;
-        out.push_reserved(event.letter);
-        out.push_reserved(b'\n');
-        Ok(())
-    }
-
-    fn add_text(
-        &mut self,
-        _alloc: Global,
-        letter: u8,
-        _text: &[u8],
-        out: &mut Bytes,
-    ) -> Result<(), Memory> {
-        out.reserve(2)?;
-        out.push_reserved(letter);
-        out.push_reserved(b'\n');
-        Ok(())
-    }
-
-    fn is_fault(&self, event: &Mark) -> bool {
-        event.fault
-    }
-}
 
 // A source that knows for how many bytes it was asked at most at a time.
 #[derive(Drop)]
@@ -227,10 +107,7 @@ fn put_heard_of<S: Source>(
     out: &mut String,
 ) -> Result<(), Fail> {
     let mut sink = sink_of(alloc, fails)?;
-    let ear = Ear {
-        framer: Framer::new(alloc),
-        letters: Letters,
-    };
+    let ear = Ear::new(alloc);
     put_answer(listen(alloc, source, &mut sink, ear, Scribe), out)?;
     put_letters(sink.held(), out)
 }
@@ -247,10 +124,7 @@ fn put_listened(alloc: Global, bytes: &[u8], fails: &str, out: &mut String) -> R
         return Err(Fail::new("there are too many bytes"));
     }
     let mut sink = sink_of(alloc, fails)?;
-    let ear = Ear {
-        framer: Framer::new(alloc),
-        letters: Letters,
-    };
+    let ear = Ear::new(alloc);
     put_answer(listen_bytes(alloc, bytes, &mut sink, ear, Scribe), out)?;
     put_letters(sink.held(), out)
 }
@@ -276,7 +150,7 @@ pub fn put_repeated(alloc: Global, row: &str, out: &mut String) -> Result<(), Fa
 
 #[test]
 fn a_recording_is_heard_in_parts_up_to_a_fault_or_its_limit(rt: HostRuntime) -> Result<(), Fail> {
-    each_line(rt.alloc(), HEARD, 3, &Kind::Heard)?;
-    each_line(rt.alloc(), AT_HAND, 3, &Kind::AtHand)?;
+    each_line(rt.alloc(), HEARD, 6, &Kind::Heard)?;
+    each_line(rt.alloc(), AT_HAND, 4, &Kind::AtHand)?;
     each_line(rt.alloc(), REPEATED, 2, &Kind::Repeated)
 }

@@ -4,6 +4,8 @@
 #[cfg(test)]
 mod codes;
 #[cfg(test)]
+mod ears;
+#[cfg(test)]
 mod events;
 #[cfg(test)]
 mod hearing;
