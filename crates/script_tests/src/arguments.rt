@@ -95,7 +95,35 @@ s num defmt_prim {=u8}
 s pt defmt_derived Pt {{ x: {=?}, y: {=?} }}
 args <pt(num(3) num(255)) opt:1(num(255))>
 =
-<pt(num(3) num(255)) opt:1(num(255))>";
+<pt(num(3) num(255)) opt:1(num(255))>
+
+s log defmt_info {=?} {=?}
+s pair defmt_prim {=str}{=?}
+s num defmt_prim {=u8}
+s z defmt_prim z
+args <num(1) num(2)>
+args <num(1)  num( 2 ) >
+args <z() pair(\")\" z())>
+args <z() pair(\"(\" pair(\"\" z()))>
+args <num(1) num(2) num(3)>
+args <num(1) num(2)) num(3)>
+args <num(1) z(2)>
+args <num(1) num(300)>
+args <num(1) num(2>
+args <num(1) num 2)>
+args <num(1) mun(2)>
+=
+<num(1) num(2)>
+<num(1) num(2)>
+<z() pair(\")\" z())>
+<z() pair(\"(\" pair(\"\" z()))>
+cause 2
+cause 1
+cause 2
+cause 4
+cause 1
+cause 1
+cause 5";
 
 // The same of strings that no script has, and of names that are given beside them.
 const BY_LINES: &str = "\
@@ -246,6 +274,6 @@ fn each_kind_has_its_spelling_and_its_causes(rt: HostRuntime) -> Result<(), Fail
 
 #[test]
 fn strings_are_found_by_their_names_and_the_least_is_written(rt: HostRuntime) -> Result<(), Fail> {
-    each_block(rt.alloc(), BY_SCRIPTS, 3, &Kind::WrittenByScript)?;
+    each_block(rt.alloc(), BY_SCRIPTS, 4, &Kind::WrittenByScript)?;
     each_block(rt.alloc(), BY_LINES, 2, &Kind::AnswersOf)
 }
