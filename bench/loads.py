@@ -1,7 +1,7 @@
 #!/usr/bin/env python3
 """Counts the instructions of `decode`, `print` and `record` for a frame or a statement of each load, and holds them against those of a plain program.
 
-    bench/loads.py [--plain PLAIN] [--only NAME,..] [PROGRAM]
+    bench/loads.py [--plain PLAIN] [--only 'NAME;..'] [PROGRAM]
 
 The program is the one that ./defmtl built, unless one is named. A load is a script of one string or some, with statements of one kind. Each command is
 counted by callgrind at 512 and at 2,048 statements, and the difference is divided by the statements between them, so that starting costs fall away.
@@ -53,11 +53,7 @@ def listed(i):
     return "point[" + " ".join(f"({number(i + k) % 2001 - 1000} {number(i * k) % 256})" for k in range(16)) + "]"
 
 
-def one_of_many(i):
-    return f"{number(i) % 65536}"
-
-
-def fields(i):
+def half(i):
     return f"{number(i) % 65536}"
 
 
@@ -81,8 +77,8 @@ LOADS = {
     "bytes of 200": (["s a defmt_info got {=[u8]}"], some_bytes),
     "nested four deep": (NESTED + ["s a defmt_info state {=?}"], nested),
     "list of 16": (["s point defmt_derived ({=i16}, {=u8})", "s a defmt_info track {=[?]}"], listed),
-    "1,000 strings": ([f"s a{k} defmt_info message number {k} has {{=u16}}" for k in range(1000)], one_of_many),
-    "bit fields": (["s a defmt_info {0=0..4} {0=4..8:#b} {0=8..16:x}"], fields),
+    "1,000 strings": ([f"s a{k} defmt_info message number {k} has {{=u16}}" for k in range(1000)], half),
+    "bit fields": (["s a defmt_info {0=0..4} {0=4..8:#b} {0=8..16:x}"], half),
     "radix": (["s a defmt_info {=u32:#034b} {=u16:#06x} {=u64:016x} {=u8:08b}"], radix),
 }
 
