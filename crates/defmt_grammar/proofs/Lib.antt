@@ -6,6 +6,7 @@ pub mod ParamLaws
 pub mod PlainLaws
 pub mod StepLaws
 pub mod Unique
+pub mod StrictLaws
 pub mod ReadingLaws
 pub mod FitLaws
 pub mod KindsAt

@@ -23,7 +23,7 @@ pub use hint::{Base, Hint};
 pub use kind::{IntSize, Kind};
 pub use param::Param;
 pub use piece::Piece;
-pub use pieces::{Pieces, one_answer, parse, slots_are_sound};
+pub use pieces::{Pieces, one_answer, parse, slots_are_sound, strict_is_lenient};
 pub use printing::{print, reads_back};
 pub use slot::Slot;
 pub use text::Text;

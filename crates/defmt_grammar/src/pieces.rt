@@ -153,6 +153,12 @@ pub fn one_answer()
     ensures first { (text : List ℕ) (mode : Modes) (c d : Causes) (a b : ℕ) → HasFault text mode c a → HasFault text mode d b → SameFault c d a b }
 {}
 
+/// What a text spells strictly it spells leniently.
+pub fn strict_is_lenient()
+    ensures { (text : List ℕ) (ps : List AnyPiece) → Spells text Mode.Strict ps
+        → Spells text Mode.Lenient ps }
+{}
+
 /// Pieces that some text spells have at most 16 slots. A window lies within 16 bytes and holds each
 /// bit field of its position, and each position is used.
 pub fn slots_are_sound()
