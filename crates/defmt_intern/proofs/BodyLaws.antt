@@ -55,7 +55,7 @@ alone : (c : ℕ) (cs : List ℕ) (b : Bool) → 0 < length (variants cs) → (l
 alone c cs true some h e = absurd (omega arith)
 alone c cs false some h e = ap (with_char c) (h (sym (length-with_char c (variants cs) some) ∙ e))
 
-variants_alone : (text : List ℕ) → length (variants text) ≡ 1 → variants text ≡ text ∷ []
+pub variants_alone : (text : List ℕ) → length (variants text) ≡ 1 → variants text ≡ text ∷ []
 unfolding variants
 variants_alone [] e = refl
 variants_alone (c ∷ cs) e = alone c cs (eqb c 124) (variants_there cs) (variants_alone cs) e

@@ -6,10 +6,11 @@ use Rattle.std.specs.Cmp.{nat_cmp_total}
 use Rattle.std.specs.FinMap.{get-empty, get-insert, len-empty}
 use Rattle.std.proofs.lemmas.Bool.{cases_eq, cases_lt}
 use Rattle.std.proofs.lemmas.Bool.Decides.{nat_tests}
+use Rattle.defmt_intern.specs.declared.putting.Cause.{Cause}
 use Rattle.defmt_intern.specs.declared.table.TableFault.{TableFault}
 use Rattle.defmt_intern.specs.declared.entry.Entry.{Entry}
 use Rattle.defmt_intern.specs.declared.entry.Tag.TheVariants.{Timestamp}
-use Rattle.defmt_intern.specs.Table.{Map, Slot, IsStamp, IsLawful, StampIs, IsKept, IsWhole, IsSecond, EntryRefused, InsertRefused, AddRefused, IsGreatest, IsNext, Puts, PutsUnlessMemory}
+use Rattle.defmt_intern.specs.Table.{Map, Slot, IsStamp, IsLawful, StampIs, IsKept, IsWhole, IsSecond, EntryRefused, InsertRefused, AddRefused, IsGreatest, IsNext, Puts, PutsUnlessMemory, cause_number}
 use Rattle.std.specs.FinMap as map
 use Rattle.defmt_intern.specs.declared.table.TableFault.TheVariants as faults
 
@@ -19,8 +20,8 @@ here table k v = get-insert nat_cmp_total table k v k ∙ (let t : is_eq (nat_cm
 pub apart : (table : Map) (k : ℕ) (v : Entry) (q : ℕ) → q ≢ k → map.get (map.insert table k v) q ≡ map.get table q
 apart table k v q n = get-insert nat_cmp_total table k v q ∙ (let t : is_eq (nat_cmp q k) ≡ false = grind (arith, nat_tests) in rw t refl)
 
-pub put_is : (old new : Map) (k : ℕ) (kept v : Entry) {table : Map} → new ≡ map.insert old k kept → old ≡ table → kept ≡ v → new ≡ map.insert table k v
-put_is old new k kept v e same is = e ∙ ap (λ (t : Map). map.insert t k kept) same ∙ ap (map.insert _ k) is
+pub put_is : (old new : Map) (k : ℕ) (v : Entry) {table : Map} → new ≡ map.insert old k v → old ≡ table → new ≡ map.insert table k v
+put_is old new k v e same = e ∙ ap (λ (t : Map). map.insert t k v) same
 
 nothing : (q : ℕ) (e : Entry) → map.get {R = nat_cmp} map.empty q ≡ Some e → ⊥
 nothing q e h = let k : map.get {X = Entry} {R = nat_cmp} map.empty q ≡ None = get-empty nat_cmp q in cc
@@ -145,3 +146,32 @@ may_insert old i v free h cause (inr x) = h cause x.1
 pub may_add : (old : Map) (v : Entry) → (IsGreatest old 65535 → ⊥) → ((cause : ℕ) → EntryRefused old v cause → ⊥) → (cause : ℕ) → AddRefused old v cause → ⊥
 may_add old v free h cause (inl x) = free x.1
 may_add old v free h cause (inr x) = h cause x.1
+
+-- ---- causes
+
+-- an entry that nothing refuses at an index: that index is free, and the entry is admitted
+pub free_there : (table : Map) (k : ℕ) (v : Entry) → ((cause : ℕ) → InsertRefused table k v cause → ⊥) → IsSome (map.get table k) → ⊥
+free_there table k v h some = h 2 (inl (refl, some))
+
+pub admitted : (table : Map) (k : ℕ) (v : Entry) → ((cause : ℕ) → InsertRefused table k v cause → ⊥) → (cause : ℕ) → EntryRefused table v cause → ⊥
+admitted table k v h cause e = h cause (inr (free_there table k v h, e))
+
+-- where the index is free, the entry alone is the cause
+pub refused_by_entry : (table : Map) (k : ℕ) (v : Entry) (r : Option Cause) → (IsSome (map.get table k) → ⊥)
+    → MatchOption r ((cause : ℕ) → EntryRefused table v cause → ⊥) (λ cause. EntryRefused table v (cause_number cause))
+    → MatchOption r ((cause : ℕ) → InsertRefused table k v cause → ⊥) (λ cause. InsertRefused table k v (cause_number cause))
+refused_by_entry table k v None free h = may_insert table k v free h
+refused_by_entry table k v (Some cause) free h = inr (free, h)
+
+-- there is one cause at most
+one_of_entry : (table : Map) (v : Entry) (a b : ℕ) → EntryRefused table v a → EntryRefused table v b → a ≡ b
+one_of_entry table v a b (inl x) (inl y) = x.0 ∙ sym y.0
+one_of_entry table v a b (inl x) (inr y) = absurd (y.1 x.1)
+one_of_entry table v a b (inr x) (inl y) = absurd (x.1 y.1)
+one_of_entry table v a b (inr x) (inr y) = x.0 ∙ sym y.0
+
+pub one_refusal : (table : Map) (k : ℕ) (v : Entry) (a b : ℕ) → InsertRefused table k v a → InsertRefused table k v b → a ≡ b
+one_refusal table k v a b (inl x) (inl y) = x.0 ∙ sym y.0
+one_refusal table k v a b (inl x) (inr y) = absurd (y.0 x.1)
+one_refusal table k v a b (inr x) (inl y) = absurd (x.0 y.1)
+one_refusal table k v a b (inr x) (inr y) = one_of_entry table v a b x.1 y.1

@@ -6,8 +6,8 @@ use Rattle.std.specs.FinMap as map
 use Rattle.defmt_intern.specs.declared.entry.Entry.{Entry}
 use Rattle.defmt_intern.specs.declared.entry.Tag.TheVariants.{Timestamp}
 use Rattle.defmt_intern.specs.declared.kept.Kept.{Kept}
-use Rattle.defmt_intern.specs.declared.map.Cause.{Cause}
-use Rattle.defmt_intern.specs.declared.map.Cause.TheVariants as causes
+use Rattle.defmt_intern.specs.declared.putting.Cause.{Cause}
+use Rattle.defmt_intern.specs.declared.putting.Cause.TheVariants as causes
 use Rattle.defmt_intern.specs.declared.table.TableFault.{TableFault}
 use Rattle.defmt_intern.specs.declared.table.TableFault.TheVariants as faults
 use Rattle.std.specs.Prelude.{⊤}

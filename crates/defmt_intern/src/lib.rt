@@ -11,6 +11,7 @@ mod kept;
 mod map;
 mod name;
 mod parsed;
+mod putting;
 mod table;
 
 pub use entry::{Entry, Tag};

@@ -1,55 +1,31 @@
 //! The entries of a table by their indexes.
 
-ghost use Rattle.std.specs.Prelude.{◌≡◌, ◌≤◌, ℕ, IfOk, IsSome, MatchOption, None, Some, option_map};
+ghost use Rattle.std.specs.Prelude.{◌≡◌, ◌≤◌, IfOk, MatchOption, None, Some, option_map};
 ghost use Rattle.std.specs.Option.{option_copied};
 ghost use Rattle.std.specs.FinMap as map;
 ghost use Rattle.defmt_intern.specs.Body.{body_of};
 ghost use Rattle.defmt_intern.specs.Stamp.{stamp_of};
-ghost use Rattle.defmt_intern.specs.Table.{IsLawful, IsGreatest, IsNext, InsertRefused, AddRefused, EntryRefused, Puts, PutsUnlessMemory, Adds, RefusesOnly, cause_number};
+ghost use Rattle.defmt_intern.specs.Table.{IsLawful};
 
 use crate::entry::Entry;
-use crate::keeping::{copy_slots, keep, kept_at, kept_of, last_kept};
+use crate::keeping::{copy_slots, kept_at};
 use crate::kept::Kept;
 use crate::parsed::Parsed;
-use crate::table::TableFault;
 use dl_io::Memory;
 use std::alloc::Global;
 use std::marker::Model;
-
-// The most bytes of a text.
-const TEXT_LIMIT: usize = 4096;
-
-enum Cause {
-    Full,
-    Double,
-    Long,
-    Stamps,
-}
-
-impl Cause {
-    fn number(self) -> u8
-        ensures { result ≡ cause_number self }
-    {
-        match self {
-            Cause::Full => 1,
-            Cause::Double => 2,
-            Cause::Long => 4,
-            Cause::Stamps => 5,
-        }
-    }
-}
 
 // A finite map from indexes to entries.
 //
 // No text in it has more than 4,096 bytes, and at most one entry is a timestamp's.
 #[derive(Drop)]
 pub(crate) struct EntryMap {
-    alloc: Global,
+    pub(crate) alloc: Global,
     // What is kept at each index from 0 on.
-    slots: Vec<Option<Box<Kept>>>,
+    pub(crate) slots: Vec<Option<Box<Kept>>>,
     // How many entries there are.
-    count: u32,
-    stamp: Option<u16>,
+    pub(crate) count: u32,
+    pub(crate) stamp: Option<u16>,
 }
 
 impl Model for EntryMap {
@@ -148,91 +124,6 @@ impl EntryMap {
             slots: self.slots.as_slice(),
             index: 0,
         }
-    }
-
-    // Why an entry is refused, whatever its index.
-    fn refusal(&self, entry: &Entry) -> Option<Cause>
-        ensures { MatchOption result ((cause : ℕ) → EntryRefused self.now entry.now cause → ⊥)
-            (λ cause. EntryRefused self.now entry.now (cause_number cause)) }
-    {
-        if entry.text.as_str().len() > TEXT_LIMIT {
-            return Some(Cause::Long);
-        }
-        if entry.is_stamp() && self.stamp.is_some() {
-            return Some(Cause::Stamps);
-        }
-        None
-    }
-
-    fn put(&mut self, index: u16, entry: Entry) -> Result<(), TableFault>
-        requires free { IsSome (map.get self.old index) → ⊥ }
-        requires admitted { (cause : ℕ) → EntryRefused self.old entry cause → ⊥ }
-        ensures { PutsUnlessMemory self.old index entry result self.new }
-    {
-        let is_stamp = entry.is_stamp();
-        let kept = kept_of(self.alloc, entry)?;
-        keep(self.alloc, &mut self.slots, index, kept)?;
-        self.count += 1;
-        if is_stamp {
-            self.stamp = Some(index);
-        }
-        Ok(())
-    }
-
-    /// Puts the entry at the index. On a fault the map is unchanged.
-    pub fn insert(&mut self, index: u16, entry: Entry) -> Result<(), TableFault>
-        // The map afterwards, and a cause only where it is the first that stands.
-        ensures answer { Puts self.old index entry
-            (InsertRefused self.old index entry) result self.new }
-        // Unless memory runs out, the first cause that stands is answered.
-        ensures refused { (cause : ℕ) → InsertRefused self.old index entry cause
-            → RefusesOnly result cause }
-    {
-        if self.get(index).is_some() {
-            return Err(TableFault::Refused {
-                cause: Cause::Double.number(),
-            });
-        }
-        if let Some(cause) = self.refusal(&entry) {
-            return Err(TableFault::Refused {
-                cause: cause.number(),
-            });
-        }
-        self.put(index, entry)
-    }
-
-    // The greatest index plus 1, or 1 in an empty map; `None` where the greatest index is 65,535.
-    fn next_index(&self) -> Option<u16>
-        ensures { MatchOption result (IsGreatest self.now 65535)
-            (λ n. IsNext self.now n × (IsSome (map.get self.now n) → ⊥)
-            × (IsGreatest self.now 65535 → ⊥)) }
-    {
-        match last_kept(self.slots.as_slice()) {
-            None => Some(1),
-            Some(greatest) => greatest.checked_add(1),
-        }
-    }
-
-    /// Puts the entry at the greatest index plus 1, at 1 in an empty map, and answers that index. On a fault the
-    /// map is unchanged.
-    pub fn add(&mut self, entry: Entry) -> Result<u16, TableFault>
-        // The map afterwards, and a cause only where it is the first that stands.
-        ensures answer { Adds self.old entry result self.new }
-        // Unless memory runs out, the first cause that stands is answered.
-        ensures refused { (cause : ℕ) → AddRefused self.old entry cause → RefusesOnly result cause }
-    {
-        let Some(index) = self.next_index() else {
-            return Err(TableFault::Refused {
-                cause: Cause::Full.number(),
-            });
-        };
-        if let Some(cause) = self.refusal(&entry) {
-            return Err(TableFault::Refused {
-                cause: cause.number(),
-            });
-        }
-        self.put(index, entry)?;
-        Ok(index)
     }
 
     /// A map with the same entries.

@@ -166,6 +166,25 @@ impl Table {
         self.entries.insert(index, entry)
     }
 
+    /// The same of an entry of which it is known what its text stands for, so that the text isn't parsed. On a fault the
+    /// table is unchanged.
+    pub fn insert_parsed(
+        &mut self,
+        index: u16,
+        entry: Entry,
+        parsed: Parsed,
+    ) -> Result<(), TableFault>
+        requires { parsed ≡ body_of entry }
+        // As those of `insert`.
+        ensures answer { Puts self.old.entries index entry
+            (InsertRefused self.old.entries index entry) result self.new.entries }
+        ensures refused { (cause : ℕ) → InsertRefused self.old.entries index entry cause
+            → RefusesOnly result cause }
+        ensures profile { self.new.profile ≡ self.old.profile }
+    {
+        self.entries.insert_parsed(index, entry, parsed)
+    }
+
     /// Puts the entry at the greatest index plus 1, at 1 in an empty table, and answers that index. On a fault the
     /// table is unchanged.
     pub fn add(&mut self, entry: Entry) -> Result<u16, TableFault>

@@ -1,6 +1,6 @@
 -- Verdicts on texts.
-use Rattle.std.proofs.Common.{◌≡◌, ◌<◌, ◌≤◌, ◌++◌, ◌⊎◌, inl, inr, ℕ, List, [], ◌∷◌, length, Option, Some, None, sym, ◌∙◌, ap, subst, arith}
-use Rattle.std.specs.Prelude.{is_some, true, false}
+use Rattle.std.proofs.Common.{◌≡◌, ◌<◌, ◌≤◌, ◌++◌, ◌⊎◌, inl, inr, ℕ, List, [], ◌∷◌, length, Option, Some, None, Result, sym, ◌∙◌, ap, subst, arith}
+use Rattle.std.specs.Result.{result_err}
 use Rattle.defmt_grammar.specs.Grammar.{Spells, HasFault, SameFault}
 use Rattle.defmt_grammar.specs.Fault.{cause_number}
 use Rattle.defmt_grammar.specs.declared.fault.Cause.{Cause}
@@ -10,7 +10,7 @@ use Rattle.defmt_grammar.specs.declared.piece.Piece.{Piece}
 use Rattle.defmt_intern.specs.Body.{HasNoBar, variants}
 use Rattle.defmt_intern.specs.declared.entry.Tag.{Tag}
 use Rattle.defmt_intern.specs.declared.entry.Tag.TheVariants as tags
-use Rattle.defmt_intern.proofs.BodyLaws.{variants_one, variants_more}
+use Rattle.defmt_intern.proofs.BodyLaws.{variants_alone, variants_one, variants_more}
 use Rattle.defmt_lines.specs.Verdict.{Judges, JudgesBody, JudgesForms, JudgesVariants}
 
 -- a text spells at most one list of pieces, or has one fault and spells nothing
@@ -61,6 +61,16 @@ module _ (law : OneAnswer) where
   unfolding Judges
   one_verdict tag text v w p q = by_cases tag text v w p q
 
+-- ---- what a reading says of its verdict
+
+-- the verdict of a reading, where it is known how that ends
+pub at_read : {A : Type 0} (texts : List (List ℕ)) {read ending : Result A ℕ} → read ≡ ending → JudgesForms texts (result_err read) → JudgesForms texts (result_err ending)
+at_read {A = A} texts is j = subst (λ (r : Result A ℕ). JudgesForms texts (result_err r)) is j
+
+-- one text, which isn't cut
+pub uncut : (text : List ℕ) (v : Option ℕ) → length (variants text) ≡ 1 → JudgesForms (text ∷ []) v → JudgesVariants (variants text) v
+uncut text v one j = inr (omega (arith, one), subst (λ (ts : List (List ℕ)). JudgesForms ts v) (sym (variants_alone text one)) j)
+
 -- ---- variants one after another
 
 -- what the verdict on the rest is, is the verdict on the whole
@@ -70,28 +80,26 @@ pub record IsBehind (rest text : List ℕ) : Type 0 where
 pub begins : (text : List ℕ) → IsBehind text text
 begins text = record { then = λ v j. j }
 
-taken_first : (variant : List ℕ) (more : List (List ℕ)) (u v : Option ℕ) → is_some u ≡ false → JudgesForms (variant ∷ []) u → JudgesForms more v → JudgesForms (variant ∷ more) v
-taken_first variant more (Some n) v none p j = absurd cc
-taken_first variant more None v none (inl p) j = inl (p.0, p.1, j)
-taken_first variant more None v none (inr p) j = absurd (cc p.3)
+taken_first : (variant : List ℕ) (more : List (List ℕ)) (v : Option ℕ) → JudgesForms (variant ∷ []) None → JudgesForms more v → JudgesForms (variant ∷ more) v
+taken_first variant more v (inl p) j = inl (p.0, p.1, j)
+taken_first variant more v (inr p) j = absurd (cc p.3)
 
-refused_first : (variant : List ℕ) (more : List (List ℕ)) (v : Option ℕ) → is_some v ≡ true → JudgesForms (variant ∷ []) v → JudgesForms (variant ∷ more) v
-refused_first variant more None some p = absurd cc
-refused_first variant more (Some n) some (inl p) = absurd (cc p.2)
-refused_first variant more (Some n) some (inr p) = inr p
+refused_first : (variant : List ℕ) (more : List (List ℕ)) (number : ℕ) → JudgesForms (variant ∷ []) (Some number) → JudgesForms (variant ∷ more) (Some number)
+refused_first variant more number (inl p) = absurd (cc p.2)
+refused_first variant more number (inr p) = inr p
 
-pub goes_on : (rest text variant after : List ℕ) (u : Option ℕ) → IsBehind rest text → rest ≡ variant ++ 124 ∷ after → HasNoBar variant → is_some u ≡ false → JudgesForms (variant ∷ []) u → IsBehind after text
-goes_on rest text variant after u behind e bare none taken = record {
+pub goes_on : (rest text variant after : List ℕ) → IsBehind rest text → rest ≡ variant ++ 124 ∷ after → HasNoBar variant → JudgesForms (variant ∷ []) None → IsBehind after text
+goes_on rest text variant after behind e bare taken = record {
   then = λ v j.
       let cut : variants rest ≡ variant ∷ variants after = ap variants e ∙ variants_more variant after bare in
-      behind.then v (subst (λ (ts : List (List ℕ)). JudgesForms ts v) (sym cut) (taken_first variant (variants after) u v none taken j));
+      behind.then v (subst (λ (ts : List (List ℕ)). JudgesForms ts v) (sym cut) (taken_first variant (variants after) v taken j));
 }
 
-pub stops : (rest text variant after : List ℕ) (v : Option ℕ) → IsBehind rest text → rest ≡ variant ++ 124 ∷ after → HasNoBar variant → is_some v ≡ true → JudgesForms (variant ∷ []) v
-    → JudgesForms (variants text) v
-stops rest text variant after v behind e bare some refused =
+pub stops : (rest text variant after : List ℕ) (number : ℕ) → IsBehind rest text → rest ≡ variant ++ 124 ∷ after → HasNoBar variant → JudgesForms (variant ∷ []) (Some number)
+    → JudgesForms (variants text) (Some number)
+stops rest text variant after number behind e bare refused =
     let cut : variants rest ≡ variant ∷ variants after = ap variants e ∙ variants_more variant after bare in
-    behind.then v (subst (λ (ts : List (List ℕ)). JudgesForms ts v) (sym cut) (refused_first variant (variants after) v some refused))
+    behind.then (Some number) (subst (λ (ts : List (List ℕ)). JudgesForms ts (Some number)) (sym cut) (refused_first variant (variants after) number refused))
 
 pub ends : (rest text : List ℕ) (v : Option ℕ) → IsBehind rest text → HasNoBar rest → JudgesForms (rest ∷ []) v → JudgesForms (variants text) v
 ends rest text v behind bare j = behind.then v (subst (λ (ts : List (List ℕ)). JudgesForms ts v) (sym (variants_one rest bare)) j)

@@ -1,12 +1,14 @@
-//! Whether a text may stand in an `s` line.
+//! Whether a text may stand in an `s` line, and what it stands for there.
 
-ghost use Rattle.std.specs.Prelude.{◌≡◌, ◌<◌, ◌^◌, ◌∷◌, [], ℕ, List, Option, length, IfOk};
-ghost use Rattle.defmt_intern.specs.Body.{variants};
+ghost use Rattle.std.specs.Prelude.{◌≡◌, ◌<◌, ◌^◌, ◌∷◌, [], ℕ, List, Option, Some, length, IfOk};
+ghost use Rattle.std.specs.Result.{result_err};
+ghost use Rattle.defmt_intern.specs.Body.{body_in, cut_body, forms_of, one_body, variants};
+ghost use Rattle.defmt_intern.specs.Pieces.{pieces_of};
 ghost use Rattle.defmt_intern.specs.declared.entry.Tag.{Tag as AnyTag};
 ghost use Rattle.defmt_lines.specs.Verdict.{Judges, JudgesForms, JudgesVariants};
 
-use defmt_grammar::{GrammarFault, Mode, one_answer, parse};
-use defmt_intern::{Tag, count_bars, cut_variant};
+use defmt_grammar::{GrammarFault, Mode, Pieces, one_answer, parse, strict_is_lenient};
+use defmt_intern::{Forms, Parsed, Tag, count_bars, cut_variant};
 use dl_io::Memory;
 use std::alloc::Global;
 
@@ -17,17 +19,31 @@ const TEXT_LIMIT: usize = 4096;
 /// The number is that of the first fault of the strict reading (`defmt_grammar::Cause`), or 0 where the text has more than
 /// 4,096 bytes or more than 255 variants. A text of a primitive, derived or written format is read variant by variant, an
 /// interned string not at all.
-#[tactic(auto, unfolding(crate::specs::Verdict::Judges))]
 pub fn judge(alloc: Global, tag: &Tag, text: &str) -> Result<Option<u8>, Memory>
     ensures { IfOk result (λ verdict. Judges tag.now text.now verdict) }
 {
+    Ok(parse_text(alloc, tag, text)?.err())
+}
+
+/// What an entry of this tag and text stands for where [`judge`] takes the text, and what is wrong with it elsewhere.
+#[tactic(auto, unfolding(crate::specs::Verdict::Judges))]
+pub fn parse_text(alloc: Global, tag: &Tag, text: &str) -> Result<Result<Parsed, u8>, Memory>
+    ensures verdict { IfOk result (λ read. Judges tag.now text.now (result_err read)) }
+    // What is taken strictly stands for the same in the lenient reading, which is that of a table.
+    ensures parsed { IfOk result (λ read.
+        IfOk read (λ parsed. parsed ≡ body_in tag.now text.now)) }
+{
     if text.len() > TEXT_LIMIT {
-        return Ok(Some(0));
+        return Ok(Err(0));
     }
     match tag {
-        Tag::Interned => Ok(None),
-        Tag::Prim | Tag::Derived | Tag::Write => judge_variants(alloc, text),
-        _ => judge_form(alloc, text),
+        Tag::Interned => Ok(Ok(Parsed::Raw)),
+        Tag::Prim | Tag::Derived | Tag::Write => parse_variants(alloc, text),
+        Tag::Other(_) => match parse_form(alloc, text)? {
+            Ok(_) => Ok(Ok(Parsed::Unsupported)),
+            Err(number) => Ok(Err(number)),
+        },
+        _ => parse_one(alloc, text),
     }
 }
 
@@ -39,39 +55,72 @@ pub fn one_verdict()
     one_answer();
 }
 
-fn judge_form(alloc: Global, text: &str) -> Result<Option<u8>, Memory>
+// The pieces that a text spells strictly, or the number of its fault.
+fn parse_form(alloc: Global, text: &str) -> Result<Result<Pieces, u8>, Memory>
     requires { length text.now < 2 ^ 32 }
-    ensures { IfOk result (λ verdict. JudgesForms (text.now ∷ []) verdict) }
+    ensures verdict { IfOk result (λ read. JudgesForms (text.now ∷ []) (result_err read)) }
+    ensures pieces { IfOk result (λ read.
+        IfOk read (λ pieces. pieces_of Mode.Lenient text.now ≡ Some pieces)) }
 {
+    strict_is_lenient();
     match parse(alloc, text, Mode::Strict) {
-        Ok(_) => Ok(None),
-        Err(GrammarFault::Refused { cause, .. }) => Ok(Some(cause)),
+        Ok(pieces) => Ok(Ok(pieces)),
+        Err(GrammarFault::Refused { cause, .. }) => Ok(Err(cause)),
         Err(GrammarFault::Memory) => Err(Memory),
     }
 }
 
-fn judge_variants(alloc: Global, text: &str) -> Result<Option<u8>, Memory>
+// What a text stands for that isn't cut, or the number of its fault.
+fn parse_one(alloc: Global, text: &str) -> Result<Result<Parsed, u8>, Memory>
     requires { length text.now < 2 ^ 32 }
-    ensures { IfOk result (λ verdict. JudgesVariants (variants text.now) verdict) }
+    ensures verdict { IfOk result (λ read. JudgesForms (text.now ∷ []) (result_err read)) }
+    ensures parsed { IfOk result (λ read.
+        IfOk read (λ parsed. parsed ≡ one_body (pieces_of Mode.Lenient text.now))) }
 {
-    if count_bars(text) > 254 {
-        return Ok(Some(0));
+    match parse_form(alloc, text)? {
+        Ok(pieces) => Ok(Ok(Parsed::One(pieces))),
+        Err(number) => Ok(Err(number)),
     }
-    judge_forms(alloc, text)
 }
 
-// The verdict on the variants one after another.
-fn judge_forms(alloc: Global, text: &str) -> Result<Option<u8>, Memory>
+// What a text stands for that `|` may cut, or what is wrong with it.
+fn parse_variants(alloc: Global, text: &str) -> Result<Result<Parsed, u8>, Memory>
     requires { length text.now < 2 ^ 32 }
-    ensures { IfOk result (λ verdict. JudgesForms (variants text.now) verdict) }
+    ensures verdict { IfOk result (λ read. JudgesVariants (variants text.now) (result_err read)) }
+    ensures parsed { IfOk result (λ read.
+        IfOk read (λ parsed. parsed ≡ cut_body (variants text.now))) }
 {
+    match count_bars(text) {
+        0 => parse_one(alloc, text),
+        1..=254 => match parse_forms(alloc, text)? {
+            Ok(forms) => Ok(Ok(Parsed::Variants(forms))),
+            Err(number) => Ok(Err(number)),
+        },
+        _ => Ok(Err(0)),
+    }
+}
+
+// The pieces of the variants one after another, or the number of the first fault.
+fn parse_forms(alloc: Global, text: &str) -> Result<Result<Forms, u8>, Memory>
+    requires { length text.now < 2 ^ 32 }
+    ensures verdict { IfOk result (λ read. JudgesForms (variants text.now) (result_err read)) }
+    ensures forms { IfOk result (λ read.
+        IfOk read (λ forms. forms_of (variants text.now) ≡ Some forms)) }
+{
+    let mut forms = Forms::new(alloc);
     let mut rest = text;
     'variants: while let Some((variant, after)) = cut_variant(rest) {
-        let verdict = judge_form(alloc, variant)?;
-        if verdict.is_some() {
-            return Ok(verdict);
-        }
+        let pieces = match parse_form(alloc, variant)? {
+            Ok(pieces) => pieces,
+            Err(number) => return Ok(Err(number)),
+        };
+        forms.push(pieces)?;
         rest = after;
     }
-    judge_form(alloc, rest)
+    let pieces = match parse_form(alloc, rest)? {
+        Ok(pieces) => pieces,
+        Err(number) => return Ok(Err(number)),
+    };
+    forms.push(pieces)?;
+    Ok(Ok(forms))
 }

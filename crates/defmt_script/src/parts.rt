@@ -6,6 +6,7 @@ ghost use Rattle.std.specs.Fmt.{decimal};
 ghost use Rattle.defmt_eager.specs.Line.{text_limit};
 ghost use Rattle.defmt_eager.specs.Show.{eager_text};
 ghost use Rattle.defmt_encode.specs.Placed.{place_in};
+ghost use Rattle.defmt_intern.specs.Body.{body_of};
 ghost use Rattle.defmt_intern.specs.Table.{InsertRefused};
 ghost use Rattle.defmt_script.specs.Lawful.{first_message, message_limit};
 ghost use Rattle.defmt_script.specs.Reads.{is_message};
@@ -17,7 +18,7 @@ ghost use Rattle.rtt_terminal.specs.Speech.{silence};
 
 use crate::script::Statements;
 use defmt_grammar::Text;
-use defmt_intern::{Entry, Profile, Table, TableFault, Tag};
+use defmt_intern::{Entry, Parsed, Profile, Table, TableFault, Tag};
 use defmt_lines::Settings;
 use defmt_spelling::{ArgFault, Names, read_args};
 use defmt_values::{Args, Statement, is_logged};
@@ -84,6 +85,25 @@ pub(crate) fn put_entry(table: &mut Table, index: u16, entry: Entry) -> Result<(
     ensures err { OnErr result (table.new.entries ≡ table.old.entries) }
 {
     match table.insert(index, entry) {
+        Ok(()) => Ok(()),
+        Err(TableFault::Refused { .. }) => unreachable!(),
+        Err(TableFault::Memory) => Err(Memory),
+    }
+}
+
+// The same of an entry of which it is known what its text stands for.
+pub(crate) fn put_parsed(
+    table: &mut Table,
+    index: u16,
+    entry: Entry,
+    parsed: Parsed,
+) -> Result<(), Memory>
+    requires free { (cause : ℕ) → InsertRefused table.old.entries index entry cause → ⊥ }
+    requires parsed { parsed ≡ body_of entry }
+    ensures ok { OnOk result (table.new.entries ≡ map.insert table.old.entries index entry) }
+    ensures err { OnErr result (table.new.entries ≡ table.old.entries) }
+{
+    match table.insert_parsed(index, entry, parsed) {
         Ok(()) => Ok(()),
         Err(TableFault::Refused { .. }) => unreachable!(),
         Err(TableFault::Memory) => Err(Memory),

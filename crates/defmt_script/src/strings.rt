@@ -1,6 +1,7 @@
 //! The strings of a script that is read.
 ghost use Rattle.std.specs.Prelude.{◌≡◌, ◌≤◌, ◌<◌, length, nat_lt, None, OnOk, true};
 ghost use Rattle.std.specs.FinMap as map;
+ghost use Rattle.defmt_intern.specs.Body.{body_in};
 ghost use Rattle.defmt_lines.specs.Form.{StringsMayCome};
 ghost use Rattle.defmt_lines.specs.Line.{entry, is_string_tag};
 ghost use Rattle.defmt_script.specs.Answers.{TakesLine};
@@ -9,10 +10,10 @@ ghost use Rattle.defmt_script.specs.Script.{count_strings};
 ghost use Rattle.defmt_script.specs.State.{strings_limit};
 
 use crate::fault::LineFault;
-use crate::parts::{entry_of, put_entry};
+use crate::parts::{entry_of, put_parsed};
 use crate::reading::Reading;
-use defmt_intern::Tag;
-use defmt_lines::{Cause, EntryLine, Form, judge};
+use defmt_intern::{Parsed, Tag};
+use defmt_lines::{Cause, EntryLine, Form, parse_text};
 use defmt_shapes::is_name;
 use dl_io::Memory;
 
@@ -49,30 +50,32 @@ impl Reading {
         if let Err(cause) = self.admit_string(line.name) {
             return Err(LineFault::Refused(cause));
         }
-        if let Some(inner) = judge(self.alloc, &line.tag, line.text)? {
-            return Err(LineFault::Refused(Cause::Text(inner)));
-        }
+        let parsed = match parse_text(self.alloc, &line.tag, line.text)? {
+            Ok(parsed) => parsed,
+            Err(inner) => return Err(LineFault::Refused(Cause::Text(inner))),
+        };
         if !self.has_room_for_string() {
             return Err(LineFault::Refused(Cause::Many));
         }
-        self.add_string(line.name, line.tag, line.text)?;
+        self.add_string(line.name, line.tag, line.text, parsed)?;
         Ok(())
     }
 
-    // Puts the string at the next index. On want of memory the table is as before.
-    fn add_string(&mut self, name: &str, tag: Tag, text: &str) -> Result<(), Memory>
+    // Puts the string, and what its text stands for, at the next index. On want of memory the table is as before.
+    fn add_string(&mut self, name: &str, tag: Tag, text: &str, parsed: Parsed) -> Result<(), Memory>
         requires open { StringsMayCome self.old.first }
         requires room { count_strings self.old.script < strings_limit }
         requires new { map.get self.old.script.names name.now ≡ None }
         requires string_tag { is_string_tag tag ≡ true }
         requires short { length text.now ≤ 4096 }
+        requires parsed { parsed ≡ body_in tag text.now }
         ensures { OnOk result (self.new ≡ with_string self.old name.now tag text.now) }
     {
         let index = self.next_index();
         let entry = entry_of(self.alloc, index, tag, text)?;
         self.names.put(name, index)?;
         self.strings = index;
-        put_entry(&mut self.table, index, entry)?;
+        put_parsed(&mut self.table, index, entry, parsed)?;
         self.first = Form::Entry;
         Ok(())
     }

@@ -1,8 +1,22 @@
-use Rattle.defmt_intern.proofs.TableLaws.{may_add}
+use Rattle.std.proofs.Common.{ℕ, ap, sym, subst, ◌∙◌}
+use Rattle.std.specs.FinMap as map
+use Rattle.defmt_intern.specs.declared.entry.Entry.{Entry}
+use Rattle.defmt_intern.specs.Table.{EntryRefused}
+use Rattle.defmt_intern.proofs.TableLaws.{is_short, may_add}
 use Rattle.defmt_intern.proofs.map.EntryMap.add.Goals as goal
 
+pub kept_of-requires : goal.kept_of-requires
+kept_of-requires c = is_short c.args.self.now c.args.entry c.in_default-refusal.ensures
+
+pub put-requires-clause-admitted : goal.put-requires-clause-admitted
+put-requires-clause-admitted c = subst (λ (e : Entry). (cause : ℕ) → EntryRefused c.args.self.now e cause → ⊥) (sym c.in_ok-kept.ensures) c.in_default-refusal.ensures
+
 pub returns-clause-answer : goal.returns-clause-answer
-returns-clause-answer c = (c.in-Some.ensures.0, c.in_ok-put.ensures, may_add c.args.self.now c.args.entry c.in-Some.ensures.2 c.in_default-refusal.ensures)
+returns-clause-answer c = (
+  c.in-Some.ensures.0,
+  c.in_ok-put.ensures ∙ ap (map.insert c.args.self.now c.in-Some.index) c.in_ok-kept.ensures,
+  may_add c.args.self.now c.args.entry c.in-Some.ensures.2 c.in_default-refusal.ensures,
+)
 
 pub returns-clause-refused : goal.returns-clause-refused
 returns-clause-refused c = may_add c.args.self.now c.args.entry c.in-Some.ensures.2 c.in_default-refusal.ensures

@@ -2,11 +2,8 @@ use Rattle.std.proofs.Common.{◌≡◌, Some, arith, subst}
 use Rattle.std.specs.FinMap as map
 use Rattle.defmt_intern.specs.Table.{Map, IsKept, map_of}
 use Rattle.defmt_intern.proofs.Slots.{few_kept, whole_kept, whole_put}
-use Rattle.defmt_intern.proofs.TableLaws.{is_short, kept_stamp, kept_other, put_is}
+use Rattle.defmt_intern.proofs.TableLaws.{kept_stamp, kept_other, put_is}
 use Rattle.defmt_intern.proofs.map.EntryMap.put.Goals as goal
-
-pub kept_of-requires : goal.kept_of-requires
-kept_of-requires c = is_short c.args.self.now c.args.entry c.requires.admitted
 
 pub keep-requires : goal.keep-requires
 keep-requires c = c.self.invariant.few
@@ -19,20 +16,20 @@ invariant_of-self c = whole_kept c.self.inside.slots.items c.keep.new.slots.item
 
 pub invariant_of-self-then-is_stamp : goal.invariant_of-self-then-is_stamp
 invariant_of-self-then-is_stamp c =
-    let new : map_of c.keep.new.slots.items ≡ map.insert c.args.self.now c.args.index c.args.entry = put_is _ _ c.args.index _ _ c.in_ok-keep.ensures.ok c.self.view_is c.in_ok-kept.ensures in
+    let new : map_of c.keep.new.slots.items ≡ map.insert c.args.self.now c.args.index c.args.kept.entry = put_is _ _ c.args.index c.args.kept.entry c.in_ok-keep.ensures.ok c.self.view_is in
     let kept : IsKept c.args.self.now c.self.inside.stamp = subst (λ (t : Map). IsKept t c.self.inside.stamp) c.self.view_is c.self.invariant.kept in
-    whole_put c.self.inside.slots.items c.keep.new.slots.items c.args.self.now c.self.inside.count c.args.index c.args.entry c.self.inside.stamp (Some c.args.index) c.self.invariant c.self.view_is new c.requires.free c.keep.ensures.few
-    (kept_stamp c.args.self.now c.self.inside.stamp c.args.index c.args.entry kept (omega arith) c.requires.admitted c.if-is_stamp.ensures)
+    whole_put c.self.inside.slots.items c.keep.new.slots.items c.args.self.now c.self.inside.count c.args.index c.args.kept.entry c.self.inside.stamp (Some c.args.index) c.self.invariant c.self.view_is new c.requires.free c.keep.ensures.few
+    (kept_stamp c.args.self.now c.self.inside.stamp c.args.index c.args.kept.entry kept (omega arith) c.requires.admitted c.if-is_stamp.ensures)
 
 pub invariant_of-self-else-is_stamp : goal.invariant_of-self-else-is_stamp
 invariant_of-self-else-is_stamp c =
-    let new : map_of c.keep.new.slots.items ≡ map.insert c.args.self.now c.args.index c.args.entry = put_is _ _ c.args.index _ _ c.in_ok-keep.ensures.ok c.self.view_is c.in_ok-kept.ensures in
+    let new : map_of c.keep.new.slots.items ≡ map.insert c.args.self.now c.args.index c.args.kept.entry = put_is _ _ c.args.index c.args.kept.entry c.in_ok-keep.ensures.ok c.self.view_is in
     let kept : IsKept c.args.self.now c.self.inside.stamp = subst (λ (t : Map). IsKept t c.self.inside.stamp) c.self.view_is c.self.invariant.kept in
-    whole_put c.self.inside.slots.items c.keep.new.slots.items c.args.self.now c.self.inside.count c.args.index c.args.entry c.self.inside.stamp c.self.inside.stamp c.self.invariant c.self.view_is new c.requires.free c.keep.ensures.few
-    (kept_other c.args.self.now c.self.inside.stamp c.args.index c.args.entry kept (omega arith) c.requires.free c.requires.admitted c.if-is_stamp.ensures)
+    whole_put c.self.inside.slots.items c.keep.new.slots.items c.args.self.now c.self.inside.count c.args.index c.args.kept.entry c.self.inside.stamp c.self.inside.stamp c.self.invariant c.self.view_is new c.requires.free c.keep.ensures.few
+    (kept_other c.args.self.now c.self.inside.stamp c.args.index c.args.kept.entry kept (omega arith) c.requires.free c.requires.admitted c.if-is_stamp.ensures)
 
 pub returns-then-is_stamp : goal.returns-then-is_stamp
-returns-then-is_stamp c = put_is _ _ c.args.index _ _ c.in_ok-keep.ensures.ok c.self.view_is c.in_ok-kept.ensures
+returns-then-is_stamp c = put_is _ _ c.args.index c.args.kept.entry c.in_ok-keep.ensures.ok c.self.view_is
 
 pub returns-else-is_stamp : goal.returns-else-is_stamp
-returns-else-is_stamp c = put_is _ _ c.args.index _ _ c.in_ok-keep.ensures.ok c.self.view_is c.in_ok-kept.ensures
+returns-else-is_stamp c = put_is _ _ c.args.index c.args.kept.entry c.in_ok-keep.ensures.ok c.self.view_is
