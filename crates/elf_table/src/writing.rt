@@ -58,11 +58,9 @@ fn symbol_for(alloc: Global, entry: &Entry, index: u16) -> Result<Symbol, Memory
     ensures value { IfOk result (λ symbol. plain symbol ≡ symbol_of (index, entry.now)) }
     ensures named { IfOk result (λ _. IsNamed (index, entry.now)) }
 {
-    let name = symbol_name(alloc, entry)?;
-    let mut bytes = Bytes::new(alloc);
-    bytes.extend_from_slice(name.as_str().as_bytes())?;
+    let name = symbol_name(alloc, entry)?.into_string();
     Ok(Symbol {
-        name: bytes,
+        name: Bytes::from_vec(name.into_bytes()),
         value: u64::from(index),
     })
 }
