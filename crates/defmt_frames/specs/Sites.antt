@@ -19,10 +19,11 @@ use Rattle.defmt_values.specs.Fits.{Fits}
 use Rattle.defmt_values.specs.Plain.{Vals}
 use Rattle.defmt_values.specs.declared.value.Statement.{Statement}
 
--- the site of the string at an index, among rows of which each is at the index of its string
+-- the site in the row of an index, where there is one
 abbrev pub row_at : List (Option Site) → ℕ → Option Site
 row_at rows index = slice_index_or rows index None
 
+-- the site of the string at an index
 abbrev pub site_at : Sites → ℕ → Option Site
 site_at sites index = row_at sites.rows.items index
 

@@ -14,11 +14,16 @@ use Rattle.defmt_encode.proofs.Joins.{value_is}
 use Rattle.defmt_eager.specs.Show.{show_val, acting}
 use Rattle.defmt_put.specs.Written.{Written}
 use Rattle.defmt_plan.specs.Passed.{PassedField, PassesField, PassesOne}
-use Rattle.defmt_plan.specs.Readers.{PassedBy, PassesBy, PassesStepBy, progress_of, reach_of}
+use Rattle.defmt_plan.specs.Readers.{PassedBy, PassesBy, PassesStepBy, progress_of}
 use Rattle.defmt_plan.specs.declared.bits.Field.{Field}
 use Rattle.defmt_plan.specs.declared.leaves.Progress.{Progress}
 use Rattle.defmt_plan.specs.declared.reach.Reach.{Reach}
 use Rattle.defmt_plan.specs.declared.steps.Step.TheVariants as steps
+
+-- how far a pass has come that has opened so many
+abbrev reach_of : ℕ → Progress → Reach
+reach_of opened progress =
+    record { read = progress.read; written = progress.written; opened = opened }
 
 -- a value without values inside, whatever levels may be opened
 pub one_by : (r : Option Progress) (t : Map) (left : ℕ) (kind : Kind) (hint : Hint) (bytes : List ℕ) (before : Progress) (opened : ℕ) (old new : List ℕ) → opened ≤ 8192 → PassesOne r t kind hint bytes before old new

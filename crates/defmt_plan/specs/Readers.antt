@@ -67,10 +67,6 @@ PassesPieces r t left outer all pieces bytes before old new =
     PassesBy r (each_at (value_at t left) (places_of all) 1)
     (λ vs. pieces_text outer pieces (shows t vs)) bytes before old new
 
--- how far a pass has come that has opened so many, and the same without that number
-abbrev pub reach_of : ℕ → Progress → Reach
-reach_of opened progress =
-    record { read = progress.read; written = progress.written; opened = opened }
-
+-- how far a pass has come, without how many it has opened
 abbrev pub progress_of : Reach → Progress
 progress_of reach = record { read = reach.read; written = reach.written }

@@ -48,8 +48,8 @@ fn variants_of(alloc: Global, forms: &[Pieces]) -> Result<Option<Vec<Vec<Step>>>
     Ok(Some(all))
 }
 
-// The steps of a string that isn't cut, where all are usual.
-fn one_of(alloc: Global, pieces: &Pieces) -> Result<Option<Body>, Memory>
+// The steps of a string that has no bars, where all are usual.
+fn body_of_one(alloc: Global, pieces: &Pieces) -> Result<Option<Body>, Memory>
     ensures { IfOk result (λ r. IfSome r (λ body. IsBody (parsed.One pieces.now) body)) }
 {
     let Some(steps) = steps_of(alloc, pieces.as_slice(), pieces)? else {
@@ -58,8 +58,8 @@ fn one_of(alloc: Global, pieces: &Pieces) -> Result<Option<Body>, Memory>
     Ok(Some(Body::One(steps)))
 }
 
-// The same of each variant of one that is.
-fn some_of(alloc: Global, forms: &[Pieces]) -> Result<Option<Body>, Memory>
+// The steps of each variant of a string that is cut at its bars, where all are usual.
+fn body_of_variants(alloc: Global, forms: &[Pieces]) -> Result<Option<Body>, Memory>
     ensures { IfOk result (λ r. IfSome r (λ body. IsBody (parsed.Variants forms.now) body)) }
 {
     let Some(all) = variants_of(alloc, forms)? else {
@@ -73,8 +73,8 @@ fn body_of(alloc: Global, body: &Parsed) -> Result<Option<Body>, Memory>
     ensures { IfOk result (λ r. IfSome r (λ steps. IsBody body.now steps)) }
 {
     match body {
-        Parsed::One(pieces) => one_of(alloc, pieces),
-        Parsed::Variants(forms) => some_of(alloc, forms.as_slice()),
+        Parsed::One(pieces) => body_of_one(alloc, pieces),
+        Parsed::Variants(forms) => body_of_variants(alloc, forms.as_slice()),
         _ => Ok(None),
     }
 }
