@@ -208,7 +208,7 @@ def waiting():
         it.text(924, 234 + 17 * number, words, "note") if words else None
     it.text(30, 368, "The reader never asks for the lock while a thread runs, and its takes make room: no chain of waiting closes.", "note")
     it.text(30, 388, "In skip and trim mode nobody waits for the reader: the upper arrow isn't there.", "note")
-    it.text(30, 408, "What statements the threads have left is logged by the calling thread, which is the reader.", "note")
+    it.text(30, 408, "Statements that the threads have left are logged by the calling thread, which is the reader.", "note")
     it.save(428)
 
 
