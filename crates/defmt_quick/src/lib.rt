@@ -1,5 +1,6 @@
-//! Quick readers of the values that scripts mostly have. Each answers a value only where the text begins with one, and which; where it
-//! answers none nothing is said, and the general reader of defmt_shapes is asked.
+//! Quick readers of the values that scripts mostly have. Each but `quick_last_call` answers a value only where the text begins with
+//! one, and which; `quick_last_call` answers a name and what stands between brackets, of which the text is the call where values are
+//! spelled between them. Where one answers none nothing is said, and the general reader of defmt_shapes is asked.
 //!
 //! After docs/SCRIPT.md, "Arguments". So `255` is read as a decimal number (script_tests, `arguments`: the reading of arguments asks these readers first).
 #![tactic(auto)]

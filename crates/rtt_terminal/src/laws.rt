@@ -5,7 +5,7 @@ ghost use Rattle.std.specs.List.{AllByRecursion};
 ghost use Rattle.rtt_terminal.specs.declared.fault.Cause.{Cause as AnyCause};
 ghost use Rattle.rtt_terminal.specs.Stream.{Line, IsLine, spoken, screens, Shows, HasFault};
 
-/// Bytes show one list of lines for each terminal, or have one first fault and show nothing.
+/// Bytes show at most one list of lines for each terminal, have at most one first fault, and never both.
 pub fn one_reading()
     ensures one { (bytes : List ℕ) (a b : List (List (List ℕ)))
         → Shows bytes a → Shows bytes b → a ≡ b }
