@@ -5,6 +5,7 @@
 #![tactic(auto)]
 
 mod fault;
+mod names;
 mod reading;
 mod writing;
 

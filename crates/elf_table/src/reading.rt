@@ -8,16 +8,23 @@ ghost use Rattle.elf_table.specs.Names.{ReadsTable, AnswersOnly, NamesTable, Sym
 ghost use Rattle.elf_table.specs.declared.fault.LoadFault.TheVariants.{Elf as OfElf, Names as OfNames};
 
 use crate::fault::{Cause, LoadFault, StepFault};
-use defmt_intern::{NameFault, Profile, Table, TableFault, read_name};
+use crate::names::{AT_ONCE, entry_of, guesses_of};
+use defmt_intern::{NameFault, Profile, Table, TableFault};
 use elf_section::{ElfFault, Symbol, read_listing};
+use serde_json::Value;
 use std::alloc::Global;
 
-// Puts the entry that a symbol names into the table.
-fn put_symbol(alloc: Global, table: &mut Table, symbol: &Symbol) -> Result<(), StepFault>
+// Puts the entry that a symbol names into the table. The guess is what its name may say.
+fn put_symbol(
+    alloc: Global,
+    table: &mut Table,
+    symbol: &Symbol,
+    guess: Option<Value>,
+) -> Result<(), StepFault>
     ensures steps { Steps table.old.entries (plain symbol.now) result table.new.entries }
     ensures profile { table.new.profile ≡ table.old.profile }
 {
-    let entry = match read_name(alloc, symbol.name.as_slice()) {
+    let entry = match entry_of(alloc, symbol.name.as_slice(), guess) {
         Ok(entry) => entry,
         Err(NameFault::Memory) => return Err(StepFault::Memory),
         Err(_) => return Err(StepFault::Refused { cause: Cause::Name }),
@@ -43,8 +50,15 @@ fn table_of(alloc: Global, symbols: &[Symbol], profile: Profile) -> Result<Table
 {
     let mut table = Table::new(alloc);
     table.set_profile(profile);
+    let mut guesses = Vec::new(alloc).into_iter();
     for (p, symbol) in symbols.iter().enumerate() {
-        match put_symbol(alloc, &mut table, symbol) {
+        if p % AT_ONCE == 0 {
+            let Ok(next) = guesses_of(alloc, &symbols[p..]) else {
+                return Err(LoadFault::Memory);
+            };
+            guesses = next.into_iter();
+        }
+        match put_symbol(alloc, &mut table, symbol, guesses.next()) {
             Ok(()) => {}
             Err(StepFault::Refused { cause }) => {
                 return Err(LoadFault::Names {
