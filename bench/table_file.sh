@@ -5,7 +5,7 @@
 #
 # Files of 30,000 and of 60,000 symbols: with short names, where instructions are counted, and with names of 1,100 bytes, where the least of
 # three processor times and the peak memory are taken. Twice the symbols have a ratio of about 2. A string's cost is the difference of scripts with 1,000
-# and with 2,000 strings: `table` reads the script and writes the file, `decode` reads that. docs/DECISIONS.md says what of it `serde_json` takes.
+# and with 2,000 strings: `table` reads the script and writes the file, `decode` reads that. docs/DECISIONS.md says how names are read.
 
 . "$(dirname "$0")/common.sh"
 need valgrind perl time
@@ -61,5 +61,5 @@ for count in 1000 2000; do strings "$count" > "$work/script.$count" && "$program
 few=$(counted table < "$work/script.1000") && many=$(counted table < "$work/script.2000") || exit 1
 judge "instructions of table a string, with the reading of its line" $(((many - few) / 1000)) 12000
 few=$(counted decode --table "$work/1000.elf" < /dev/null) && many=$(counted decode --table "$work/2000.elf" < /dev/null) || exit 1
-judge "instructions of decode a string of its table" $(((many - few) / 1000)) 33000
+judge "instructions of decode a string of its table" $(((many - few) / 1000)) 25000
 exit "$worst"
