@@ -1,5 +1,8 @@
 //! The program `defmtl`: it does what its words ask for, from the standard input and the files of the working folder to the
 //! standard output.
+//!
+//! After docs/USER-GUIDE.md. So `run --group` prints the lines of two writers writer by writer, each in its order: `INFO  a 1` and
+//! `INFO  a 2`, then `WARN  b true` and `WARN  b false` (its stored run).
 #![tactic(auto)]
 
 mod outside;

@@ -15,7 +15,7 @@ use defmt_plan::{PlannedTable, Told};
 use dl_io::Memory;
 use std::alloc::Global;
 
-/// The line of the bytes that a code stands for, where a plan writes it behind a place of the buffer, and in front of another.
+// The line of the bytes that a code stands for, where a plan writes it behind a place of the buffer, and in front of another.
 #[inline(always)]
 pub(crate) fn line_behind(
     table: &PlannedTable,
@@ -34,8 +34,8 @@ pub(crate) fn line_behind(
     table.message(bytes, &mut text[at..end], 0)
 }
 
-/// What the bytes that a code stands for tell, whatever they are. The text of a line may stand behind a place of the buffer, and in
-/// front of another.
+// What the bytes that a code stands for tell, whatever they are. The text of a line may stand behind a place of the buffer, and in
+// front of another.
 pub(crate) fn notice_behind(
     alloc: Global,
     table: &Table,

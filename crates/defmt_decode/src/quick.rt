@@ -59,8 +59,8 @@ fn has_level(table: &Table, index: u16) -> bool
     }
 }
 
-/// Writes the line of a message that is heard to the front of a buffer, where its statement has a level, its stamp is one number or
-/// none, no value is unusual, and there is room. `None` says nothing of the message.
+// Writes the line of a message that is heard to the front of a buffer, where its statement has a level, its stamp is one number or
+// none, no value is unusual, and there is room. `None` says nothing of the message.
 pub(crate) fn put_heard(table: &Table, heard: &Heard, out: &mut [u8]) -> Option<usize>
     ensures { IfSome result (λ end. IsPut table.now.entries heard.now.stamp heard.now.stm.index
         heard.now.stm.args out.new end) }

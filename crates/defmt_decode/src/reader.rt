@@ -262,7 +262,7 @@ fn event_of_any(
     }
 }
 
-/// What a message that is heard tells.
+// What a message that is heard tells.
 pub(crate) fn event_of_heard(
     alloc: Global,
     table: &Table,

@@ -1,8 +1,8 @@
 //! The string table: entries by their indexes, what their texts stand for, and the symbol names that carry them.
 //!
 //! An entry is a symbol whose value is its index and whose name is a JSON object (the defmt book, "Interning"; RFC 8259):
-//! `{"package":"app","tag":"defmt_info","data":"hello","disambiguator":"7","crate_name":"app"}`. The text `None|Some({=?})` of a
-//! `defmt_prim` stands for two variants (text_tests, `intern`).
+//! `{"data":"hello","disambiguator":"1","package":"script","tag":"defmt_info"}`. The text `None|Some({=?})` of a `defmt_prim` stands
+//! for two variants (text_tests, `intern`).
 #![tactic(auto)]
 
 mod entry;

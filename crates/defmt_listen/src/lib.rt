@@ -5,8 +5,8 @@
 //! A reporter knows what is printed of an event, which may depend on the events before it. `listen_bytes` does the same with a
 //! recording that is at hand, and `hear_bytes` with bytes of one, of which nothing is written.
 //!
-//! So of `07 00 61 62 00 00 63 00 09`, whose second write fails, what is printed of the front and of both pieces stands (wire_tests,
-//! `hearing`).
+//! After docs/FORMATS.md, "Events of a stream of frames". So of `07 00 61 62 00 00 63 00 09`, whose second write fails, what is
+//! printed of the front and of both pieces stands (wire_tests, `hearing`).
 #![tactic(auto)]
 
 mod bytes;

@@ -8,7 +8,7 @@ use crate::take::take_uint;
 use defmt_grammar::Hint;
 use defmt_put::put_uint;
 
-/// The bits `lo` to `hi - 1` of a number of which `width` bytes are sent, the lowest of them its byte `first`.
+// The bits `lo` to `hi - 1` of a number of which `width` bytes are sent, the lowest of them its byte `first`.
 #[derive(Clone, Copy)]
 pub(crate) struct Field {
     pub first: u8,
@@ -56,7 +56,7 @@ fn field_of(sent: u64, field: Field) -> Option<u64>
     Some(low(rest, field.hi.saturating_sub(field.lo)))
 }
 
-/// Writes the field of the number whose bytes stand behind a place. It is not passed by.
+// Writes the field of the number whose bytes stand behind a place. It is not passed by.
 pub(crate) fn put_field(
     field: Field,
     hint: Hint,

@@ -12,25 +12,25 @@ use defmt_intern::{Parsed, Table};
 use defmt_values::{is_format, look_up};
 use std::alloc::Global;
 
-/// The steps of a Format value's string, or of each of its variants.
+// The steps of a Format value's string, or of each of its variants.
 #[derive(Drop)]
 pub(crate) enum Body {
     One(Vec<Step>),
     Variants(Vec<Vec<Step>>),
 }
 
-/// The plan of the string of Format values.
+// The plan of the string of Format values.
 #[derive(Drop)]
 pub(crate) struct Form {
     pub index: u16,
     pub body: Body,
 }
 
-/// The plans of the strings of Format values, in the order of their indexes.
+// The plans of the strings of Format values, in the order of their indexes.
 #[derive(Drop)]
 pub(crate) struct Forms {
     pub items: Vec<Form>,
-    // At an index the number of its plan, where it has one.
+    /// At an index the number of its plan, where it has one.
     pub numbers: Vec<u16>,
 }
 
@@ -117,7 +117,7 @@ fn indexes_of(alloc: Global, forms: &[Form]) -> Result<Vec<u16>, Memory> {
     Ok(indexes)
 }
 
-/// The plans of a table's strings that Format values may have.
+// The plans of a table's strings that Format values may have.
 pub(crate) fn forms_of(alloc: Global, table: &Table) -> Result<Forms, Memory>
     ensures { IfOk result (λ forms. AreFormsIn table.now.entries forms.items.items) }
 {
@@ -127,7 +127,7 @@ pub(crate) fn forms_of(alloc: Global, table: &Table) -> Result<Forms, Memory>
     Ok(Forms { items, numbers })
 }
 
-/// The plan of the string at an index, where it has one.
+// The plan of the string at an index, where it has one.
 #[inline(always)]
 pub(crate) fn find_form(forms: &Forms, index: u16) -> Option<&Form>
     ensures at { IfSome result (λ form. form.now.index ≡ index) }

@@ -267,7 +267,7 @@ fn pass_step(
     }
 }
 
-/// Steps, one after another, under the hint that acts round them. At most `left` levels of Format values may still be opened.
+// Steps, one after another, under the hint that acts round them. At most `left` levels of Format values may still be opened.
 #[cycle(inside)]
 pub(crate) fn pass_steps(
     forms: &Forms,

@@ -10,14 +10,14 @@ use crate::take::{take_bool, take_char, take_chunk, take_sized, take_str, take_u
 use defmt_grammar::{Hint, IntSize, Kind};
 use defmt_put::{half_of, put_bool, put_bytes, put_char, put_int, put_str, put_uint};
 
-/// How far a pass has come: the place in the message, and the place in the buffer.
+// How far a pass has come: the place in the message, and the place in the buffer.
 #[derive(Clone, Copy)]
 pub(crate) struct Progress {
     pub read: usize,
     pub written: usize,
 }
 
-/// An unsigned number.
+// An unsigned number.
 #[inline(always)]
 pub(crate) fn pass_uint(
     size: IntSize,
@@ -142,7 +142,7 @@ fn pass_array(
     })
 }
 
-/// A value of a kind that is usual.
+// A value of a kind that is usual.
 pub(crate) fn pass_value(
     kind: Kind,
     hint: Hint,

@@ -7,7 +7,7 @@ ghost use Rattle.defmt_plan.specs.Told.{IsHead};
 use crate::take::take_uint;
 use defmt_intern::Profile;
 
-/// The front of a message: its index, its place where the profile has one, and the place behind both.
+// The front of a message: its index, its place where the profile has one, and the place behind both.
 #[derive(Clone, Copy)]
 pub(crate) struct Head {
     pub index: u16,
@@ -23,7 +23,7 @@ pub struct Told {
     pub end: usize,
 }
 
-/// The front of a message in a profile.
+// The front of a message in a profile.
 #[inline(always)]
 pub(crate) fn read_head(profile: Profile, bytes: &[u8]) -> Option<Head>
     ensures { IfSome result (λ head. IsHead profile bytes.now head) }
@@ -71,7 +71,7 @@ fn few_sum(bytes: &[u8]) -> u32
     }
 }
 
-/// Whether bytes are at most six zeros, by their sum.
+// Whether bytes are at most six zeros, by their sum.
 #[inline(always)]
 pub(crate) fn is_padding(bytes: &[u8]) -> bool
     ensures { result ≡ true → (length bytes.now ≤ 6) × (all_zero bytes.now ≡ true) }

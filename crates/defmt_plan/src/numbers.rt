@@ -3,7 +3,7 @@
 use defmt_grammar::Memory;
 use std::alloc::Global;
 
-/// At each index up to the greatest of these, which grow, the number of its plan.
+// At each index up to the greatest of these, which grow, the number of its plan.
 pub(crate) fn numbers_of(alloc: Global, indexes: &[u16]) -> Result<Vec<u16>, Memory> {
     let Some(last) = indexes.last() else {
         return Ok(Vec::new(alloc));
@@ -18,7 +18,7 @@ pub(crate) fn numbers_of(alloc: Global, indexes: &[u16]) -> Result<Vec<u16>, Mem
     Ok(numbers)
 }
 
-/// The number that stands at an index: that of its plan, or of another where it has none.
+// The number that stands at an index: that of its plan, or of another where it has none.
 #[inline(always)]
 pub(crate) fn number_at(numbers: &[u16], index: u16) -> Option<u16> {
     numbers.get(usize::from(index)).copied()

@@ -11,7 +11,7 @@ use defmt_intern::{Parsed, Table, Tag};
 use defmt_values::{is_logged, look_up};
 use std::alloc::Global;
 
-/// The plan of a statement of a level or of println.
+// The plan of a statement of a level or of println.
 #[derive(Drop)]
 pub(crate) struct Plan {
     pub index: u16,
@@ -23,7 +23,7 @@ pub(crate) struct Plan {
     pub nested: bool,
 }
 
-/// The plan of a table's stamp.
+// The plan of a table's stamp.
 #[derive(Drop)]
 pub(crate) enum StampPlan {
     /// The table has none.
@@ -47,7 +47,7 @@ fn steps_at(alloc: Global, table: &Table, index: u16) -> Result<Option<Vec<Step>
     }
 }
 
-/// The plan of a table's stamp.
+// The plan of a table's stamp.
 pub(crate) fn stamp_plan(alloc: Global, table: &Table) -> Result<StampPlan, Memory>
     ensures { IfOk result (λ plan. SaysStamp table.now.entries plan) }
 {
@@ -133,7 +133,7 @@ fn plan_of(alloc: Global, table: &Table, index: u16) -> Result<Option<Plan>, Mem
     }))
 }
 
-/// The plans of a table's strings that are of a level or of println, and usual, in the order of their indexes.
+// The plans of a table's strings that are of a level or of println, and usual, in the order of their indexes.
 pub(crate) fn plans_of(alloc: Global, table: &Table) -> Result<Vec<Plan>, Memory>
     ensures { IfOk result (λ plans. ArePlansIn table.now.entries plans.items) }
 {

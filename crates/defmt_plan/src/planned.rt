@@ -135,7 +135,7 @@ impl PlannedTable {
         &self.table
     }
 
-    /// The plan of the string at an index, where it has one.
+    // The plan of the string at an index, where it has one.
     #[inline(always)]
     fn plan(&self, index: u16) -> Option<&Plan>
         ensures at { IfSome result (λ plan. plan.now.index ≡ index) }
@@ -150,7 +150,7 @@ impl PlannedTable {
         }
     }
 
-    /// The stamp, where the table has one.
+    // The stamp, where the table has one.
     #[inline(always)]
     fn stamp(&self, bytes: &[u8], from: usize, out: &mut [u8], at: usize) -> Option<Progress>
         requires read { from ≤ length bytes.now }
@@ -167,7 +167,7 @@ impl PlannedTable {
         }
     }
 
-    /// The arguments of a plan's string, with what its text has behind its front.
+    // The arguments of a plan's string, with what its text has behind its front.
     #[inline(always)]
     fn arguments(
         &self,

@@ -13,7 +13,7 @@ use crate::leaves::{Progress, pass_value};
 use crate::run::pass_field;
 use defmt_grammar::{Hint, Kind};
 
-/// How far a pass has come, and how many Format values it has opened.
+// How far a pass has come, and how many Format values it has opened.
 #[derive(Clone, Copy)]
 pub(crate) struct Reach {
     pub read: usize,
@@ -21,7 +21,7 @@ pub(crate) struct Reach {
     pub opened: usize,
 }
 
-/// The same behind so many bytes of the message more.
+// The same behind so many bytes of the message more.
 #[inline(always)]
 pub(crate) fn behind(before: Reach, count: usize) -> Reach
     requires { before.read + count < 2 ^ 64 }
@@ -36,7 +36,7 @@ pub(crate) fn behind(before: Reach, count: usize) -> Reach
     }
 }
 
-/// A value that is usual, whatever levels may still be opened.
+// A value that is usual, whatever levels may still be opened.
 #[inline(always)]
 pub(crate) fn pass_leaf(
     kind: Kind,
@@ -63,7 +63,7 @@ pub(crate) fn pass_leaf(
     })
 }
 
-/// Bits of a number, which is passed by where they are its last.
+// Bits of a number, which is passed by where they are its last.
 #[inline(always)]
 pub(crate) fn pass_bits(
     field: Field,

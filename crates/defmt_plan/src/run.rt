@@ -12,8 +12,8 @@ use crate::steps::Step;
 use defmt_grammar::{Hint, IntSize, Kind};
 use defmt_put::put_text;
 
-/// A step for bits of a number; the number is passed by where it is used for the last time. It stands apart from the steps that
-/// most strings have.
+// A step for bits of a number; the number is passed by where it is used for the last time. It stands apart from the steps that
+// most strings have.
 #[inline(never)]
 pub(crate) fn pass_field(
     field: Field,
@@ -96,8 +96,8 @@ fn run_all(steps: &[Step], bytes: &[u8], from: usize, out: &mut [u8], at: usize)
     Some(progress)
 }
 
-/// All steps. The text of the pieces that they are stands behind the place, with arguments that the bytes carry for
-/// their slots. Where there is none, or a number alone, nothing is called for them.
+// All steps. The text of the pieces that they are stands behind the place, with arguments that the bytes carry for
+// their slots. Where there is none, or a number alone, nothing is called for them.
 #[inline(always)]
 pub(crate) fn run(
     steps: &[Step],

@@ -10,7 +10,7 @@ use crate::bits::Field;
 use defmt_grammar::{Hint, Kind, Memory, Param, Piece, Pieces, Slot, Text};
 use std::alloc::Global;
 
-/// A step of a plan.
+// A step of a plan.
 #[derive(Drop)]
 pub(crate) enum Step {
     /// Characters that stand for themselves.
@@ -23,7 +23,7 @@ pub(crate) enum Step {
     Bits(Field, Hint),
 }
 
-/// How far the making of steps has come: the next position, and how many fields of its number are before.
+// How far the making of steps has come: the next position, and how many fields of its number are before.
 #[derive(Clone, Copy)]
 pub(crate) struct Next {
     pub position: usize,
@@ -125,8 +125,8 @@ fn behind(next: Next, step: &Step) -> Next
     }
 }
 
-/// The steps of the pieces of a string, where these use each position in order, and once unless for fields of a number. What they
-/// begin with may be left out, where that is a literal.
+// The steps of the pieces of a string, where these use each position in order, and once unless for fields of a number. What they
+// begin with may be left out, where that is a literal.
 pub(crate) fn steps_of(
     alloc: Global,
     pieces: &[Piece],
@@ -166,7 +166,7 @@ fn holds_values(kind: Kind) -> bool
     )
 }
 
-/// Whether other values may stand inside one that the steps pass.
+// Whether other values may stand inside one that the steps pass.
 pub(crate) fn are_nested(steps: &[Step]) -> bool {
     for step in steps {
         if let Step::Value(kind, _) = step

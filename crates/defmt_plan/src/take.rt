@@ -12,7 +12,7 @@ use byteorder::{ByteOrder, LittleEndian};
 use defmt_grammar::IntSize;
 use std::str;
 
-/// The number in the bytes behind a place, of which there are 1, 2, 4 or 8.
+// The number in the bytes behind a place, of which there are 1, 2, 4 or 8.
 #[inline(always)]
 pub(crate) fn take_uint(bytes: &[u8], at: usize, width: usize) -> Option<u64>
     requires within { at ≤ length bytes.now }
@@ -33,7 +33,7 @@ pub(crate) fn take_uint(bytes: &[u8], at: usize, width: usize) -> Option<u64>
     }
 }
 
-/// The number of bytes of an integer.
+// The number of bytes of an integer.
 #[inline(always)]
 pub(crate) fn width_of(size: IntSize) -> usize
     ensures { result ≡ size_bytes size }
@@ -47,7 +47,7 @@ pub(crate) fn width_of(size: IntSize) -> usize
     }
 }
 
-/// The number of a size of up to 64 bits in the bytes behind a place.
+// The number of a size of up to 64 bits in the bytes behind a place.
 #[inline(always)]
 pub(crate) fn take_sized(bytes: &[u8], at: usize, size: IntSize) -> Option<u64>
     requires within { at ≤ length bytes.now }
@@ -64,7 +64,7 @@ pub(crate) fn take_sized(bytes: &[u8], at: usize, size: IntSize) -> Option<u64>
     }
 }
 
-/// The truth value in the byte behind a place.
+// The truth value in the byte behind a place.
 pub(crate) fn take_bool(bytes: &[u8], at: usize) -> Option<bool>
     requires within { at ≤ length bytes.now }
     ensures { IfSome result (λ b. Carried bytes.now at (at + 1) (flag_byte b ∷ [])) }
@@ -79,7 +79,7 @@ pub(crate) fn take_bool(bytes: &[u8], at: usize) -> Option<bool>
     }
 }
 
-/// The text behind a place, in front of which its length stands.
+// The text behind a place, in front of which its length stands.
 pub(crate) fn take_str(bytes: &[u8], at: usize) -> Option<&str>
     requires within { at ≤ length bytes.now }
     ensures carried { IfSome result (λ s. Carried bytes.now at (at + 4 + length s.now)
@@ -98,7 +98,7 @@ pub(crate) fn take_str(bytes: &[u8], at: usize) -> Option<&str>
     }
 }
 
-/// The character behind a place.
+// The character behind a place.
 pub(crate) fn take_char(bytes: &[u8], at: usize) -> Option<char>
     requires within { at ≤ length bytes.now }
     ensures carried { IfSome result (λ c. Carried bytes.now at (at + 4) (little_bytes 4 c)) }
@@ -108,7 +108,7 @@ pub(crate) fn take_char(bytes: &[u8], at: usize) -> Option<char>
     char::from_u32(number)
 }
 
-/// So many bytes behind a place.
+// So many bytes behind a place.
 pub(crate) fn take_chunk(bytes: &[u8], at: usize, count: usize) -> Option<&[u8]>
     requires within { at ≤ length bytes.now }
     ensures carried { IfSome result (λ s. Carried bytes.now at (at + count) s.now) }

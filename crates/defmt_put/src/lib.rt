@@ -3,8 +3,8 @@
 //! Each call answers the place behind its text, or `None` where the buffer ends before, or where it leaves the value to the calls of
 //! defmt_hints. What stands in front of the place is as before in any case. No call takes memory.
 //!
-//! So `put_uint` writes 10 under `{=u8:#04x}` as `0x0a`, as defmt_hints says (docs/FORMATS.md, "Printed values"); tests/guide.sh
-//! runs it by the program.
+//! So `put_uint` writes 10 under `{=u8:#04x}` as `0x0a`, as defmt_hints says (docs/FORMATS.md, "Printed values"). The program does so
+//! in an example of docs/USER-GUIDE.md, which tests/guide.sh runs.
 #![tactic(auto)]
 
 mod lists;

@@ -27,7 +27,7 @@ fn are_bare(bytes: &[u8]) -> bool
     true
 }
 
-/// Writes a text between double quotes, where nothing in it is to be escaped.
+// Writes a text between double quotes, where nothing in it is to be escaped.
 pub(crate) fn put_quoted(out: &mut [u8], at: usize, text: &str) -> Option<usize>
     requires { at ≤ length out.old }
     ensures { Writes result out.old at out.new (quoted_text 34 text.now) }

@@ -118,7 +118,7 @@ fn put_in_base(out: &mut [u8], at: usize, number: u64, base: Base, width: u8) ->
     }
 }
 
-/// Writes a number in a hint's base.
+// Writes a number in a hint's base.
 pub(crate) fn put_radix(
     out: &mut [u8],
     at: usize,
@@ -139,8 +139,8 @@ pub(crate) fn put_radix(
     put_in_base(out, middle, number, base, zeros_and_digits)
 }
 
-/// Writes a number divided by a unit, with as many digits behind the point as the unit has zeros. It stands apart, so that the
-/// numbers that most texts have are written without it.
+// Writes a number divided by a unit, with as many digits behind the point as the unit has zeros. It stands apart, so that the
+// numbers that most texts have are written without it.
 #[inline(never)]
 pub(crate) fn put_fraction(
     out: &mut [u8],

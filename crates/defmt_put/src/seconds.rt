@@ -76,7 +76,7 @@ fn put_long(out: &mut [u8], at: usize, whole: u64, parts: u64) -> Option<usize>
     put_parts(out, point, parts)
 }
 
-/// Writes microseconds as seconds.
+// Writes microseconds as seconds.
 pub(crate) fn put_micros(out: &mut [u8], at: usize, number: u64) -> Option<usize>
     requires { at ≤ length out.old }
     ensures { Writes result out.old at out.new (fraction_text 1000000 6 number) }

@@ -1,7 +1,8 @@
 //! Scripts: a ring, a table of strings, and the statements of eight writers with what they say on terminals, read from a text
 //! line by line (docs/SCRIPT.md).
 //!
-//! What a script of each form of line reads as, or where it is refused, stands in script_tests, `scripts`.
+//! So `s hi defmt_info hello` and `w 0 hi` are a script of one string and of one statement of the writer 0. What a script of each form
+//! of line reads as, or where it is refused, stands in script_tests, `scripts`.
 #![tactic(auto)]
 
 mod actions;

@@ -4,7 +4,8 @@
 //! [`run_steered`] splits two rings, and starts a steered logger over the upper end of the one and the lower end of the other. The
 //! calling thread reads the frames meanwhile, sends each order once it is due, does what is left, and settles both rings.
 //!
-//! So behind the orders `warn` and `info` a debug statement is muted, and one of info sent (device_tests, `hosted`).
+//! Threads and locks are std's; orders are those of docs/FORMATS.md, "Orders of levels". So behind the orders `warn` and `info` a
+//! debug statement is muted, and one of info sent (device_tests, `hosted`).
 #![tactic(auto)]
 
 mod counting;

@@ -5,7 +5,8 @@
 //! pen and voice, and says the writer's texts among the statements. The calling thread reads at both rings meanwhile, does what is
 //! left, and settles both.
 //!
-//! So a writer with one statement and three texts sends 4 bytes over the one ring and 20 over the other (device_tests, `talks`).
+//! Threads and locks are std's; texts are those of docs/SCRIPT.md. So a writer with one statement and three texts sends 4 bytes
+//! over the one ring and 20 over the other (device_tests, `talks`).
 #![tactic(auto)]
 
 mod all_writers;

@@ -134,7 +134,7 @@ fn orders_of(line: &str) -> (Option<Level>, Option<Level>, Option<Level>) {
     (level_of(first), level_of(second), level_of(third))
 }
 
-/// Puts a line for each turn, how many there are, and at which the first two orders had been heard.
+// Puts a line for each turn, how many there are, and at which the first two orders had been heard.
 pub(crate) fn put_turns(turns: &Turns, out: &mut String) -> Result<(), Fail> {
     for turn in turns.as_slice() {
         let Turn {

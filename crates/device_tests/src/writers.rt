@@ -221,7 +221,7 @@ enum Told<'g> {
     Reached(&'g AtomicU64),
 }
 
-/// Puts how many marks a run has, what it sent over which ring, and what was captured of that.
+// Puts how many marks a run has, what it sent over which ring, and what was captured of that.
 pub(crate) fn put_account(run: &Run, out: &mut String) -> Result<(), Fail> {
     let (count, sent, ring) = (run.tape.len(), run.settled.sent_len(), run.settled.ring());
     write!(out, "{count} marks, {sent} bytes sent, {ring:?}\ncaptured ")?;

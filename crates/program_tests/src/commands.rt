@@ -138,7 +138,7 @@ w 0 hi
 status 0 fine
 00 01 7e 00 00 01 01 7a 00";
 
-/// Puts the status of an outcome, and below it the digits of what was written.
+// Puts the status of an outcome, and below it the digits of what was written.
 pub(crate) fn put_bytes(
     alloc: Global,
     outcome: &Outcome,
@@ -166,7 +166,7 @@ w 0 hi
 =
 status 0 fine, 508 bytes";
 
-/// Puts the status of an outcome, and how many bytes were written.
+// Puts the status of an outcome, and how many bytes were written.
 pub(crate) fn put_length(
     alloc: Global,
     outcome: &Outcome,

@@ -9,7 +9,7 @@ use std::test::Fail;
 use std::thread::Threads;
 use test_rows::{bytes_of, changed_of, number_of, parted};
 
-/// A script that logs one string.
+// A script that logs one string.
 pub(crate) const HI: &str = "s hi defmt_info hello\nw 0 hi";
 
 // The same in profile Two.
@@ -116,7 +116,7 @@ defmtl decode --table other.elf
 =
 status 7 shelf";
 
-/// Puts the tables of `HI` and `HI_AT` on the shelf, and a file that is no table.
+// Puts the tables of `HI` and `HI_AT` on the shelf, and a file that is no table.
 pub(crate) fn add_files<R: Threads + Wait + Sync>(
     rt: &R,
     alloc: Global,
@@ -128,7 +128,7 @@ pub(crate) fn add_files<R: Threads + Wait + Sync>(
     Ok(shelf.put("no.elf", file)?)
 }
 
-/// Puts what is told of a session whose source gives these bytes, with the files on the shelf.
+// Puts what is told of a session whose source gives these bytes, with the files on the shelf.
 pub(crate) fn put_recording<R: Threads + Wait + Sync>(
     rt: &R,
     alloc: Global,
@@ -142,7 +142,7 @@ pub(crate) fn put_recording<R: Threads + Wait + Sync>(
     put_session(rt, alloc, &Kind::Decoded, line, stage, &OpenGate, out)
 }
 
-/// Puts what is told of a decoding: its words and the digits of the recording.
+// Puts what is told of a decoding: its words and the digits of the recording.
 pub(crate) fn put_decoded<R: Threads + Wait + Sync>(
     rt: &R,
     alloc: Global,
@@ -210,7 +210,7 @@ fn put_by_changed<R: Threads + Wait + Sync>(
     put_session(rt, alloc, &Kind::Changed, line, stage, &OpenGate, out)
 }
 
-/// Puts what is told of a decoding by a changed table: the byte's place, the byte and the digits of the recording, and the script.
+// Puts what is told of a decoding by a changed table: the byte's place, the byte and the digits of the recording, and the script.
 pub(crate) fn put_changed<R: Threads + Wait + Sync>(
     rt: &R,
     alloc: Global,

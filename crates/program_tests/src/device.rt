@@ -100,7 +100,7 @@ w 3 error0 3 %9 pt(num(3) opt:1(num(255)))
 =
 status 0 fine, 2000 lines, the same"#;
 
-/// Puts the status of an outcome and the lines without their stamps, those of a writer behind those of the writer before it.
+// Puts the status of an outcome and the lines without their stamps, those of a writer behind those of the writer before it.
 pub(crate) fn put_by_writer(
     alloc: Global,
     outcome: &Outcome,
@@ -173,7 +173,7 @@ fn put_both<R: Threads + Wait + Sync>(
     Ok(())
 }
 
-/// Puts what is told of a device, whose script the row is.
+// Puts what is told of a device, whose script the row is.
 pub(crate) fn put_device<R: Threads + Wait + Sync>(
     rt: &R,
     alloc: Global,

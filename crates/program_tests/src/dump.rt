@@ -154,7 +154,7 @@ fn given_image(alloc: Global, steps: &str) -> Result<Vec<u8>, Fail> {
     }
 }
 
-/// Puts what is told of the decoding of an image: its words and the steps that make the image.
+// Puts what is told of the decoding of an image: its words and the steps that make the image.
 pub(crate) fn put_dumped<R: Threads + Wait + Sync>(
     rt: &R,
     alloc: Global,

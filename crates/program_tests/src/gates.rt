@@ -276,7 +276,7 @@ fn put_counted(gate: &Holding, out: &mut String) {
     put(out, " out of turn");
 }
 
-/// Puts what is told behind a gate, and of it: the gate's numbers, the words and the script.
+// Puts what is told behind a gate, and of it: the gate's numbers, the words and the script.
 pub(crate) fn put_held<R: Threads + Wait + Sync>(
     rt: &R,
     alloc: Global,

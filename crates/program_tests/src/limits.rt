@@ -70,7 +70,7 @@ fn put_repeated<R: Threads + Wait + Sync>(
     put_lines(alloc, &outcome, stage.sink.held(), out)
 }
 
-/// Puts what is told where a source gives one byte so often: its name, how often, and the words.
+// Puts what is told where a source gives one byte so often: its name, how often, and the words.
 pub(crate) fn put_long<R: Threads + Wait + Sync>(
     rt: &R,
     alloc: Global,

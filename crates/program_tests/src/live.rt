@@ -63,7 +63,7 @@ fn put_compared(told: &str, due: &str, marks: usize, out: &mut String) {
     }
 }
 
-/// Puts whether the lines and reports are those that the tape asks for, and else the lines.
+// Puts whether the lines and reports are those that the tape asks for, and else the lines.
 pub(crate) fn put_verdict(
     alloc: Global,
     outcome: &Outcome,

@@ -255,7 +255,7 @@ fn put_calls<R: Threads + Wait + Sync>(
     Err(Fail::new("each call fails"))
 }
 
-/// Puts what is told where calls fail in turn: who fails, the words and what the source gives.
+// Puts what is told where calls fail in turn: who fails, the words and what the source gives.
 pub(crate) fn put_turns<R: Threads + Wait + Sync>(
     rt: &R,
     alloc: Global,

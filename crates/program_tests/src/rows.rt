@@ -13,7 +13,7 @@ use std::sync::Wait;
 use std::test::Fail;
 use std::thread::Threads;
 
-/// What is asked of an input, each as its module says, and what is told of a session beside its status.
+// What is asked of an input, each as its module says, and what is told of a session beside its status.
 #[derive(Drop)]
 pub(crate) enum Kind {
     /// The lines that a script's session writes.
@@ -98,7 +98,7 @@ fn each_row<R: Threads + Wait + Sync>(
     })
 }
 
-/// Asks for the answers of lines, as `test_rows::each_line` does.
+// Asks for the answers of lines, as `test_rows::each_line` does.
 pub(crate) fn each_line<R: Threads + Wait + Sync>(
     rt: &R,
     alloc: Global,
@@ -109,7 +109,7 @@ pub(crate) fn each_line<R: Threads + Wait + Sync>(
     each_row(rt, alloc, lines, "\n", " = ", count, kind)
 }
 
-/// Asks for the answers of blocks, as `test_rows::each_block` does.
+// Asks for the answers of blocks, as `test_rows::each_block` does.
 pub(crate) fn each_block<R: Threads + Wait + Sync>(
     rt: &R,
     alloc: Global,

@@ -7,7 +7,7 @@ use std::test::Fail;
 use std::thread::Threads;
 use test_rows::{parted, put_repeated};
 
-/// Puts what is told of the session of a row: its words and a script.
+// Puts what is told of the session of a row: its words and a script.
 pub(crate) fn put_row<R: Threads + Wait + Sync>(
     rt: &R,
     alloc: Global,
@@ -20,7 +20,7 @@ pub(crate) fn put_row<R: Threads + Wait + Sync>(
     put_played(rt, alloc, kind, line, script, stage, out)
 }
 
-/// Puts what is told of the session of a row, of whose script the last lines are repeated.
+// Puts what is told of the session of a row, of whose script the last lines are repeated.
 pub(crate) fn put_repeated_row<R: Threads + Wait + Sync>(
     rt: &R,
     alloc: Global,

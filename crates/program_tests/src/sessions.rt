@@ -15,7 +15,7 @@ use std::test::Fail;
 use std::thread::Threads;
 use test_rows::{is_same, put, put_ended, put_number, text_of, words_of};
 
-/// What a session reads, where its files stand, and what it writes into.
+// What a session reads, where its files stand, and what it writes into.
 #[derive(Drop)]
 pub(crate) struct Stage {
     pub source: MemSource,
@@ -23,7 +23,7 @@ pub(crate) struct Stage {
     pub sink: MemSink,
 }
 
-/// A stage without files, whose source gives nothing and whose sink has no room.
+// A stage without files, whose source gives nothing and whose sink has no room.
 pub(crate) fn empty_stage(alloc: Global) -> Stage {
     Stage {
         source: MemSource::new(Bytes::new(alloc), Bytes::new(alloc)),
@@ -68,8 +68,8 @@ fn sink_of(alloc: Global, who: &str, call: u8) -> Result<MemSink, Fail> {
     Ok(MemSink::new(held, fails_of(alloc, who, "sink", call)?))
 }
 
-/// Makes a stage one without files, whose source gives these bytes and those behind them. Of `source`, `shelf` and `sink` the one with this name fails at
-/// the call with this number; the name `room` gives the sink room for so many bytes.
+// Makes a stage one without files, whose source gives these bytes and those behind them. Of `source`, `shelf` and `sink` the one with this name fails at
+// the call with this number; the name `room` gives the sink room for so many bytes.
 pub(crate) fn set_failing(
     alloc: Global,
     bytes: &[u8],
@@ -84,7 +84,7 @@ pub(crate) fn set_failing(
     Ok(())
 }
 
-/// The same where nothing fails.
+// The same where nothing fails.
 pub(crate) fn set_stage(
     alloc: Global,
     bytes: &[u8],
@@ -94,7 +94,7 @@ pub(crate) fn set_stage(
     set_failing(alloc, bytes, end, "nobody", 0, stage)
 }
 
-/// What a session on the words of this line comes to.
+// What a session on the words of this line comes to.
 pub(crate) fn outcome_of<S: Source, G: Gate + Sync, R: Threads + Wait + Sync>(
     rt: &R,
     alloc: Global,
@@ -108,7 +108,7 @@ pub(crate) fn outcome_of<S: Source, G: Gate + Sync, R: Threads + Wait + Sync>(
     Ok(session(rt, alloc, &words, source, shelf, sink, gate))
 }
 
-/// Puts the status of an outcome and its words, as `status 0 fine`.
+// Puts the status of an outcome and its words, as `status 0 fine`.
 pub(crate) fn put_status(alloc: Global, outcome: &Outcome, out: &mut String) -> Result<(), Fail> {
     let said = outcome.say(alloc)?;
     put(out, "status ");
@@ -118,7 +118,7 @@ pub(crate) fn put_status(alloc: Global, outcome: &Outcome, out: &mut String) -> 
     Ok(())
 }
 
-/// Puts the status of an outcome, and behind it the lines that were written.
+// Puts the status of an outcome, and behind it the lines that were written.
 pub(crate) fn put_lines(
     alloc: Global,
     outcome: &Outcome,
@@ -151,7 +151,7 @@ fn put_told(
     }
 }
 
-/// Puts what rows of a kind tell of a session on the words of this line.
+// Puts what rows of a kind tell of a session on the words of this line.
 pub(crate) fn put_session<G: Gate + Sync, R: Threads + Wait + Sync>(
     rt: &R,
     alloc: Global,
@@ -173,7 +173,7 @@ pub(crate) fn put_session<G: Gate + Sync, R: Threads + Wait + Sync>(
     put_told(alloc, kind, &outcome, stage.sink.held(), out)
 }
 
-/// Puts what rows of a kind tell of a session on a script, behind whose last line a newline stands.
+// Puts what rows of a kind tell of a session on a script, behind whose last line a newline stands.
 pub(crate) fn put_played<R: Threads + Wait + Sync>(
     rt: &R,
     alloc: Global,
@@ -200,7 +200,7 @@ fn written_in<R: Threads + Wait + Sync>(
     Ok(Bytes::from_slice(alloc, stage.sink.held())?)
 }
 
-/// What a session on a script writes.
+// What a session on a script writes.
 pub(crate) fn written_of<R: Threads + Wait + Sync>(
     rt: &R,
     alloc: Global,
@@ -211,7 +211,7 @@ pub(crate) fn written_of<R: Threads + Wait + Sync>(
     written_in(rt, alloc, line, script, &mut stage)
 }
 
-/// Puts the table of a script on a shelf.
+// Puts the table of a script on a shelf.
 pub(crate) fn add_table<R: Threads + Wait + Sync>(
     rt: &R,
     alloc: Global,

@@ -5,7 +5,7 @@ use std::alloc::Global;
 use std::test::Fail;
 use test_rows::{begins_with, is_same, parted, put, put_ended, put_number, put_once, text_of};
 
-/// Puts the status of an outcome, how many marks there are, and behind a bar what was written.
+// Puts the status of an outcome, how many marks there are, and behind a bar what was written.
 pub(crate) fn put_marked(
     alloc: Global,
     outcome: &Outcome,
@@ -31,7 +31,7 @@ fn share_of(written: &str, due: &str) -> &'static str {
     }
 }
 
-/// Puts what is told of a session with a fault, where without a fault this is told, unless it stands there.
+// Puts what is told of a session with a fault, where without a fault this is told, unless it stands there.
 pub(crate) fn put_share(
     alloc: Global,
     told: &str,
@@ -47,7 +47,7 @@ pub(crate) fn put_share(
     put_once(line.as_str(), out)
 }
 
-/// Puts the status and the lines of a session without a fault.
+// Puts the status and the lines of a session without a fault.
 pub(crate) fn put_whole(whole: &str, out: &mut String) {
     let (front, lines) = parted(whole, '|');
     let (status, _) = parted(front, ',');

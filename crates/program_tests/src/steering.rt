@@ -237,7 +237,7 @@ fn put_count(lines: &str, front: &str, out: &mut String) {
     put(out, front);
 }
 
-/// Puts how many turns there are, and how many lines are of orders and how many of errors.
+// Puts how many turns there are, and how many lines are of orders and how many of errors.
 pub(crate) fn put_heard(
     alloc: Global,
     outcome: &Outcome,

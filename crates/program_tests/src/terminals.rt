@@ -127,7 +127,7 @@ fn put_writer(alloc: Global, lines: &str, front: &str, out: &mut String) {
     put(out, " in order");
 }
 
-/// Puts how many marks and words there are, and how many lines of the writers 0 and 1 stand in their order.
+// Puts how many marks and words there are, and how many lines of the writers 0 and 1 stand in their order.
 pub(crate) fn put_order(
     alloc: Global,
     outcome: &Outcome,

@@ -106,7 +106,7 @@ fn put_event(event: &Event, out: &mut String) {
     }
 }
 
-/// Puts the status of an outcome, its marks, its ring, what was said on terminals and sent down, and its events.
+// Puts the status of an outcome, its marks, its ring, what was said on terminals and sent down, and its events.
 pub(crate) fn put_account(alloc: Global, outcome: &Outcome, out: &mut String) -> Result<(), Fail> {
     put_status(alloc, outcome, out)?;
     put_marks(outcome, out);
@@ -119,7 +119,7 @@ pub(crate) fn put_account(alloc: Global, outcome: &Outcome, out: &mut String) ->
     Ok(())
 }
 
-/// Puts how many bytes the reader of a run got, and behind it the status and the lines that were written.
+// Puts how many bytes the reader of a run got, and behind it the status and the lines that were written.
 pub(crate) fn put_got(
     alloc: Global,
     outcome: &Outcome,

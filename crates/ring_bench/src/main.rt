@@ -4,6 +4,9 @@
 //! Each round tries both rings, and prints a line for each: its name, its size, the bytes of a frame and all bytes that went
 //! through. With `timed` behind it, there stands also how many nanoseconds it took, from the making of the ring to its
 //! settling.
+//!
+//! The rings are those of docs/PERFORMANCE.md, "The rings". So `16 3 20 2` sends 20 frames of 3 bytes, which are 60, through both rings in
+//! each of two rounds (its stored run).
 #![tactic(auto)]
 
 mod passage;

@@ -57,8 +57,8 @@ fn parted(words: &[String]) -> Option<(&[String], bool)>
     }
 }
 
-/// What the words SIZE FRAME COUNT ROUNDS ask for, and `timed` behind them where times are to be told. A size is from 16 to
-/// 65,536 bytes, a frame has 1 to 2,000. `None` comes exactly where they ask for nothing.
+// What the words SIZE FRAME COUNT ROUNDS ask for, and `timed` behind them where times are to be told. A size is from 16 to
+// 65,536 bytes, a frame has 1 to 2,000. `None` comes exactly where they ask for nothing.
 pub(crate) fn plan_of(words: &[String]) -> Option<Plan>
     ensures asked { IfSome result (λ plan. AsksFor (map string_bytes words.now) plan.size plan.frame plan.count plan.rounds plan.timed) }
     ensures none { (size frame count rounds : ℕ) (timed : Bool) → AsksFor (map string_bytes words.now) size frame count rounds timed → result ≡ None → ⊥ }

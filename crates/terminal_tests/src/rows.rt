@@ -5,7 +5,7 @@ use std::alloc::Global;
 use std::sync::Wait;
 use std::test::Fail;
 
-/// What is asked of an input, each as its module says.
+// What is asked of an input, each as its module says.
 #[derive(Drop)]
 pub(crate) enum Kind {
     Named,
@@ -47,7 +47,7 @@ fn each_row<W: Wait>(
     })
 }
 
-/// Asks for the answers of lines, as `test_rows::each_line` does.
+// Asks for the answers of lines, as `test_rows::each_line` does.
 pub(crate) fn each_line<W: Wait>(
     rt: &W,
     alloc: Global,
@@ -58,7 +58,7 @@ pub(crate) fn each_line<W: Wait>(
     each_row(rt, alloc, lines, "\n", " = ", count, kind)
 }
 
-/// Asks for the answers of blocks, as `test_rows::each_block` does.
+// Asks for the answers of blocks, as `test_rows::each_block` does.
 pub(crate) fn each_block<W: Wait>(
     rt: &W,
     alloc: Global,
