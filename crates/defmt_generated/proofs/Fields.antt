@@ -8,7 +8,7 @@ use Rattle.defmt_generated.proofs.Texts.{ArePrintable, printable_utf8}
 use Rattle.defmt_generated.specs.Lines.{statement_line}
 use Rattle.defmt_grammar.specs.Cut.{cut}
 use Rattle.defmt_lines.proofs.LineLaws.{line_found}
-use Rattle.defmt_lines.specs.Line.{Line, Says, act, act_of, field_and_rest, line_of, line_of_known, line_of_text, worded}
+use Rattle.defmt_lines.specs.Line.{Line, Says, act, act_of, field_and_rest, line_of, line_of_known, line_of_text, line_by_word}
 use Rattle.defmt_lines.specs.Number.{is_digits, within, writer_of}
 use Rattle.defmt_lines.specs.declared.form.Form.TheVariants as forms
 
@@ -26,7 +26,7 @@ said bytes line p is = subst (λ (l : Line). Says bytes l) (read bytes line p is
 -- a writer's digit
 by_writer : (w : ℕ) → w < 4 → (text : List ℕ)
     → line_of_text (codes "w " ++ (decimal w ++ (codes " " ++ text))) ≡ act forms.Statement (Some w) (field_and_rest text).0 (field_and_rest text).1
-unfolding worded act_of cut writer_of is_digits within digits
+unfolding line_by_word act_of cut writer_of is_digits within digits
 by_writer zero lt text = refl
 by_writer (suc zero) lt text = refl
 by_writer (suc (suc zero)) lt text = refl

@@ -13,7 +13,7 @@ use Rattle.defmt_intern.specs.declared.entry.Tag.{Tag}
 use Rattle.defmt_intern.specs.declared.entry.Tag.TheVariants as tags
 use Rattle.defmt_lines.specs.Form.{in_order}
 use Rattle.defmt_lines.proofs.SettingLaws.{set_found}
-use Rattle.defmt_lines.specs.Line.{Line, Says, entry, entry_of, field_and_rest, head, one_field, two_fields, worded}
+use Rattle.defmt_lines.specs.Line.{Line, Says, entry, entry_of, field_and_rest, head, one_field, two_fields, line_by_word}
 use Rattle.defmt_shapes.specs.Shape.{is_name}
 use Rattle.defmt_lines.specs.Number.{has_leading_zero, is_digits, number_within, within}
 use Rattle.defmt_lines.specs.Settings.{with_mode, with_reader, with_ring, with_stamp, with_words}
@@ -75,19 +75,19 @@ unfolding with_stamp number_within is_digits has_leading_zero within
 stamp_taken = setting_taken (settled forms.Stamp None) no_strings forms.Stamp (codes "1000" ∷ codes "250" ∷ []) refl
 
 ring_said : Says (codes "ring 1024") ring_line
-unfolding worded one_field cut
+unfolding line_by_word one_field cut
 ring_said = said (codes "ring 1024") ring_line (tested (codes "ring 1024") refl) refl
 
 mode_said : Says (codes "mode block") mode_line
-unfolding worded one_field cut
+unfolding line_by_word one_field cut
 mode_said = said (codes "mode block") mode_line (tested (codes "mode block") refl) refl
 
 reader_said : Says (codes "reader live") reader_line
-unfolding worded one_field cut
+unfolding line_by_word one_field cut
 reader_said = said (codes "reader live") reader_line (tested (codes "reader live") refl) refl
 
 stamp_said : Says (codes "stamp 1000 250") stamp_line
-unfolding worded one_field two_fields cut
+unfolding line_by_word one_field two_fields cut
 stamp_said = said (codes "stamp 1000 250") stamp_line (tested (codes "stamp 1000 250") refl) refl
 
 -- ---- strings
@@ -130,7 +130,7 @@ boot_taken : Takes no_strings (entry (codes "boot") tags.Info (codes "boot {=u8}
 boot_taken = string_taken 0 no_strings (codes "boot") tags.Info (codes "boot {=u8}") refl refl (new_name [] (codes "boot") refl) none_yet (lit< tt) boot_judged
 
 boot_said : Says (codes "s boot defmt_info boot {=u8}") (entry (codes "boot") tags.Info (codes "boot {=u8}"))
-unfolding worded entry_of field_and_rest cut
+unfolding line_by_word entry_of field_and_rest cut
 boot_said = said (codes "s boot defmt_info boot {=u8}") (entry (codes "boot") tags.Info (codes "boot {=u8}")) (tested (codes "s boot defmt_info boot {=u8}") refl) refl
 
 temp_judged : Judges tags.Debug (codes "temp {=i16} of {=[u8]:02x}") None
@@ -141,7 +141,7 @@ temp_taken : Takes one_string (entry (codes "temp") tags.Debug (codes "temp {=i1
 temp_taken = string_taken 1 one_string (codes "temp") tags.Debug (codes "temp {=i16} of {=[u8]:02x}") refl refl (new_name one_name (codes "temp") refl) one_yet (lit< tt) temp_judged
 
 temp_said : Says (codes "s temp defmt_debug temp {=i16} of {=[u8]:02x}") (entry (codes "temp") tags.Debug (codes "temp {=i16} of {=[u8]:02x}"))
-unfolding worded entry_of field_and_rest cut
+unfolding line_by_word entry_of field_and_rest cut
 temp_said = said (codes "s temp defmt_debug temp {=i16} of {=[u8]:02x}") (entry (codes "temp") tags.Debug (codes "temp {=i16} of {=[u8]:02x}")) (tested (codes "s temp defmt_debug temp {=i16} of {=[u8]:02x}") refl) refl
 
 link_judged : Judges tags.Warn (codes "link {=bool} {=str:?}") None
@@ -152,7 +152,7 @@ link_taken : Takes two_strings (entry (codes "link") tags.Warn (codes "link {=bo
 link_taken = string_taken 2 two_strings (codes "link") tags.Warn (codes "link {=bool} {=str:?}") refl refl (new_name two_names (codes "link") refl) two_yet (lit< tt) link_judged
 
 link_said : Says (codes "s link defmt_warn link {=bool} {=str:?}") (entry (codes "link") tags.Warn (codes "link {=bool} {=str:?}"))
-unfolding worded entry_of field_and_rest cut
+unfolding line_by_word entry_of field_and_rest cut
 link_said = said (codes "s link defmt_warn link {=bool} {=str:?}") (entry (codes "link") tags.Warn (codes "link {=bool} {=str:?}")) (tested (codes "s link defmt_warn link {=bool} {=str:?}") refl) refl
 
 fail_judged : Judges tags.Error (codes "fail {=u32:#010x}") None
@@ -163,7 +163,7 @@ fail_taken : Takes three_strings (entry (codes "fail") tags.Error (codes "fail {
 fail_taken = string_taken 3 three_strings (codes "fail") tags.Error (codes "fail {=u32:#010x}") refl refl (new_name three_names (codes "fail") refl) three_yet (lit< tt) fail_judged
 
 fail_said : Says (codes "s fail defmt_error fail {=u32:#010x}") (entry (codes "fail") tags.Error (codes "fail {=u32:#010x}"))
-unfolding worded entry_of field_and_rest cut
+unfolding line_by_word entry_of field_and_rest cut
 fail_said = said (codes "s fail defmt_error fail {=u32:#010x}") (entry (codes "fail") tags.Error (codes "fail {=u32:#010x}")) (tested (codes "s fail defmt_error fail {=u32:#010x}") refl) refl
 
 tick_judged : Judges tags.Trace (codes "tick {=u64}") None
@@ -174,7 +174,7 @@ tick_taken : Takes four_strings (entry (codes "tick") tags.Trace (codes "tick {=
 tick_taken = string_taken 4 four_strings (codes "tick") tags.Trace (codes "tick {=u64}") refl refl (new_name four_names (codes "tick") refl) four_yet (lit< tt) tick_judged
 
 tick_said : Says (codes "s tick defmt_trace tick {=u64}") (entry (codes "tick") tags.Trace (codes "tick {=u64}"))
-unfolding worded entry_of field_and_rest cut
+unfolding line_by_word entry_of field_and_rest cut
 tick_said = said (codes "s tick defmt_trace tick {=u64}") (entry (codes "tick") tags.Trace (codes "tick {=u64}")) (tested (codes "s tick defmt_trace tick {=u64}") refl) refl
 
 -- ---- all nine

@@ -4,7 +4,7 @@ use Rattle.std.specs.Prelude.{codes}
 use Rattle.std.specs.Fmt.{decimal}
 use Rattle.std.proofs.lemmas.Fmt.{decimal_digit}
 use Rattle.defmt_grammar.specs.Cut.{cut}
-use Rattle.defmt_lines.specs.Line.{Line, act, act_of, field_and_rest, worded}
+use Rattle.defmt_lines.specs.Line.{Line, act, act_of, field_and_rest, line_by_word}
 use Rattle.defmt_lines.specs.Number.{is_digits, within, writer_of}
 use Rattle.defmt_lines.specs.declared.form.Form.TheVariants as forms
 
@@ -23,8 +23,8 @@ four_parts (x ∷ y ∷ z ∷ u ∷ more) behind a b c d le is p q r s = rw (is,
 pub said : ℕ → Text → Option Line
 said n behind = Some (act forms.Statement (Some n) (field_and_rest behind).0 (field_and_rest behind).1)
 
-by_digit : (n : ℕ) (behind : Text) → n < 8 → said n behind ≡ worded (119 ∷ 32 ∷ (48 + n) ∷ 32 ∷ behind)
-unfolding said worded cut act_of writer_of is_digits within
+by_digit : (n : ℕ) (behind : Text) → n < 8 → said n behind ≡ line_by_word (119 ∷ 32 ∷ (48 + n) ∷ 32 ∷ behind)
+unfolding said line_by_word cut act_of writer_of is_digits within
 by_digit zero behind lt = refl
 by_digit (suc zero) behind lt = refl
 by_digit (suc (suc zero)) behind lt = refl
@@ -40,6 +40,6 @@ pub front_is : (behind : Text) (n : ℕ) → n < 8 → codes "w " ++ (decimal n 
 front_is behind n lt = ap (λ (digits : Text). codes "w " ++ (digits ++ (codes " " ++ behind))) (decimal_digit n (omega (arith, lt)))
 
 pub statement_said : (text behind field rest : Text) (n : ℕ) → text ≡ codes "w " ++ (decimal n ++ (codes " " ++ behind)) → n < 8 → field ≡ (field_and_rest behind).0 → rest ≡ (field_and_rest behind).1
-    → (let o : Option Line = Some (act forms.Statement (Some n) field rest) in o ≡ worded text)
+    → (let o : Option Line = Some (act forms.Statement (Some n) field rest) in o ≡ line_by_word text)
 unfolding said
 statement_said text behind field rest n is lt f r = rw (is ∙ front_is behind n lt, f, r) (by_digit n behind lt)

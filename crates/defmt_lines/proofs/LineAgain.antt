@@ -5,7 +5,7 @@ use Rattle.defmt_intern.specs.declared.entry.Tag.{Tag}
 use Rattle.defmt_lines.proofs.NumberLaws.{writer_again}
 use Rattle.defmt_lines.specs.Fields.{AreFields, IsFieldAndRest}
 use Rattle.defmt_lines.specs.Form.{Shape, action, setting, shape_of, string}
-use Rattle.defmt_lines.specs.Line.{head, entry, act, HasForm, IsAction, IsString, act_of, by_form, entry_of, field_and_rest, one_field, one_word, two_fields, two_words, worded}
+use Rattle.defmt_lines.specs.Line.{head, entry, act, HasForm, IsAction, IsString, act_of, by_form, entry_of, field_and_rest, one_field, one_word, two_fields, two_words, line_by_word}
 use Rattle.defmt_lines.specs.declared.form.Form.{Form}
 use Rattle.defmt_lines.specs.declared.form.Form.TheVariants as forms
 use Rattle.defmt_lines.proofs.LineFound.{Text}
@@ -87,6 +87,6 @@ action_again forms.Entry rest writer field more is s = absurd (cc is)
 action_again forms.Statement rest writer field more is s = act_again forms.Statement rest writer field more s
 action_again forms.Say rest writer field more is s = act_again forms.Say rest writer field more s
 
-pub worded_again : (text rest : Text) (form : Form) → HasForm text form rest → worded text ≡ by_form form rest
-unfolding worded
-worded_again text rest form h = ap worded h.begins.parted ∙ rw (cut_again 32 h.word rest h.begins.bare, h.form_is) refl
+pub line_by_word_again : (text rest : Text) (form : Form) → HasForm text form rest → line_by_word text ≡ by_form form rest
+unfolding line_by_word
+line_by_word_again text rest form h = ap line_by_word h.begins.parted ∙ rw (cut_again 32 h.word rest h.begins.bare, h.form_is) refl

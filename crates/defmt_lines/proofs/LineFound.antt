@@ -9,7 +9,7 @@ use Rattle.defmt_intern.specs.declared.entry.Tag.{Tag}
 use Rattle.defmt_lines.proofs.NumberLaws.{writer_found}
 use Rattle.defmt_lines.specs.Fields.{AreFields, Begins, IsFieldAndRest}
 use Rattle.defmt_lines.specs.Form.{action, form_of, setting, shape_of}
-use Rattle.defmt_lines.specs.Line.{Line, blank, head, entry, act, other, HasForm, IsAction, IsString, Spells, act_of, alone, by_form, entry_of, field_and_rest, one_field, one_word, or_all, tag_of, two_fields, two_words, worded}
+use Rattle.defmt_lines.specs.Line.{Line, blank, head, entry, act, other, HasForm, IsAction, IsString, Spells, act_of, alone, by_form, entry_of, field_and_rest, one_field, one_word, or_all, tag_of, two_fields, two_words, line_by_word}
 use Rattle.defmt_lines.specs.Number.{writer_of}
 use Rattle.defmt_lines.specs.declared.form.Form.{Form}
 use Rattle.defmt_lines.specs.declared.form.Form.TheVariants as forms
@@ -124,9 +124,9 @@ whole text rest form (entry name tag body) h s = (rest, subst (λ (f : Form). Ha
 whole text rest form (act one writer field more) h s = subst (λ (f : Form). Spells text (act f writer field more)) (sym s.0) (rest, h, s.1, s.2)
 whole text rest form other h s = absurd s
 
-pub worded_found : (text : Text) (line : Line) → worded text ≡ Some line → Spells text line
-unfolding worded
-worded_found text line e =
+pub line_by_word_found : (text : Text) (line : Line) → line_by_word text ≡ Some line → Spells text line
+unfolding line_by_word
+line_by_word_found text line e =
     let a = bind_some (cut 32 text) (λ (p : Text × Text). option_and_then (λ (form : Form). by_form form p.1) (form_of p.0)) line e in
     let b = bind_some (form_of a.0.0) (λ (form : Form). by_form form a.0.1) line a.2 in
     whole text a.0.1 b.0 line (record { word = a.0.0; begins = cut_begins text a.0 a.1; form_is = b.1 }) (rest_said b.0 a.0.1 line b.2)

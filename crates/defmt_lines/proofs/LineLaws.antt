@@ -5,11 +5,11 @@ use Rattle.std.specs.Str.{IsUtf8, is_utf8}
 use Rattle.std.proofs.lemmas.Bool.{eqb-true}
 use Rattle.std.proofs.lemmas.Str.{IsUtf8-from_is_utf8, is_utf8-from_IsUtf8}
 use Rattle.defmt_lines.specs.Form.{form_of}
-use Rattle.defmt_lines.specs.Line.{Line, blank, head, entry, act, other, HasForm, IsPassedOver, Says, Spells, by_form, is_blank, line_of, line_of_known, line_of_text, worded}
+use Rattle.defmt_lines.specs.Line.{Line, blank, head, entry, act, other, HasForm, IsPassedOver, Says, Spells, by_form, is_blank, line_of, line_of_known, line_of_text, line_by_word}
 use Rattle.defmt_lines.specs.declared.form.Form.{Form}
 use Rattle.defmt_lines.specs.declared.form.Form.TheVariants as forms
-use Rattle.defmt_lines.proofs.LineFound.{Text, worded_found}
-use Rattle.defmt_lines.proofs.LineAgain.{action_again, entry_again, head_again, worded_again}
+use Rattle.defmt_lines.proofs.LineFound.{Text, line_by_word_found}
+use Rattle.defmt_lines.proofs.LineAgain.{action_again, entry_again, head_again, line_by_word_again}
 
 -- ---- lines that are passed over
 
@@ -39,7 +39,7 @@ not_blank text rest form h = ap is_blank h.begins.parted ∙ no_comment h.word r
 
 by_rest : (text rest : Text) (form : Form) (line : Line) → HasForm text form rest → by_form form rest ≡ Some line → line_of_text text ≡ line
 by_rest text rest form line h e =
-    let said : worded text ≡ Some line = worded_again text rest form h ∙ e in rw (not_blank text rest form h, said) refl
+    let said : line_by_word text ≡ Some line = line_by_word_again text rest form h ∙ e in rw (not_blank text rest form h, said) refl
 
 spelled : (text : Text) (line : Line) → Spells text line → line_of_text text ≡ line
 spelled text blank s = rw (passed_again text s) refl
@@ -56,7 +56,7 @@ never_other text (act form writer field more) s is = absurd (cc is)
 never_other text other s is = s
 
 -- a text without a form spells nothing
-nothing_spelled : (text : Text) (line : Line) → is_blank text ≡ false → worded text ≡ None → Spells text line → ⊥
+nothing_spelled : (text : Text) (line : Line) → is_blank text ≡ false → line_by_word text ≡ None → Spells text line → ⊥
 nothing_spelled text line e f s =
     let none : line_of_text text ≡ other = rw (e, f) refl in never_other text line s (sym (spelled text line s) ∙ none)
 
@@ -67,13 +67,13 @@ formed text (entry name tag body) utf8 s = (utf8, s)
 formed text (act form writer field more) utf8 s = (utf8, s)
 formed text other utf8 s = absurd s
 
-text_by : (text : Text) (b : Bool) (o : Option Line) → is_blank text ≡ b → worded text ≡ o → IsUtf8 text → Says text (cond b blank (unwrap_or o other))
+text_by : (text : Text) (b : Bool) (o : Option Line) → is_blank text ≡ b → line_by_word text ≡ o → IsUtf8 text → Says text (cond b blank (unwrap_or o other))
 text_by text true o e f utf8 = (utf8, passed_found text e)
-text_by text false (Some line) e f utf8 = formed text line utf8 (worded_found text line f)
+text_by text false (Some line) e f utf8 = formed text line utf8 (line_by_word_found text line f)
 text_by text false None e f utf8 = λ _ line s. nothing_spelled text line e f s
 
 pub text_found : (text : Text) → IsUtf8 text → Says text (line_of_text text)
-text_found text utf8 = text_by text (is_blank text) (worded text) refl refl utf8
+text_found text utf8 = text_by text (is_blank text) (line_by_word text) refl refl utf8
 
 known_by : (bytes : Text) (b : Bool) → is_utf8 bytes ≡ b → Says bytes (line_of_known (cond b (Some bytes) None))
 known_by bytes true e = text_found bytes (IsUtf8-from_is_utf8 bytes e)

@@ -138,12 +138,12 @@ by_form forms.Entry rest = entry_of rest
 by_form forms.Statement rest = act_of forms.Statement rest
 by_form forms.Say rest = act_of forms.Say rest
 
-unfoldable pub worded : List ℕ → Option Line
-worded text =
+unfoldable pub line_by_word : List ℕ → Option Line
+line_by_word text =
     option_and_then (λ p. option_and_then (λ form. by_form form p.1) (form_of p.0)) (cut 32 text)
 
 abbrev pub line_of_text : List ℕ → Line
-line_of_text text = if is_blank text then blank else unwrap_or (worded text) other
+line_of_text text = if is_blank text then blank else unwrap_or (line_by_word text) other
 
 -- the bytes, where these are UTF-8
 abbrev pub text_of : List ℕ → Option (List ℕ)

@@ -3,7 +3,7 @@
 ghost use Rattle.std.specs.Prelude.{◌≡◌, ◌<◌, ◌++◌, ℕ, List, true, IfSome, codes, option_copied, option_map};
 ghost use Rattle.std.specs.Fmt.{decimal};
 ghost use Rattle.defmt_grammar.specs.Cut.{cut, parts_of};
-ghost use Rattle.defmt_lines.specs.Line.{Line as Said, Says, act_of, by_form, entry_of, field_and_rest, is_blank, is_string_tag, line_of, line_of_text, one_field, one_word, tag_of, text_of, two_fields, two_words, worded};
+ghost use Rattle.defmt_lines.specs.Line.{Line as Said, Says, act_of, by_form, entry_of, field_and_rest, is_blank, is_string_tag, line_of, line_of_text, one_field, one_word, tag_of, text_of, two_fields, two_words, line_by_word};
 ghost use Rattle.defmt_lines.specs.LineView.{line_view};
 
 use crate::content::{ActionLine, EntryLine, Line, Words};
@@ -48,7 +48,7 @@ fn line_of_text(text: &str) -> Line<'_>
     if is_blank(text.as_bytes()) {
         return Line::Blank;
     }
-    match worded(text) {
+    match line_by_word(text) {
         Some(line) => line,
         None => Line::Other,
     }
@@ -91,11 +91,11 @@ fn statement_front(text: &str) -> Option<(u8, &str)>
 }
 
 // A line by its first word.
-fn worded(text: &str) -> Option<Line<'_>>
-    ensures { option_map line_view result ≡ worded text.now }
+fn line_by_word(text: &str) -> Option<Line<'_>>
+    ensures { option_map line_view result ≡ line_by_word text.now }
 {
     let Some((writer, behind)) = statement_front(text) else {
-        return any_worded(text);
+        return any_line_by_word(text);
     };
     let (field, rest) = field_and_rest(behind);
     Some(Line::Act(
@@ -109,9 +109,9 @@ fn worded(text: &str) -> Option<Line<'_>>
 }
 
 // The same of any line.
-#[tactic(auto, unfolding(crate::specs::Line::worded))]
-fn any_worded(text: &str) -> Option<Line<'_>>
-    ensures { option_map line_view result ≡ worded text.now }
+#[tactic(auto, unfolding(crate::specs::Line::line_by_word))]
+fn any_line_by_word(text: &str) -> Option<Line<'_>>
+    ensures { option_map line_view result ≡ line_by_word text.now }
 {
     let (word, rest) = cut(text)?;
     let form = form_of(word)?;

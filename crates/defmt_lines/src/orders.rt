@@ -63,7 +63,7 @@ impl Orders {
     }
 
     // The same with one more behind them. Takes no memory.
-    pub(crate) fn extended(&self, number: u32, level: Level) -> Orders
+    pub(crate) fn with_order(&self, number: u32, level: Level) -> Orders
         requires room { length self.now < 64 }
         ensures { result ≡ self.now ++ (number, level) ∷ [] }
     {

@@ -204,20 +204,20 @@ impl Settings {
         ensures { result ≡ with_order self.now number.now word.now }
     {
         match (number_within(0, FRAMES_LIMIT, number), level_of(word)) {
-            (Some(number), Some(level)) => self.ordered(number as u32, level),
+            (Some(number), Some(level)) => self.with_order(number as u32, level),
             _ => Err(Cause::Level),
         }
     }
 
     // With an order more.
-    fn ordered(&self, number: u32, level: Level) -> Result<Settings, Cause>
+    fn with_order(&self, number: u32, level: Level) -> Result<Settings, Cause>
         ensures { result ≡ order_or self.now (Some number) (Some level) }
     {
         if self.orders.len() >= ORDERS_LIMIT {
             return Err(Cause::Many);
         }
         Ok(Settings {
-            orders: self.orders.extended(number, level),
+            orders: self.orders.with_order(number, level),
             ..self.copy()
         })
     }

@@ -1,6 +1,6 @@
 use Rattle.std.proofs.Common.{arith}
 use Rattle.defmt_lines.proofs.OrderLaws.{extended}
-use Rattle.defmt_lines.proofs.orders.Orders.extended.Goals as goal
+use Rattle.defmt_lines.proofs.orders.Orders.with_order.Goals as goal
 
 pub returns : goal.returns
 returns c =
