@@ -20,6 +20,8 @@ use Rattle.defmt_decode.proofs.Bytes.{are_bytes, blocks_bytes}
 use Rattle.defmt_decode.specs.Event.{IsEventOf, too_long, no_code, line_told, too_wide, not_heard, is_wide, of_heard, read_of, of_read, of_code, tells, event_of, PlaceSuits}
 use Rattle.defmt_decode.specs.declared.event.Event.{Event}
 use Rattle.defmt_decode.specs.declared.event.Event.TheVariants.{Line, Bad}
+use Rattle.defmt_decode.specs.declared.reader.Refusal.TheVariants.{Cobs, Long, Wide}
+use Rattle.defmt_decode.specs.Refusal.{refused}
 
 -- ---- wide
 
@@ -39,12 +41,12 @@ narrow_test t stamp index vs narrow = elim (cases_Bool (is_wide t stamp index vs
   | inr e ↦ e
 ]
 
-pub heard_wide : (t : Catalog) (place : Option ℕ) (stamp : Vals) (index : ℕ) (vs : Vals) → IsWide t.entries stamp index vs → of_heard t place stamp index vs ≡ Bad 14
-heard_wide t place stamp index vs wide = ap (λ (b : Bool). cond b (Bad 14) (Line index place (eager_line t.entries stamp index vs))) (wide_test t.entries stamp index vs wide)
+pub heard_wide : (t : Catalog) (place : Option ℕ) (stamp : Vals) (index : ℕ) (vs : Vals) → IsWide t.entries stamp index vs → of_heard t place stamp index vs ≡ refused Wide
+heard_wide t place stamp index vs wide = ap (λ (b : Bool). cond b (refused Wide) (Line index place (eager_line t.entries stamp index vs))) (wide_test t.entries stamp index vs wide)
 
 pub heard_narrow : (t : Catalog) (place : Option ℕ) (stamp : Vals) (index : ℕ) (vs : Vals) → (IsWide t.entries stamp index vs → ⊥)
     → of_heard t place stamp index vs ≡ Line index place (eager_line t.entries stamp index vs)
-heard_narrow t place stamp index vs narrow = ap (λ (b : Bool). cond b (Bad 14) (Line index place (eager_line t.entries stamp index vs))) (narrow_test t.entries stamp index vs narrow)
+heard_narrow t place stamp index vs narrow = ap (λ (b : Bool). cond b (refused Wide) (Line index place (eager_line t.entries stamp index vs))) (narrow_test t.entries stamp index vs narrow)
 
 -- ---- read
 
@@ -59,18 +61,18 @@ met_read t bytes cause (c, number, meets) = ap (of_read t) (met_again t bytes c 
 
 -- ---- by the length and the code
 
-long_is : (t : Catalog) (piece : List ℕ) → 65536 < length piece → event_of t piece ≡ Bad 13
+long_is : (t : Catalog) (piece : List ℕ) → 65536 < length piece → event_of t piece ≡ refused Long
 unfolding of_piece tells
-long_is t piece long = ap (λ (b : Bool). cond b (of_code t (decoded piece)) (Bad 13)) (lt-leb (length piece) 65536 long)
+long_is t piece long = ap (λ (b : Bool). cond b (of_code t (decoded piece)) (refused Long)) (lt-leb (length piece) 65536 long)
 
 short_is : (t : Catalog) (piece : List ℕ) → length piece ≤ 65536 → event_of t piece ≡ of_code t (decoded piece)
 unfolding of_piece tells
-short_is t piece short = ap (λ (b : Bool). cond b (of_code t (decoded piece)) (Bad 13)) (le-leb (length piece) 65536 short)
+short_is t piece short = ap (λ (b : Bool). cond b (of_code t (decoded piece)) (refused Long)) (le-leb (length piece) 65536 short)
 
 read_is : (t : Catalog) (piece bytes : List ℕ) → length piece ≤ 65536 → Blocks piece bytes → event_of t piece ≡ of_read t (read_of t bytes)
 read_is t piece bytes short blocks = short_is t piece short ∙ ap (of_code t) (decoded_found piece bytes blocks)
 
-none_is : (t : Catalog) (piece : List ℕ) → length piece ≤ 65536 → IsNoCode piece → event_of t piece ≡ Bad 1
+none_is : (t : Catalog) (piece : List ℕ) → length piece ≤ 65536 → IsNoCode piece → event_of t piece ≡ refused Cobs
 none_is t piece short none = short_is t piece short ∙ ap (of_code t) (decoded_none piece none)
 
 -- ---- what the relation says is answered

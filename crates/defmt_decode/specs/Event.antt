@@ -18,6 +18,8 @@ use Rattle.defmt_encode.specs.Read.{Read, message_at}
 use Rattle.defmt_decode.specs.declared.event.Event.{Event}
 use Rattle.defmt_decode.specs.declared.event.Event.TheVariants.{Line, Bad, CutFront, CutTail}
 use Rattle.defmt_decode.specs.declared.event.Mark.{Mark}
+use Rattle.defmt_decode.specs.declared.reader.Refusal.TheVariants.{Cobs, Long, Wide}
+use Rattle.defmt_decode.specs.Refusal.{refused}
 use Rattle.defmt_framing.specs.declared.notice.Notice.{Notice}
 use Rattle.defmt_framing.specs.declared.notice.Notice.TheVariants as notices
 use Rattle.defmt_plan.specs.declared.message.Told.{Told}
@@ -27,14 +29,14 @@ use Rattle.defmt_plan.specs.declared.message.Told.{Told}
 -- A piece of more than 65,536 bytes is too long. Another is read as a code, and what it stands for
 -- as a message: a line is told where a stamp and a statement are heard whose texts aren't too wide.
 pub data IsEventOf (t : Catalog) (piece : List ℕ) : Event → Type 0 where
-  too_long : 65536 < length piece → IsEventOf t piece (Bad 13)
-  no_code : length piece ≤ 65536 → IsNoCode piece → IsEventOf t piece (Bad 1)
+  too_long : 65536 < length piece → IsEventOf t piece (refused Long)
+  no_code : length piece ≤ 65536 → IsNoCode piece → IsEventOf t piece (refused Cobs)
   line_told : (bytes : List ℕ) (place : Option ℕ) (stamp : Vals) (index : ℕ) (vs : Vals) → length piece ≤ 65536
       → Blocks piece bytes → IsHeard t bytes place stamp index vs → (IsWide t.entries stamp index vs → ⊥)
       → IsEventOf t piece (Line index place (eager_line t.entries stamp index vs))
   too_wide : (bytes : List ℕ) (place : Option ℕ) (stamp : Vals) (index : ℕ) (vs : Vals) → length piece ≤ 65536
       → Blocks piece bytes → IsHeard t bytes place stamp index vs → IsWide t.entries stamp index vs
-      → IsEventOf t piece (Bad 14)
+      → IsEventOf t piece (refused Wide)
   not_heard : (bytes : List ℕ) (cause : ℕ) → length piece ≤ 65536
       → Blocks piece bytes → IsMet t bytes cause → IsEventOf t piece (Bad cause)
 
@@ -55,7 +57,7 @@ is_wide t stamp index vs =
 -- what is told of a place, a stamp and a statement that are heard
 abbrev pub of_heard : Catalog → Option ℕ → Vals → ℕ → Vals → Event
 of_heard t place stamp index vs =
-    if is_wide t.entries stamp index vs then Bad 14 else Line index place (eager_line t.entries stamp index vs)
+    if is_wide t.entries stamp index vs then refused Wide else Line index place (eager_line t.entries stamp index vs)
 
 -- the place, the stamp, the index and the arguments that are heard in bytes, or the cause that is met
 unfoldable pub read_of : Catalog → List ℕ → Read (Option ℕ × Vals × ℕ × Vals)
@@ -68,14 +70,14 @@ of_read t (Err cause) = Bad (cause_number cause)
 
 -- what is told of the bytes that a piece stands for as a code, where it is one
 abbrev pub of_code : Catalog → Option (List ℕ) → Event
-of_code t None = Bad 1
+of_code t None = refused Cobs
 of_code t (Some bytes) = of_read t (read_of t bytes)
 
 -- what each part of a stream tells
 unfoldable pub tells : Catalog → Tells Event
 tells t = record {
   piece = λ piece. of_code t (decoded piece);
-  long = Bad 13;
+  long = refused Long;
   cut_front = λ n. CutFront n;
   cut_tail = λ n. CutTail n;
 }

@@ -1,5 +1,7 @@
 -- The numbers of what a piece is refused for, beside what its message is refused for.
 use Rattle.std.specs.Prelude.{ℕ}
+use Rattle.defmt_decode.specs.declared.event.Event.{Event}
+use Rattle.defmt_decode.specs.declared.event.Event.TheVariants.{Bad}
 use Rattle.defmt_decode.specs.declared.reader.Refusal.{Refusal}
 use Rattle.defmt_decode.specs.declared.reader.Refusal.TheVariants.{Cobs, Long, Wide}
 
@@ -7,3 +9,7 @@ abbrev pub refusal_number : Refusal → ℕ
 refusal_number Cobs = 1
 refusal_number Long = 13
 refusal_number Wide = 14
+
+-- the event of a piece that is refused
+abbrev pub refused : Refusal → Event
+refused refusal = Bad (refusal_number refusal)

@@ -2,7 +2,7 @@
 
 ghost use Rattle.std.specs.Prelude.{◌≡◌, ◌≤◌, Some, false, length, take, drop, IfOk, IfSome};
 ghost use Rattle.defmt_decode.specs.Event.{line_notice, line_with, of_heard, of_read, read_of, tells};
-ghost use Rattle.defmt_decode.specs.Refusal.{refusal_number};
+ghost use Rattle.defmt_decode.specs.Refusal.{refusal_number, refused};
 ghost use Rattle.defmt_encode.specs.Heard.{IsHeard};
 ghost use Rattle.defmt_framing.specs.Cut.{has_zero};
 ghost use Rattle.defmt_framing.specs.Notices.{HasText, told_by};
@@ -40,7 +40,7 @@ impl Refusal {
     }
 
     fn event(self) -> Event
-        ensures { result ≡ Event.Bad (refusal_number self) }
+        ensures { result ≡ refused self }
     {
         Event::Bad {
             cause: self.number(),
