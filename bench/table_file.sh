@@ -1,14 +1,27 @@
 #!/bin/sh
 # Measures `decode --table` of an empty recording with large ELF files, up to one of 64 MiB with 60,000 symbols, and what a string costs in `table` and in reading it back.
 #
-#   bench/table_file.sh        at the repository's top, once ./defmtl has built the program; needs valgrind, perl and GNU time
+#   bench/table_file.sh        at the repository's top, once ./defmtl has built the program; needs valgrind, and for the files perl and GNU time
 #
 # Files of 30,000 and of 60,000 symbols: with short names, where instructions are counted, and with names of 1,100 bytes, where the least of
 # three processor times and the peak memory are taken. Twice the symbols have a ratio of about 2. A string's cost is the difference of scripts with 1,000
 # and with 2,000 strings: `table` reads the script and writes the file, `decode` reads that. docs/DECISIONS.md says how names are read.
 
 . "$(dirname "$0")/common.sh"
-need valgrind perl time
+need valgrind
+
+# strings COUNT: a script with this many strings
+strings() {
+    awk -v count="$1" 'BEGIN { for (k = 0; k < count; k++) printf "s a%d defmt_info message number %d has {=u16}\n", k, k }'
+}
+
+for count in 1000 2000; do strings "$count" > "$work/script.$count" && "$program" table < "$work/script.$count" > "$work/$count.elf" || exit 1; done
+few=$(counted table < "$work/script.1000") && many=$(counted table < "$work/script.2000") || exit 1
+judge "instructions of table a string, with the reading of its line" $(((many - few) / 1000)) 12000
+few=$(counted decode --table "$work/1000.elf" < /dev/null) && many=$(counted decode --table "$work/2000.elf" < /dev/null) || exit 1
+judge "instructions of decode a string of its table" $(((many - few) / 1000)) 25000
+
+need perl time
 
 # elf COUNT LENGTH: an ELF32 file with this many symbols, whose names have this length
 elf() {
@@ -52,14 +65,4 @@ for count in 30000 60000; do
 done
 judge "the ratio of processor times" "$last" 2.4
 
-# strings COUNT: a script with this many strings
-strings() {
-    awk -v count="$1" 'BEGIN { for (k = 0; k < count; k++) printf "s a%d defmt_info message number %d has {=u16}\n", k, k }'
-}
-
-for count in 1000 2000; do strings "$count" > "$work/script.$count" && "$program" table < "$work/script.$count" > "$work/$count.elf" || exit 1; done
-few=$(counted table < "$work/script.1000") && many=$(counted table < "$work/script.2000") || exit 1
-judge "instructions of table a string, with the reading of its line" $(((many - few) / 1000)) 12000
-few=$(counted decode --table "$work/1000.elf" < /dev/null) && many=$(counted decode --table "$work/2000.elf" < /dev/null) || exit 1
-judge "instructions of decode a string of its table" $(((many - few) / 1000)) 25000
 exit "$worst"

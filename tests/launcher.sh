@@ -193,9 +193,9 @@ if command -v script > /dev/null; then
     on_terminal words a 'b  c'
     is 'on a terminal: the words and the output' "$wrote" $'words\na\nb  c'
     on_terminal say 2 'words'
-    has 'wrong words' "$said" './defmtl --help shows all of them'
+    has 'wrong words' "$said" 'no command line is like this: ./defmtl --help shows all commands (docs/EXPLAIN.md)'
     on_terminal --help
-    lacks 'the page itself is not explained' "$said" 'no command has these words'
+    lacks 'the page itself is not explained' "$said" 'no command line is like this'
     on_terminal say 7 'shelf'
     has 'a table that is not there' "$said" 'the file behind --table is not there'
     on_terminal say 5 'script line 3 cause 8 inner 0'
@@ -221,6 +221,9 @@ call --install /proc/nowhere
 is 'a folder that cannot be written' "$status" 73
 call --install
 is 'no folder' "$status" 73
+DEFMTL_UNPROVED=1 call --install "$work/prefix"
+is 'an installation of the unproved program' "$status" 73
+has 'and why there is none' "$said" 'only the proved program is installed'
 is 'nothing was built for these' "$(calls)" 0
 (
     . docs/defmtl.completion
@@ -240,6 +243,7 @@ rm -r docs
 begin 0.1
 call --help
 is 'the page where nothing was built' "$status $(calls)" '2 0'
+is 'the answer behind it' "${said##*$'\n'}" 'words'
 begin 0.1
 mkdir docs && cp "$top"/docs/{EXPLAIN.md,defmtl.1,defmtl.completion} docs
 call --install "$work/prefix"
