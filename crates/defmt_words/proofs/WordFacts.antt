@@ -11,14 +11,14 @@ use Rattle.defmt_hooks.specs.Reading.{floor_in, rules_in}
 use Rattle.defmt_hooks.specs.declared.level.Floor.TheVariants.{At}
 use Rattle.defmt_hooks.specs.declared.level.Level.TheVariants.{Warn}
 use Rattle.defmt_words.specs.Numbers.{decimal_in}
-use Rattle.defmt_words.specs.Words.{job, refusals, rows}
+use Rattle.defmt_words.specs.Words.{job, no_options, refusals, rows}
 
 -- the run of a script, its lines grouped or not
 abbrev running : Bool → Job
-running group = Script (Run (record { group = group; only = None }))
+running group = Script (Run (record no_options { group = group }))
 
 module _ (name : Text) where
-  plain : job (name ∷ codes "run" ∷ []) ≡ Some (running false)
+  plain : job (name ∷ codes "run" ∷ []) ≡ Some (Script (Run no_options))
   unfolding clap_on_literals refusals rows
   plain = refl
 
@@ -171,7 +171,7 @@ module _ (name : Text) where
   unfolding clap_on_literals refusals rows
   stray_old = refl
 
-  only_warnings : job (name ∷ codes "run" ∷ codes "--only=warn" ∷ []) ≡ Some (Script (Run (record { group = false; only = Some (record { rest = At Warn; packages = [] }) })))
+  only_warnings : job (name ∷ codes "run" ∷ codes "--only=warn" ∷ []) ≡ Some (Script (Run (record no_options { only = Some (record { rest = At Warn; packages = [] }) })))
   unfolding clap_on_literals refusals rows rules_in floor_in
   only_warnings = refl
 

@@ -9,6 +9,7 @@ use Rattle.clap.specs.declared.builder.ArgAction.TheVariants.{SetTrue}
 use Rattle.defmt_words.specs.declared.job.Job.{Job}
 use Rattle.defmt_words.specs.declared.job.Job.TheVariants.{Script, Decode, Dump}
 use Rattle.defmt_words.specs.declared.job.ScriptJob.TheVariants.{Run, Record, Terminals, Steer, Table, Print, Generate}
+use Rattle.defmt_words.specs.declared.job.RunOptions.{RunOptions}
 use Rattle.defmt_words.specs.declared.job.DumpOptions.{DumpOptions}
 use Rattle.defmt_words.specs.declared.job.Kind.{Kind}
 use Rattle.defmt_words.specs.declared.job.Kind.TheVariants.{Place, Value, Flag}
@@ -92,6 +93,10 @@ all_go command rows list = list_all (goes command rows) list
 -- the rules for what is printed, where there are some
 abbrev pub only_by : List Row → Option (Option Rules)
 only_by rows = only_in (first_of (codes "only") rows)
+
+-- the options of `run` where the words have none
+abbrev pub no_options : RunOptions
+no_options = record { group = false; only = None }
 
 abbrev pub run_by : List Row → Option Job
 run_by rows = option_map (λ only. Script (Run (record { group = is_set (codes "group") rows; only = only }))) (only_by rows)

@@ -1,7 +1,7 @@
 //! The commands, and the parameters that go with them.
 
 ghost use Rattle.std.specs.Prelude.{◌≡◌, map};
-ghost use Rattle.defmt_words.specs.Words.{parameters};
+ghost use Rattle.defmt_words.specs.Words.{no_options, parameters};
 ghost use Rattle.defmt_words.specs.View.{parameter_view};
 
 use crate::number::Count;
@@ -57,6 +57,18 @@ pub struct RunOptions {
     pub group: bool,
     /// `--only RULES`: which lines are printed, or else all.
     pub only: Option<Rules>,
+}
+
+impl RunOptions {
+    /// The options of words that have none: the lines of all writers in one, and all of them.
+    pub fn none() -> RunOptions
+        ensures { result ≡ no_options }
+    {
+        RunOptions {
+            group: false,
+            only: None,
+        }
+    }
 }
 
 /// The options of `dump`.
