@@ -1,3 +1,4 @@
 pub mod Tape
 pub mod Kept
 pub mod Codes
+pub mod Shared

@@ -27,6 +27,8 @@ pub struct Logger<B: Books, Q: Quota, T: Work<Q>> {
 }
 
 impl<B: Books, Q: Quota, T: Work<Q>> Logger<B, Q, T> {
+    ghost use Rattle.defmt_logger.specs.Shared.{shared_of};
+
     /// Acquires the logger, logs the pen's next statement, of which there is one, and releases the logger. It may wait for
     /// the logger, and in blocking mode for the reader. Takes no memory.
     pub fn log<S: HasBook<B, L>, L: Ledger, R: Relief, W: Wait>(
@@ -46,7 +48,7 @@ impl<B: Books, Q: Quota, T: Work<Q>> Logger<B, Q, T> {
 
     /// The work that the pens share: a desk behind its lock. Takes no memory.
     pub fn shared(&self) -> &Shared<B, Q, T>
-        ensures { result.now ≡ self.now.shared }
+        ensures { result.now ≡ shared_of self.now }
     {
         &self.shared
     }

@@ -1,3 +1,4 @@
 pub mod Said
 pub mod Kept
 pub mod Codes
+pub mod Shared

@@ -25,6 +25,8 @@ pub struct Booth<B: Books, Q: Quota, T: Work<Q>> {
 }
 
 impl<B: Books, Q: Quota, T: Work<Q>> Booth<B, Q, T> {
+    ghost use Rattle.rtt_booth.specs.Shared.{shared_of};
+
     /// Acquires the booth, says the voice's next text, of which there is one, and releases the booth. It may wait for the
     /// booth and for the reader. Takes no memory.
     pub fn say<S: HasBook<B, L>, L: Ledger, R: Relief, W: Wait>(
@@ -44,7 +46,7 @@ impl<B: Books, Q: Quota, T: Work<Q>> Booth<B, Q, T> {
 
     /// The work that the voices share: a stand behind its lock. Takes no memory.
     pub fn shared(&self) -> &Shared<B, Q, T>
-        ensures { result.now ≡ self.now.shared }
+        ensures { result.now ≡ shared_of self.now }
     {
         &self.shared
     }

@@ -7,3 +7,4 @@ pub mod Reel
 pub mod Steered
 pub mod Kept
 pub mod Codes
+pub mod Shared
