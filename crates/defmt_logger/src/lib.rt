@@ -21,5 +21,6 @@ pub use desk::Desk;
 pub use logger::Logger;
 pub use logging::{EachStatement, Logging, Naming};
 pub use mark::Mark;
+pub use rtt_modes::Fate;
 pub use shared_work::{Pen, Pens};
 pub use tape::Tape;
