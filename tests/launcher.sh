@@ -12,6 +12,8 @@
 top=$(realpath "$(dirname "$0")/..") || exit 2
 work=$(mktemp -d) || exit 2
 trap 'rm -rf "$work"' EXIT
+# (a folder of temporary files of its own, so that what others leave in theirs counts for nothing)
+mkdir "$work/temporary" && export TMPDIR=$work/temporary || exit 2
 unset DEFMTL_UNPROVED
 passed=0 failed=0
 
@@ -132,7 +134,7 @@ strays() {
     find . ! -type d ! -path './crates/*/src/*' ! -regex '\./crates/[^/]*/out/\(rlib\|incremental\)/[^/]*' ! -name crates.txt ! -name HANDLES ! -name defmtl \
         ! -name 'defmt_cli*' ! -name launcher.lock
     find . -name rooms
-    find "${TMPDIR:-/tmp}" -maxdepth 1 -newer "$work/began" -name 'tmp.*' ! -path "$work"
+    find "$TMPDIR" -mindepth 1 -maxdepth 1
 }
 all_crates='defmt_cli defmt_run left low right top '
 
@@ -142,7 +144,6 @@ until_true() { for ((turn = 0; turn < 200; turn++)); do "$@" > /dev/null 2>&1 &&
 is_tidy() { [ -z "$(strays)" ]; }
 has_begun() { [ "$(wc -l < "$kit/sleeps")" -ge "$1" ]; }
 is_gone() { ! kill -0 "$1" 2> /dev/null; }
-touch "$work/began"
 
 # ---- the first build
 
@@ -551,7 +552,6 @@ is 'a proved call after unproved ones proves each crate' "$(proofs)" "$all_crate
 
 for signal in TERM KILL; do
     begin 5
-    touch "$work/began"
     DEFMTL_UNPROVED=1 ./defmtl run < /dev/null > /dev/null 2> "$work/said" &
     launcher=$!
     until_true grep -q try "$kit/calls"
