@@ -41,7 +41,7 @@ pub fn decode<S: Source, F: Shelf, K: Sink>(
     ensures files { F.files shelf.new ≡ F.files shelf.old }
 {
     match load(alloc, name, shelf) {
-        Ok(host) => hear(alloc, only, src, out, host),
+        Ok(host) => print_recording(alloc, only, src, out, host),
         Err(fault) => fault,
     }
 }
@@ -105,8 +105,8 @@ fn table_of(alloc: Global, file: &[u8]) -> Result<Table, Fault>
     }
 }
 
-// Hears the recording, and writes the lines of its events, or those that rules show, with the gaps between them.
-fn hear<S: Source, K: Sink>(
+// Writes the lines of the events of the recording, or those that rules show, with the gaps between them.
+fn print_recording<S: Source, K: Sink>(
     alloc: Global,
     only: &Option<Rules>,
     src: &mut S,
@@ -121,13 +121,13 @@ fn hear<S: Source, K: Sink>(
     ensures sink_count { K.faults out.old ≤ K.faults out.new }
 {
     match only {
-        None => hear_with(alloc, src, out, host, Printer { last: None }),
-        Some(rules) => hear_shown(alloc, rules, src, out, host),
+        None => print_recording_with(alloc, src, out, host, Printer { last: None }),
+        Some(rules) => print_shown_recording(alloc, rules, src, out, host),
     }
 }
 
 // The same by rules, which ask a copy of the table.
-fn hear_shown<S: Source, K: Sink>(
+fn print_shown_recording<S: Source, K: Sink>(
     alloc: Global,
     rules: &Rules,
     src: &mut S,
@@ -142,12 +142,12 @@ fn hear_shown<S: Source, K: Sink>(
     ensures sink_count { K.faults out.old ≤ K.faults out.new }
 {
     match host.table().copy() {
-        Ok(table) => hear_with(alloc, src, out, host, Screened::new(rules, table)),
+        Ok(table) => print_recording_with(alloc, src, out, host, Screened::new(rules, table)),
         Err(_) => Fault::Memory,
     }
 }
 
-fn hear_with<S: Source, K: Sink, R: Reporter<Ear> + Drop>(
+fn print_recording_with<S: Source, K: Sink, R: Reporter<Ear> + Drop>(
     alloc: Global,
     src: &mut S,
     out: &mut K,
