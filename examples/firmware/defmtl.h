@@ -10,6 +10,7 @@
  *
  * In one C file define DEFMTL_MEMORY in front of the include: that file holds the control block and the buffer.
  * Supply uint64_t defmtl_now(void), the time of a message in microseconds, and call defmtl_init() before the first message.
+   Give your linker script the section .defmt and the two markers that stand at the end of firmware.ld.
  *
  * A format string is written here without quotes, backslashes and '@'. What a string may hold and what bytes a value has
  * is in docs/FORMATS.md: "Format strings" and "Messages and frames". */
