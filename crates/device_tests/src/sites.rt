@@ -20,14 +20,8 @@ const SITES: &str = "\
 // A text with slots: the list to which they were appended one by one.
 const LISTS: &str = "{=bool} {1=0..16} = One(Bool) Bits { first: 0, width: 2 }";
 
-fn text_of(alloc: Global, text: &str) -> Result<Text, Fail> {
-    let mut copy = Text::new(alloc);
-    copy.push_str(text)?;
-    Ok(copy)
-}
-
 fn add(alloc: Global, table: &mut Table, tag: Tag, text: &str) -> Result<(), Fail> {
-    let text = text_of(alloc, text)?;
+    let text = Text::from_string(String::from_str(alloc, text)?);
     table.add(Entry {
         tag,
         package: Text::new(alloc),

@@ -13,9 +13,7 @@ pub fn script_of(alloc: Global, text: &str) -> Result<Script, Fail> {
 }
 
 fn text_of(alloc: Global, text: &str) -> Result<Text, Fail> {
-    let mut copy = Text::new(alloc);
-    copy.push_str(text)?;
-    Ok(copy)
+    Ok(Text::from_string(String::from_str(alloc, text)?))
 }
 
 fn entry_of(alloc: Global, tag: &str, text: &str) -> Result<Entry, Fail> {
