@@ -10,7 +10,7 @@ ghost use Rattle.shared_work.specs.Names.{AreNamed};
 use crate::host::{Host, HostEnds, Hosting, host_of};
 use defmt_hooks::{Clock, Level, Stamp};
 use defmt_script::Script;
-use defmt_writers::{Gate, RingEnds, SettledRing, finish, prepare, settle, work};
+use defmt_writers::{Gate, RingEnds, SettledRing, finish, prepare, run_threads, settle};
 use dl_io::{Bytes, Memory};
 use rtt_down::{EachStatement, Naming, Steered, Steering, Turns};
 use rtt_ring::{Channel, RingFault, Settled};
@@ -162,7 +162,7 @@ fn run_hosted<
         EachStatement<K>,
         Steering<K, H::Up, H::Down, C>,
     >::start(alloc, blanks, script, stamp, up, down)?;
-    let mut host = work(rt, steered.shared(), &mut helms, gate, true, host);
+    let mut host = run_threads(rt, steered.shared(), &mut helms, gate, true, host);
     finish(rt, steered.shared(), &mut helms, gate, &mut host);
     host.take_all();
     let (turns, up, down, script) = steered.close(helms);

@@ -131,7 +131,7 @@ fn finish<
 
 // Starts a thread for each writer that has steps, lends it its pen and its voice, and waits until all have ended. Meanwhile it
 // eases again and again.
-fn work<
+fn run_threads<
     E: Names + Send,
     Q: Quota + Send,
     T: Work<Q> + Send,
@@ -205,7 +205,7 @@ pub(crate) fn run_all<
     ensures v7 { voices.new.p7.place ≡ voices.new.p7.total }
     ensures relief { R.kept result }
 {
-    let mut relief = work(rt, stage, pens, voices, gate, relief);
+    let mut relief = run_threads(rt, stage, pens, voices, gate, relief);
     finish(rt, stage, pens, voices, gate, &mut relief);
     relief
 }

@@ -3,7 +3,7 @@ ghost use Rattle.std.specs.Prelude.{◌≡◌, slice_get};
 ghost use Rattle.defmt_talk.specs.Talks.{in_front};
 ghost use Rattle.rtt_terminal.specs.Speech.{said_by};
 
-use defmt_writers::{Gate, Yields, write, write_until};
+use defmt_writers::{Gate, Yields, log_all, log_until};
 use rtt_modes::Relief;
 use rtt_terminal::Speech;
 use shared_work::{Books, HasBook, Pen, Quota, Shared, Work};
@@ -61,10 +61,10 @@ pub(crate) fn talk<
 {
     while voice.place() < voice.total() {
         let count = statements_in_front(stage.speech, voice.writer(), voice.place());
-        write_until(rt, stage.log, pen, count, gate, relief);
+        log_until(rt, stage.log, pen, count, gate, relief);
         stage.booth.step(rt, voice, relief);
     }
-    write(rt, stage.log, pen, gate, relief);
+    log_all(rt, stage.log, pen, gate, relief);
 }
 
 // One writer's thread.

@@ -23,4 +23,4 @@ pub use script_run::{
     RingEnds, Run, SettledRing, drain_of, empty_capture, prepare, run_script, settle, settle_run,
 };
 pub use serving::serve_here;
-pub use writers::{Yields, ease_on, finish, work, write, write_until};
+pub use writers::{Yields, ease_on, finish, log_all, log_until, run_threads};

@@ -13,7 +13,7 @@ ghost use Rattle.shared_work.specs.Names.{AreNamed};
 use crate::drain::Drain;
 use crate::gate::Gate;
 use crate::reader::{FromSplit, Reader};
-use crate::writers::{finish, work};
+use crate::writers::{finish, run_threads};
 use defmt_frames::FRAME_SIZE;
 use defmt_hooks::{Clock, Stamp};
 use defmt_logger::{EachStatement, Logger, Logging, Naming, Tape};
@@ -160,7 +160,7 @@ fn run_named<
         EachStatement<K>,
         Logging<K, H::Up, C>,
     >::start(alloc, blanks, script, stamp, up)?;
-    let mut drain = work(rt, logger.shared(), &mut pens, gate, !late, drain);
+    let mut drain = run_threads(rt, logger.shared(), &mut pens, gate, !late, drain);
     finish(rt, logger.shared(), &mut pens, gate, &mut drain);
     drain.take_all();
     let (tape, up, script) = logger.close(pens);

@@ -3,7 +3,7 @@ ghost use Rattle.std.specs.Prelude.{◌≡◌};
 
 use crate::gate::Gate;
 use crate::reader::take;
-use crate::writers::write;
+use crate::writers::log_all;
 use defmt_logger::Logger;
 use dl_io::Bytes;
 use rtt_modes::Relief;
@@ -107,7 +107,7 @@ fn serve<
         gate,
         of: PhantomData,
     };
-    write(rt, shared, pen, gate, &mut serving);
+    log_all(rt, shared, pen, gate, &mut serving);
     let Serving { loan, .. } = serving;
     loan
 }

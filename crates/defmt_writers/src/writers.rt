@@ -25,8 +25,8 @@ impl Relief for Yields {
     }
 }
 
-/// Does the steps that the pen has left, and asks the gate before each.
-pub fn write<
+/// Logs all that the pen has left: does its steps, and asks the gate before each.
+pub fn log_all<
     B: Books,
     Q: Quota,
     T: Work<Q>,
@@ -46,9 +46,9 @@ pub fn write<
     }
 }
 
-/// Does the steps that the pen has left until so many are done, and asks the gate before each. Where as many were done before,
-/// or more, it does none.
-pub fn write_until<
+/// Logs what the pen has left until so many of its steps are done, and asks the gate before each. Where as many were done
+/// before, or more, it does none.
+pub fn log_until<
     B: Books,
     Q: Quota,
     T: Work<Q>,
@@ -78,7 +78,7 @@ fn run_one<B: Books, Q: Quota, T: Work<Q>, S: HasBook<B, L>, L: Ledger, G: Gate,
     gate: &G,
     ended: &AtomicU64,
 ) {
-    write(rt, shared, pen, gate, &mut Yields);
+    log_all(rt, shared, pen, gate, &mut Yields);
     ended.fetch_add(1, Ordering::SeqCst);
 }
 
@@ -162,14 +162,14 @@ pub fn finish<E: Names, Q: Quota, T: Work<Q>, G: Gate, R: Relief, W: Wait>(
     ensures p7 { pens.new.p7.place ≡ pens.new.p7.total }
     ensures relief { R.kept relief.new }
 {
-    write(rt, shared, &mut pens.p0, gate, relief);
-    write(rt, shared, &mut pens.p1, gate, relief);
-    write(rt, shared, &mut pens.p2, gate, relief);
-    write(rt, shared, &mut pens.p3, gate, relief);
-    write(rt, shared, &mut pens.p4, gate, relief);
-    write(rt, shared, &mut pens.p5, gate, relief);
-    write(rt, shared, &mut pens.p6, gate, relief);
-    write(rt, shared, &mut pens.p7, gate, relief);
+    log_all(rt, shared, &mut pens.p0, gate, relief);
+    log_all(rt, shared, &mut pens.p1, gate, relief);
+    log_all(rt, shared, &mut pens.p2, gate, relief);
+    log_all(rt, shared, &mut pens.p3, gate, relief);
+    log_all(rt, shared, &mut pens.p4, gate, relief);
+    log_all(rt, shared, &mut pens.p5, gate, relief);
+    log_all(rt, shared, &mut pens.p6, gate, relief);
+    log_all(rt, shared, &mut pens.p7, gate, relief);
 }
 
 /// Eases until all writers have ended, or waits for nothing where it isn't to ease.
@@ -189,7 +189,7 @@ pub fn ease_on<R: Relief, W: Wait>(rt: &W, ended: &AtomicU64, eases: bool, mut r
 
 /// Starts a thread for each writer that has steps, lends it its pen, and waits until all have ended. Meanwhile it eases again and
 /// again, or sleeps where it isn't to ease.
-pub fn work<
+pub fn run_threads<
     E: Names + Send,
     Q: Quota + Send,
     T: Work<Q> + Send,

@@ -7,8 +7,8 @@ use Rattle.defmt_steer.proofs.SteeredSends.{steering_send}
 use Rattle.rtt_down.specs.Steered.{turns_of}
 use Rattle.defmt_steer.proofs.steer_run.run_hosted.Goals as goal
 
-pub work-host-requires-send-T : goal.work-host-requires-send-T
-work-host-requires-send-T g c κs within =
+pub run_threads-host-requires-send-T : goal.run_threads-host-requires-send-T
+run_threads-host-requires-send-T g c κs within =
     let b = c.type_bounds in
     param_send 2 _ (arg_send _ no _ (steering_send _ _ _ _ g.K.Naming g.H.Up.UpEnd g.H.Down.DownEnd g.C.Clock b.send-K b.send-H-Up b.send-H-Down b.send-C))
 

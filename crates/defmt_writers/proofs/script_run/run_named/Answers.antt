@@ -7,8 +7,8 @@ use Rattle.defmt_writers.proofs.Ends.{below_eight}
 use Rattle.defmt_writers.proofs.Sends.{logging_send}
 use Rattle.defmt_writers.proofs.script_run.run_named.Goals as goal
 
-pub work-drain-requires-send-T : goal.work-drain-requires-send-T
-work-drain-requires-send-T g c κs within =
+pub run_threads-drain-requires-send-T : goal.run_threads-drain-requires-send-T
+run_threads-drain-requires-send-T g c κs within =
     let b = c.type_bounds in
     param_send 2 _ (arg_send _ no _ (logging_send _ _ _ g.K.Naming g.H.Up.UpEnd g.C.Clock b.send-K b.send-H-Up b.send-C))
 

@@ -1,5 +1,5 @@
 use Rattle.std.proofs.Common.{◌-◌}
-use Rattle.defmt_writers.proofs.writers.write.Given as goal
+use Rattle.defmt_writers.proofs.writers.log_all.Given as goal
 
 abbrev pub invariant-loop-pen : goal.invariant-loop-pen
 invariant-loop-pen g l = g.R.Relief.kept l.relief

@@ -1,5 +1,5 @@
 use Rattle.std.proofs.Common.{◌-◌, ◌<◌, ◌≤◌}
-use Rattle.defmt_writers.proofs.writers.write_until.Given as goal
+use Rattle.defmt_writers.proofs.writers.log_until.Given as goal
 
 abbrev pub invariant-loop-pen : goal.invariant-loop-pen
 invariant-loop-pen g l = record {
