@@ -13,6 +13,9 @@ use test_rows::{number_of, parted, put_str};
 
 const MOST: u64 = 281_474_976_710_656;
 
+// The greatest number of a message that a stamp is asked by.
+const LAST_NUMBER: u64 = 4096;
+
 // A stamp's base, its step and the number of a message: what the stamp and what its holder answers.
 const STAMPS: &str = "\
 1000 250 0 = 1000 1000
@@ -96,7 +99,7 @@ fn answers_of(base: u64, step: u64, t: u32) -> (u64, u64)
 }
 
 fn put_answers(base: u64, step: u64, number: u64, out: &mut String) -> Result<(), Fail> {
-    if base > MOST || step > MOST || number > 4096 {
+    if base > MOST || step > MOST || number > LAST_NUMBER {
         return Err(Fail::new("a number is too large"));
     }
     let (own, held) = answers_of(base, step, number as u32);

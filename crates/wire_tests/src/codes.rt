@@ -1,11 +1,14 @@
 //! Codes: what messages are written as, and what pieces stand for.
 use crate::rows::Kind;
-use crate::runs::{bytes_of, put_words};
+use crate::runs::{MESSAGE_SIZE, bytes_of, put_words};
 use rzcobs_core::{bound, decode, encode};
 use std::alloc::Global;
 use std::fmt::Write;
 use std::test::Fail;
 use test_rows::{each_line, expect, put_str};
+
+// How many bytes the code of a message has at most.
+const CODE_SIZE: usize = 2286;
 
 // A message, and its code.
 const CODES: &str = "\
@@ -54,10 +57,10 @@ const BOUNDS: &str = "\
 2000 = 2286";
 
 fn put_code(message: &[u8], out: &mut String) -> Result<(), Fail> {
-    if message.len() > 2000 {
+    if message.len() > MESSAGE_SIZE {
         return Err(Fail::new("long"));
     }
-    let mut code = [9u8; 2286];
+    let mut code = [9u8; CODE_SIZE];
     let size = encode(message, &mut code);
     put_words(out, &code[..size])
 }
@@ -74,10 +77,10 @@ fn put_piece(alloc: Global, piece: &[u8], out: &mut String) -> Result<(), Fail> 
 }
 
 fn put_back(alloc: Global, message: &[u8], out: &mut String) -> Result<(), Fail> {
-    if message.len() > 2000 {
+    if message.len() > MESSAGE_SIZE {
         return Err(Fail::new("long"));
     }
-    let mut code = [9u8; 2286];
+    let mut code = [9u8; CODE_SIZE];
     let size = encode(message, &mut code);
     put_piece(alloc, &code[..size], out)
 }

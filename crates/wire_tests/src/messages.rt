@@ -1,6 +1,6 @@
 //! Messages and frames of the statements of scripts, what messages are read as, and each cause for which bytes are none.
 use crate::rows::Kind;
-use crate::runs::{bytes_of, put_words};
+use crate::runs::{MESSAGE_SIZE, bytes_of, put_words};
 use crate::strings::{end_line, script_of, table_of};
 use defmt_encode::{Heard, ReadCause, frame, is_long, message, place_suits, read_message};
 use defmt_grammar::Text;
@@ -12,6 +12,9 @@ use std::alloc::Global;
 use std::fmt::Write;
 use std::test::Fail;
 use test_rows::{each_block, each_line, put_str};
+
+// How many bytes the frame of a message has at most.
+const FRAME_SIZE: usize = 2288;
 
 // A script with a statement; its message, its frame, and the index, the arguments and the stamp that are read from the message where they give it again.
 const SENT: &str = r#"s hello defmt_info hello
@@ -182,12 +185,12 @@ two 1992 = size 2000 long false first 1";
 
 // The frame of a message.
 fn put_frame(message: &[u8], out: &mut String) -> Result<(), Fail> {
-    if message.len() > 2000 {
+    if message.len() > MESSAGE_SIZE {
         return Err(Fail::new("long"));
     }
-    let mut framed = [9u8; 2288];
+    let mut framed = [9u8; FRAME_SIZE];
     let count = frame(message, &mut framed);
-    if count > 2288 {
+    if count > FRAME_SIZE {
         return Err(Fail::new("beyond the buffer"));
     }
     put_words(out, &framed[..count])
@@ -325,7 +328,7 @@ fn put_same(
     if !place_suits(script.table(), None) {
         return Err(Fail::new("no place"));
     }
-    let mut buffer = [0u8; 2000];
+    let mut buffer = [0u8; MESSAGE_SIZE];
     let count = match message(
         script.table(),
         None,
@@ -333,7 +336,7 @@ fn put_same(
         &heard.stm,
         &mut buffer,
     ) {
-        Ok(count) if count <= 2000 => count,
+        Ok(count) if count <= MESSAGE_SIZE => count,
         _ => return Err(Fail::new("long")),
     };
     let back = &buffer[..count];
@@ -373,9 +376,9 @@ fn put_statement(
     if !place_suits(script.table(), None) {
         return Err(Fail::new("no place"));
     }
-    let mut bytes = [0u8; 2000];
+    let mut bytes = [0u8; MESSAGE_SIZE];
     match message(script.table(), None, first_stamp(script), stm, &mut bytes) {
-        Ok(count) if count <= 2000 => put_carried(alloc, script, &bytes[..count], out),
+        Ok(count) if count <= MESSAGE_SIZE => put_carried(alloc, script, &bytes[..count], out),
         _ => Err(Fail::new("long")),
     }
 }
@@ -423,7 +426,7 @@ fn put_written(
     if !place_suits(table, place) {
         return Err(Fail::new("the place doesn't suit"));
     }
-    let mut bytes = [9u8; 2000];
+    let mut bytes = [9u8; MESSAGE_SIZE];
     if let Ok(count) = message(table, place, None, stm, &mut bytes) {
         write!(out, "size {count} ")?;
     }
