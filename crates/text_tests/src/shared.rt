@@ -6,9 +6,12 @@ use std::alloc::Global;
 use std::fmt::Write;
 use std::test::Fail;
 
+// How many bytes a text has at most whose pieces a row asks for.
+const LONGEST_TEXT: usize = 4096;
+
 /// The pieces of a text that is short.
 pub fn pieces_of(alloc: Global, text: &str, mode: Mode) -> Result<Pieces, GrammarFault> {
-    if text.len() > 4096 {
+    if text.len() > LONGEST_TEXT {
         return Err(GrammarFault::Memory);
     }
     parse(alloc, text, mode)
