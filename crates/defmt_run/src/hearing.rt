@@ -80,10 +80,7 @@ pub fn hear_spoken(alloc: Global, run: &Run, talk: &Talk) -> Result<Heard, Memor
     ensures { IfOk result (λ heard. MakesSpoken run.now talk.now heard.events heard.output.items) }
 {
     let events = hear(alloc, run)?;
-    let options = RunOptions {
-        group: false,
-        only: None,
-    };
+    let options = RunOptions::none();
     let lines = run_lines(alloc, &options, &run.script, &run.tape, &events)?;
     let output = with_spoken(alloc, lines, &run.script, talk)?;
     Ok(Heard { events, output })

@@ -1,8 +1,10 @@
 use Rattle.std.proofs.Common.{◌++◌, ◌∙◌, List, ℕ, ap}
 use Rattle.std.specs.Prelude.{Some}
 use Rattle.defmt_print.proofs.Marks.{are_placed}
+use Rattle.defmt_print.specs.RunLines.{run_lines}
 use Rattle.defmt_print.specs.Terminals.{screen_lines}
 use Rattle.defmt_run.proofs.RunMade.{heard, spoke}
+use Rattle.defmt_words.specs.declared.job.RunOptions.{RunOptions}
 use Rattle.rtt_booth.specs.Said.{screens_by}
 use Rattle.defmt_run.proofs.hearing.hear_spoken.Goals as goal
 
@@ -22,5 +24,7 @@ returns c =
               c.in_ok-events.events talk.said.words talk.settled talk.captured.items talk.rest.items c.requires.talk.0 c.requires.talk.1,
         ),
       ),
-      c.in_ok-output.ensures ∙ ap (λ (l : List ℕ). l ++ screen_lines (screens_by run.script.said talk.said.words)) c.in_ok-lines.ensures,
+      c.in_ok-output.ensures ∙ ap (λ (l : List ℕ). l ++ screen_lines (screens_by run.script.said talk.said.words)) (
+          c.in_ok-lines.ensures ∙ ap (λ (options : RunOptions). run_lines options run.script run.tape.marks c.in_ok-events.events) c.none-options.ensures
+          ),
     )
