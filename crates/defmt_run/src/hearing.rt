@@ -43,7 +43,7 @@ fn lines_of_run(alloc: Global, options: &RunOptions, run: &Run) -> Result<Heard,
     ensures { IfOk result (λ heard. MakesAlone (ScriptJob.Run options.now) run.now heard.events
         heard.output.items) }
 {
-    let events = hear(alloc, run)?;
+    let events = events_of_run(alloc, run)?;
     let output = run_lines(alloc, options, &run.script, &run.tape, &events)?;
     Ok(Heard { events, output })
 }
@@ -54,7 +54,7 @@ fn stream_of_run(alloc: Global, run: &Run) -> Result<Heard, Memory>
     ensures { IfOk result (λ heard. MakesAlone ScriptJob.Record run.now heard.events
         heard.output.items) }
 {
-    let output = joined(alloc, run.captured.as_slice(), run.rest.as_slice())?;
+    let output = joined_bytes(alloc, run.captured.as_slice(), run.rest.as_slice())?;
     Ok(Heard {
         events: Events::new(alloc),
         output,
@@ -67,7 +67,7 @@ fn counts_of_run(alloc: Global, run: &Run) -> Result<Heard, Memory>
     ensures { IfOk result (λ heard. (count : ℕ) → MakesAlone (ScriptJob.Generate count) run.now
         heard.events heard.output.items) }
 {
-    let events = hear(alloc, run)?;
+    let events = events_of_run(alloc, run)?;
     run.script.lawful();
     let output = summary(alloc, &run.script, &run.tape)?;
     Ok(Heard { events, output })
@@ -79,7 +79,7 @@ pub fn hear_spoken(alloc: Global, run: &Run, talk: &Talk) -> Result<Heard, Memor
     requires talk { IsWordTalk run.now talk.now }
     ensures { IfOk result (λ heard. MakesSpoken run.now talk.now heard.events heard.output.items) }
 {
-    let events = hear(alloc, run)?;
+    let events = events_of_run(alloc, run)?;
     let options = RunOptions::none();
     let lines = run_lines(alloc, &options, &run.script, &run.tape, &events)?;
     let output = with_spoken(alloc, lines, &run.script, talk)?;
@@ -103,7 +103,7 @@ pub fn hear_steered(alloc: Global, run: &SteeredRun) -> Result<Heard, Memory>
 
 // The events of what a run sent. In blocking and skip mode they are the lines of the frames that were sent whole, with the places
 // of their marks, and in profile Two the gaps between them are those of the tape.
-fn hear(alloc: Global, run: &Run) -> Result<Events, Memory>
+fn events_of_run(alloc: Global, run: &Run) -> Result<Events, Memory>
     requires { IsRun run.now.script run.now.tape.marks run.now.settled
         run.now.captured.items run.now.rest.items run.now.looks }
     ensures events { IfOk result (λ events.
@@ -123,7 +123,7 @@ fn hear(alloc: Global, run: &Run) -> Result<Events, Memory>
 }
 
 /// These bytes, one part after the other.
-pub fn joined(alloc: Global, front: &[u8], rest: &[u8]) -> Result<Bytes, Memory>
+pub fn joined_bytes(alloc: Global, front: &[u8], rest: &[u8]) -> Result<Bytes, Memory>
     ensures { IfOk result (λ all. all.items ≡ front.now ++ rest.now) }
 {
     let mut all = Bytes::new(alloc);

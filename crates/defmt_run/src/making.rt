@@ -49,8 +49,8 @@ pub fn make<G: Gate + Sync, R: Threads + Wait + Sync>(
     ensures { IfOk result (λ made. Makes job.now script (told made.outcome) made.output.items) }
 {
     match job {
-        ScriptJob::Terminals => spoken(rt, alloc, script, gate),
-        ScriptJob::Steer => steered(rt, alloc, script, gate),
+        ScriptJob::Terminals => making_by_speaking(rt, alloc, script, gate),
+        ScriptJob::Steer => making_by_steering(rt, alloc, script, gate),
         ScriptJob::Table => {
             let file = write_table(alloc, script.table());
             without_run(alloc, script, file)
@@ -59,12 +59,12 @@ pub fn make<G: Gate + Sync, R: Threads + Wait + Sync>(
             let lines = statement_lines(alloc, &script);
             without_run(alloc, script, lines)
         }
-        _ => logged(rt, alloc, job, script, gate),
+        _ => making_by_logging(rt, alloc, job, script, gate),
     }
 }
 
 // What comes of a script that is logged, by a job that logs.
-fn logged<G: Gate + Sync, R: Threads + Wait + Sync>(
+fn making_by_logging<G: Gate + Sync, R: Threads + Wait + Sync>(
     rt: &R,
     alloc: Global,
     job: &ScriptJob,
@@ -80,7 +80,7 @@ fn logged<G: Gate + Sync, R: Threads + Wait + Sync>(
 }
 
 // What comes of a script that is logged, and whose texts for terminals are said.
-fn spoken<G: Gate + Sync, R: Threads + Wait + Sync>(
+fn making_by_speaking<G: Gate + Sync, R: Threads + Wait + Sync>(
     rt: &R,
     alloc: Global,
     script: Script,
@@ -101,7 +101,7 @@ fn spoken<G: Gate + Sync, R: Threads + Wait + Sync>(
 }
 
 // What comes of a script that is run under its orders.
-fn steered<G: Gate + Sync, R: Threads + Wait + Sync>(
+fn making_by_steering<G: Gate + Sync, R: Threads + Wait + Sync>(
     rt: &R,
     alloc: Global,
     script: Script,

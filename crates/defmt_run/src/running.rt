@@ -46,7 +46,7 @@ pub fn script_outcome<S: Source, K: Sink, G: Gate + Sync, R: Threads + Wait + Sy
     ensures sink_count { K.faults out.old ≤ K.faults out.new }
 {
     match making_of(rt, alloc, job, src, gate) {
-        Ok(making) => written(out, making),
+        Ok(making) => outcome_of_writing(out, making),
         Err(fault) => Outcome::silent(alloc, fault),
     }
 }
@@ -83,7 +83,7 @@ fn script_of<S: Source>(alloc: Global, job: &ScriptJob, src: &mut S) -> Result<S
     generated_reads();
     one_reading();
     let text = text_of(alloc, job, src)?;
-    suited(alloc, job, text.as_slice())
+    suited_script(alloc, job, text.as_slice())
 }
 
 // The text of this job's script.
@@ -103,7 +103,7 @@ fn text_of<S: Source>(alloc: Global, job: &ScriptJob, src: &mut S) -> Result<Byt
 }
 
 // The script that a text spells, where it suits this job.
-fn suited(alloc: Global, job: &ScriptJob, text: &[u8]) -> Result<Script, Fault>
+fn suited_script(alloc: Global, job: &ScriptJob, text: &[u8]) -> Result<Script, Fault>
     requires { length text.now ≤ script_limit }
     ensures spelled { IfOk result (λ s. IsSpelled text.now s) }
     ensures suits { IfOk result (λ s. Suits job.now s) }
@@ -111,7 +111,7 @@ fn suited(alloc: Global, job: &ScriptJob, text: &[u8]) -> Result<Script, Fault>
     ensures stops { IfErr result (λ fault. StopsFor job.now text.now fault) }
 {
     let script = spelled_by(alloc, text)?;
-    match unsuited(job, &script, text) {
+    match unsuited_line(job, &script, text) {
         None => Ok(script),
         Some(line) => {
             script.forget();
@@ -125,7 +125,7 @@ fn suited(alloc: Global, job: &ScriptJob, text: &[u8]) -> Result<Script, Fault>
 }
 
 // The line for which a script doesn't suit this job.
-fn unsuited(job: &ScriptJob, script: &Script, text: &[u8]) -> Option<u32>
+fn unsuited_line(job: &ScriptJob, script: &Script, text: &[u8]) -> Option<u32>
     requires reads { Reads text.now (Ok script.now) }
     requires within { length text.now ≤ script_limit }
     ensures none { result ≡ None → Suits job.now script.now }
@@ -190,7 +190,7 @@ fn spelled_by(alloc: Global, text: &[u8]) -> Result<Script, Fault>
 }
 
 // Writes what was made, and tells what is told of it.
-fn written<K: Sink>(out: &mut K, making: Making) -> Outcome
+fn outcome_of_writing<K: Sink>(out: &mut K, making: Making) -> Outcome
     ensures status { result.status ≡ status_of result.fault }
     ensures same { told result ≡ told making.outcome }
     ensures written { Writes (output_of K.held K.faults out.old out.new) making.output.items

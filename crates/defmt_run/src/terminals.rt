@@ -4,7 +4,7 @@ ghost use Rattle.defmt_print.specs.Terminals.{screen_lines};
 ghost use Rattle.defmt_talk.specs.Talks.{IsTalk};
 ghost use Rattle.rtt_booth.specs.Said.{IsLawful, screens_by, spoken_by};
 
-use crate::hearing::joined;
+use crate::hearing::joined_bytes;
 use defmt_print::with_screens;
 use defmt_script::Script;
 use defmt_talk::Talk;
@@ -36,7 +36,7 @@ fn spoken_screens(alloc: Global, script: &Script, talk: &Talk) -> Result<Screens
     ensures { IfOk result (λ screens.
         screens ≡ screens_by script.now.said talk.now.said.words) }
 {
-    let sent = joined(alloc, talk.captured.as_slice(), talk.rest.as_slice())?;
+    let sent = joined_bytes(alloc, talk.captured.as_slice(), talk.rest.as_slice())?;
     screens_of(alloc, script, &talk.said, sent.as_slice())
 }
 

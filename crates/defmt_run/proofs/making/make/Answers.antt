@@ -11,10 +11,10 @@ use Rattle.elf_table.specs.Listed.{symbols_in}
 use Rattle.defmt_run.proofs.making.make.Goals as goal
 
 pub returns-in-Terminals : goal.returns-in-Terminals
-returns-in-Terminals g c = make_so c.args.job.now Terminals c.args.script c.spoken.result c.in-Terminals.is c.spoken.ensures
+returns-in-Terminals g c = make_so c.args.job.now Terminals c.args.script c.making_by_speaking.result c.in-Terminals.is c.making_by_speaking.ensures
 
 pub returns-in-Steer : goal.returns-in-Steer
-returns-in-Steer g c = make_so c.args.job.now Steer c.args.script c.steered.result c.in-Steer.is c.steered.ensures
+returns-in-Steer g c = make_so c.args.job.now Steer c.args.script c.making_by_steering.result c.in-Steer.is c.making_by_steering.ensures
 
 pub returns-in-Table : goal.returns-in-Table
 returns-in-Table g c =
@@ -36,4 +36,4 @@ returns-in-Print g c =
 
 pub returns-in_default : goal.returns-in_default
 returns-in_default g c =
-    c.logged.ensures (logs c.args.job.now c.in_default.not-Terminals c.in_default.not-Steer c.in_default.not-Table c.in_default.not-Print)
+    c.making_by_logging.ensures (logs c.args.job.now c.in_default.not-Terminals c.in_default.not-Steer c.in_default.not-Table c.in_default.not-Print)

@@ -5,7 +5,7 @@ use Rattle.defmt_run.specs.Making.{Makes}
 use Rattle.defmt_run.specs.Told.{told_of}
 use Rattle.defmt_run.specs.declared.hearing.Heard.{Heard}
 use Rattle.rtt_booth.specs.declared.said.Word.{Word as SaidWord}
-use Rattle.defmt_run.proofs.making.logged.Goals as goal
+use Rattle.defmt_run.proofs.making.making_by_logging.Goals as goal
 
 pub returns : goal.returns
 returns g c = λ logged.

@@ -2,7 +2,7 @@ use Rattle.defmt_run.proofs.RunMade.{makes_so}
 use Rattle.defmt_run.specs.Told.{steered_of}
 use Rattle.defmt_run.specs.declared.hearing.Heard.{Heard}
 use Rattle.defmt_words.specs.declared.job.ScriptJob.TheVariants.{Steer}
-use Rattle.defmt_run.proofs.making.steered.Goals as goal
+use Rattle.defmt_run.proofs.making.making_by_steering.Goals as goal
 
 pub returns : goal.returns
 returns g c =

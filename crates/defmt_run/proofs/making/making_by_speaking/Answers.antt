@@ -3,7 +3,7 @@ use Rattle.defmt_run.proofs.RunMade.{makes_so}
 use Rattle.defmt_run.specs.Told.{told_of}
 use Rattle.defmt_run.specs.declared.hearing.Heard.{Heard}
 use Rattle.defmt_words.specs.declared.job.ScriptJob.TheVariants.{Terminals}
-use Rattle.defmt_run.proofs.making.spoken.Goals as goal
+use Rattle.defmt_run.proofs.making.making_by_speaking.Goals as goal
 
 pub returns : goal.returns
 returns g c =

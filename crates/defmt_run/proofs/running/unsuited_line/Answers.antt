@@ -6,7 +6,7 @@ use Rattle.defmt_run.proofs.Texts.{suits_other}
 use Rattle.defmt_run.specs.Running.{Suits}
 use Rattle.defmt_words.specs.declared.job.ScriptJob.{ScriptJob}
 use Rattle.rtt_down.specs.Modes.{FirstMode}
-use Rattle.defmt_run.proofs.running.unsuited.Goals as goal
+use Rattle.defmt_run.proofs.running.unsuited_line.Goals as goal
 
 with_job : (J P : Type 0) (ls : List (List ℕ)) (found : Option ℕ) → J → IfSome found (λ line. P × FirstMode 1 ls (Some line)) → IfSome found (λ line. J × P × FirstMode 1 ls (Some line))
 with_job J P ls None j some = tt

@@ -2,7 +2,7 @@ use Rattle.std.proofs.Common.{inr, refl, subst, sym}
 use Rattle.defmt_recording.specs.declared.fault.Fault.TheVariants.{Script}
 use Rattle.defmt_run.specs.Running.{StopsFor}
 use Rattle.defmt_words.specs.declared.job.ScriptJob.{ScriptJob}
-use Rattle.defmt_run.proofs.running.suited.Goals as goal
+use Rattle.defmt_run.proofs.running.suited_script.Goals as goal
 
 pub returns-in-Some-clause-stops : goal.returns-in-Some-clause-stops
 returns-in-Some-clause-stops c =

@@ -3,7 +3,7 @@ use Rattle.std.proofs.lemmas.Result.{IfOk-weaker}
 use Rattle.defmt_decode.specs.Event.{events_of}
 use Rattle.defmt_decode.specs.declared.event.Event.{Event}
 use Rattle.defmt_print.specs.Heard.{catalog_of}
-use Rattle.defmt_run.proofs.hearing.hear.Goals as goal
+use Rattle.defmt_run.proofs.hearing.events_of_run.Goals as goal
 
 both : (a b first rest sent : List ℕ) → first ≡ a → rest ≡ b → sent ≡ a ++ b → first ++ rest ≡ sent
 both a b first rest sent first_is rest_is sent_is =
