@@ -30,5 +30,6 @@ pub use outcome::Outcome;
 pub use rtt_booth::{Said, Word};
 pub use rtt_down::{Turn, Turns};
 pub use rtt_dump::refusals_are_checked;
+pub use rtt_modes::Fate;
 pub use rtt_ring::{RingKind, Settled};
 pub use top::session;
