@@ -1,8 +1,7 @@
 //! Statements that are dropped beside a live reader. A row is the words and the script.
 use crate::rows::{Kind, each_block};
 use crate::sessions::put_lines;
-use defmt_run::{Mark, Outcome, Tape};
-use rtt_modes::Fate;
+use defmt_run::{Fate, Mark, Outcome, Tape};
 use std::alloc::Global;
 use std::test::Fail;
 use test_rows::{is_same, put, put_number};

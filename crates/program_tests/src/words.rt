@@ -9,7 +9,7 @@ const JOBS: &str = "\
 defmtl run = run
 defmtl --group run = run in groups
 defmtl record = record
-defmtl term = term
+defmtl term = term, its lines as of run
 defmtl steer = steer
 defmtl table = table
 defmtl print = print
@@ -88,7 +88,10 @@ fn put_script_job(job: &ScriptJob, out: &mut String) {
     match job {
         ScriptJob::Run(options) => put_run(options, out),
         ScriptJob::Record => put(out, "record"),
-        ScriptJob::Terminals => put(out, "term"),
+        ScriptJob::Terminals => {
+            put(out, "term, its lines as of ");
+            put_run(&RunOptions::none(), out);
+        }
         ScriptJob::Steer => put(out, "steer"),
         ScriptJob::Table => put(out, "table"),
         ScriptJob::Print => put(out, "print"),
