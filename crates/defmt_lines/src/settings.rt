@@ -204,13 +204,13 @@ impl Settings {
         ensures { result ≡ with_order self.now number.now word.now }
     {
         match (number_within(0, FRAMES_LIMIT, number), level_of(word)) {
-            (Some(number), Some(level)) => self.with_order(number as u32, level),
+            (Some(number), Some(level)) => self.with_one_more(number as u32, level),
             _ => Err(Cause::Level),
         }
     }
 
     // With an order more.
-    fn with_order(&self, number: u32, level: Level) -> Result<Settings, Cause>
+    fn with_one_more(&self, number: u32, level: Level) -> Result<Settings, Cause>
         ensures { result ≡ order_or self.now (Some number) (Some level) }
     {
         if self.orders.len() >= ORDERS_LIMIT {
