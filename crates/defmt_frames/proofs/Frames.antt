@@ -1,31 +1,19 @@
 -- A writer's statements are sound, and the frame of one that is there is that of its message.
 use Rattle.std.proofs.Common.{◌≡◌, ℕ, zero, suc, ◌<◌, List, [], ◌∷◌, Option, Some, None, length, sym, subst, arith, slice_get, slice_index_or}
-use Rattle.std.specs.List.{AllByRecursion}
-use Rattle.std.proofs.lemmas.Option.{same_Some}
 use Rattle.defmt_encode.proofs.Placing.{placed}
 use Rattle.defmt_encode.specs.Carry.{frame_of, message_of, stamp_args}
 use Rattle.defmt_encode.specs.Placed.{HasPlace, place_in}
 use Rattle.defmt_frames.specs.Frames.{frame_at, statements_of}
 use Rattle.defmt_intern.specs.Table.{Map}
 use Rattle.defmt_intern.specs.declared.table.Profile.{Profile}
+use Rattle.defmt_script.proofs.Listed.{of_statement}
 use Rattle.defmt_script.specs.Lawful.{IsLawful, IsSound, stamp_in}
 use Rattle.defmt_script.specs.Script.{Script}
 use Rattle.defmt_values.specs.declared.value.Statement.{Statement}
 
-at_place : {X : Type 0} (P : X → Type 0) (xs : List X) (i : ℕ) (x : X) → AllByRecursion P xs → slice_get xs i ≡ Some x → P x
-at_place P [] i x all is = absurd (cc is)
-at_place P (y ∷ xs) zero x all is = subst P (same_Some y x is) all.0
-at_place P (y ∷ xs) (suc i) x all is = at_place P xs i x all.1 is
-
-at_writer : (P : List Statement → Type 0) (ws : List (List Statement)) (w : ℕ) → AllByRecursion P ws → P [] → P (slice_index_or ws w [])
-at_writer P [] w all none = none
-at_writer P (l ∷ ws) zero all none = all.0
-at_writer P (l ∷ ws) (suc w) all none = at_writer P ws w all.1 none
-
 pub sound_at : (s : Script) (w k : ℕ) (stm : Statement) → IsLawful s → slice_get (statements_of s w) k ≡ Some stm → IsSound s.table s.settings stm
 sound_at s w k stm h is =
-    let P : Statement → Type 0 = IsSound s.table s.settings in
-    at_place P (statements_of s w) k stm (at_writer (λ l. AllByRecursion P l) s.writers w h.sound tt) is
+    of_statement (IsSound s.table s.settings) s.writers w k stm h.sound is
 
 pub statement_there : (xs : List Statement) (k : ℕ) → k < length xs → slice_get xs k ≡ None → ⊥
 statement_there [] k lt none = absurd (omega (arith, lt))

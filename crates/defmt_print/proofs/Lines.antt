@@ -1,5 +1,5 @@
 -- In blocking and skip mode the events of what was sent are the lines of the frames that were sent whole, with their places.
-use Rattle.std.proofs.Common.{◌≡◌, ◌≤◌, ◌<◌, ◌+◌, ℕ, List, [], ◌∷◌, ◌++◌, Bool, length, map, drop, refl, sym, ◌∙◌, ap, arith, append_assoc}
+use Rattle.std.proofs.Common.{◌≡◌, ◌≤◌, ◌+◌, ℕ, List, [], ◌∷◌, ◌++◌, Bool, length, map, drop, refl, sym, ◌∙◌, ap, arith, append_assoc}
 use Rattle.std.specs.Prelude.{if◌then◌else◌, Option, Some, None, slice_get}
 use Rattle.std.proofs.lemmas.Bool.{le-leb}
 use Rattle.std.proofs.lemmas.List.{append-nil, map-append}
@@ -11,7 +11,7 @@ use Rattle.defmt_eager.specs.Line.{eager_line}
 use Rattle.defmt_encode.proofs.Placing.{placed}
 use Rattle.defmt_encode.specs.Carry.{message_of, stamp_args}
 use Rattle.defmt_encode.specs.Placed.{place_in}
-use Rattle.defmt_frames.proofs.Frames.{sound_at, writer_below}
+use Rattle.defmt_frames.proofs.Frames.{sound_at}
 use Rattle.defmt_frames.specs.Frames.{first_stamp, frame_at, frame_with, stamp_step, statements_of}
 use Rattle.defmt_values.specs.Sound.{AreSound}
 use Rattle.defmt_framing.specs.Cut.{front}
@@ -38,7 +38,7 @@ pub record Known (s : Script) : Type 0 where
   pub fit : Fit
   pub base : first_stamp s.settings.stamp ≤ 281474976710656
   pub step : stamp_step s.settings.stamp ≤ 281474976710656
-  pub sound : (writer place : ℕ) (stm : Statement) → writer < 8 → slice_get (statements_of s writer) place ≡ Some stm → AreSound stm.args
+  pub sound : (writer place : ℕ) (stm : Statement) → slice_get (statements_of s writer) place ≡ Some stm → AreSound stm.args
 
 -- ---- statements as they are sent
 
@@ -101,14 +101,13 @@ is_sent s known short number m good =
     let stm = statement_at s m good in
     let found = (there (statements_of s m.writer) m.place good.placed).1 in
     let sound : IsSound s.table s.settings stm = sound_at s m.writer m.place stm known.lawful found in
-    let below : m.writer < 8 = omega (arith, writer_below s.writers m.writer m.place good.placed, known.lawful.eight) in
     record {
       placed = placed s.settings.profile number;
       stamp_fits = known.fit.fits s m.stamp known.lawful good.small;
       fits = sound.fits;
       logged = sound.logged;
       stamp_sound = stamp_sound (stamp_in s.settings.stamp m.stamp);
-      sound = known.sound m.writer m.place stm below found;
+      sound = known.sound m.writer m.place stm found;
       narrow = known.fit.narrow s m.stamp stm known.lawful good.small sound;
       short = short (catalog_of s) (mark_sent s number m good) (sound.short number m.stamp);
     }

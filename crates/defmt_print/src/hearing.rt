@@ -5,7 +5,6 @@ ghost use Rattle.defmt_logger.specs.Tape.{IsLawful, stream_of};
 ghost use Rattle.defmt_logger.specs.declared.mark.Mark.{Mark as AnyMark};
 ghost use Rattle.defmt_print.specs.Heard.{GapsIn, LinesIn, catalog_of};
 
-use crate::soundness::statements_are_sound;
 use crate::statements::stamps;
 use defmt_decode::{Events, frames_read_back, gaps_count, without_front};
 use defmt_logger::Tape;
@@ -15,8 +14,8 @@ use dl_io::Memory;
 use std::alloc::Global;
 
 /// In blocking and skip mode the events of what is sent for a lawful tape are the lines of the frames that were sent whole, with
-/// the places of their marks. In profile Two the gaps that are printed between them are how many frames were dropped there. It
-/// walks through the statements once. Takes no memory.
+/// the places of their marks. In profile Two the gaps that are printed between them are how many frames were dropped there. Takes no
+/// memory.
 pub fn sent_lines(script: &Script)
     ensures lines { (tape : List AnyMark) → IsLawful script.now tape
         → LinesIn script.now.settings.mode script.now tape
@@ -28,7 +27,7 @@ pub fn sent_lines(script: &Script)
     script.lawful();
     stamps(script);
     stamps_fit();
-    statements_are_sound(script);
+    script.statements_are_sound();
     frames_read_back();
     without_front();
     gaps_count();

@@ -17,7 +17,6 @@ mod orders;
 mod printing;
 mod showing;
 mod shown;
-mod soundness;
 mod statements;
 mod terminals;
 

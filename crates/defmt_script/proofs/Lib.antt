@@ -11,5 +11,6 @@ mod StepLaws
 mod LineBounds
 mod Steps
 mod Kept
+pub mod Listed
 mod Texts
 mod TurnLaws

@@ -46,17 +46,16 @@ count-added writer stm [] lt = absurd (omega (arith, lt))
 count-added zero stm (list ∷ more) lt = omega (arith, length-append list (stm ∷ []))
 count-added (suc writer) stm (list ∷ more) lt = omega (arith, count-added writer stm more (omega (arith, lt)))
 
-sound_behind : (table : Map) (s : Settings) (list : List Statement) (stm : Statement) → AllByRecursion (IsSound table s) list → IsSound table s stm
-    → AllByRecursion (IsSound table s) (list ++ stm ∷ [])
-sound_behind table s [] stm h new = (new, tt)
-sound_behind table s (first ∷ list) stm h new = (h.0, sound_behind table s list stm h.1 new)
+all_behind : (P : Statement → Type 0) (list : List Statement) (stm : Statement) → AllByRecursion P list → P stm → AllByRecursion P (list ++ stm ∷ [])
+all_behind P [] stm h new = (new, tt)
+all_behind P (first ∷ list) stm h new = (h.0, all_behind P list stm h.1 new)
 
-sound_added : (table : Map) (s : Settings) (writer : ℕ) (stm : Statement) (writers : List (List Statement))
-    → AllByRecursion (λ list. AllByRecursion (IsSound table s) list) writers → IsSound table s stm
-    → AllByRecursion (λ list. AllByRecursion (IsSound table s) list) (add_statement writer stm writers)
-sound_added table s writer stm [] h new = tt
-sound_added table s zero stm (list ∷ more) h new = (sound_behind table s list stm h.0 new, h.1)
-sound_added table s (suc writer) stm (list ∷ more) h new = (h.0, sound_added table s writer stm more h.1 new)
+pub all_added : (P : Statement → Type 0) (writer : ℕ) (stm : Statement) (writers : List (List Statement))
+    → AllByRecursion (λ list. AllByRecursion P list) writers → P stm
+    → AllByRecursion (λ list. AllByRecursion P list) (add_statement writer stm writers)
+all_added P writer stm [] h new = tt
+all_added P zero stm (list ∷ more) h new = (all_behind P list stm h.0 new, h.1)
+all_added P (suc writer) stm (list ∷ more) h new = (h.0, all_added P writer stm more h.1 new)
 
 pub statement_steady : (first : Form) (s : Settings) (table : Map) (names : NameMap) (writers more : List (List Statement)) (said : Speech) (writer : ℕ) (stm : Statement)
     → IsSteady (state first s table names writers said) → StringsAreOver first → writer < 8 → count_all writers < 4096 → IsSound table s stm → more ≡ add_statement writer stm writers
@@ -71,7 +70,7 @@ statement_steady first s table names writers more said writer stm h over lt room
       whole = h.whole;
       eight = length-added writer stm writers ∙ h.eight;
       few = omega (arith, added, room);
-      sound = sound_added table s writer stm writers h.sound new;
+      sound = all_added (IsSound table s) writer stm writers h.sound new;
     })
 
 -- one statement more, as it is counted

@@ -14,7 +14,7 @@ use Rattle.defmt_lines.specs.declared.form.Form.TheVariants as forms
 use Rattle.defmt_lines.specs.declared.settings.Settings.{Settings}
 use Rattle.defmt_script.proofs.Counts.{no_names, none_named}
 use Rattle.defmt_script.proofs.TurnLaws.{told_first}
-use Rattle.defmt_script.specs.Lawful.{IsSound}
+use Rattle.defmt_script.specs.Lawful.{AllAreSound, IsSound}
 use Rattle.defmt_script.specs.Script.{count_all}
 use Rattle.defmt_script.specs.State.{State, no_lines, no_statements}
 use Rattle.defmt_script.specs.Steady.{IsCounted, IsOpen, IsSteady, StaysLawful}
@@ -75,6 +75,7 @@ begins_steady settings table names writers said a b c d e =
       strings_are = sym (none_named names c);
       statements_are = sym (ap count_all d);
       told = told_first (state forms.Ring settings table names writers said).script e;
+      sound = subst AllAreSound (sym d) (tt, (tt, (tt, (tt, (tt, (tt, (tt, (tt, tt))))))));
     }
 
 -- ---- settings

@@ -14,6 +14,7 @@ use Rattle.defmt_lines.specs.declared.settings.Settings.{Settings}
 use Rattle.defmt_script.specs.Script.{Script, base_of, count_all}
 use Rattle.defmt_script.specs.Turns.{HasTurns}
 use Rattle.defmt_values.specs.Fits.{Fits, IsLogged}
+use Rattle.defmt_values.specs.Sound.{AreSound}
 use Rattle.defmt_values.specs.declared.value.Statement.{Statement}
 use Rattle.rtt_terminal.specs.Speech.{IsSpeech}
 
@@ -45,6 +46,10 @@ pub record IsSound (table : Map) (s : Settings) (stm : Statement) : Type 0 where
   pub logged : IsLogged table stm.index
   pub short : (number n : ℕ) → length (message_with table s number n stm) ≤ message_limit
   pub narrow : length (eager_text table stm.index stm.args) ≤ text_limit
+
+-- The values of all statements are what their types say.
+abbrev pub AllAreSound : List (List Statement) → Type 0
+AllAreSound writers = AllByRecursion (λ list. AllByRecursion (λ stm. AreSound stm.args) list) writers
 
 -- The table has a timestamp's entry exactly where there are stamps, and its text is `{=u64:us}`.
 abbrev pub HasStamp : Option (ℕ × ℕ) → Map → Type 0

@@ -7,7 +7,7 @@ use Rattle.defmt_lines.specs.Form.{IsSetting, ReaderMayCome, StringsAreOver, Str
 use Rattle.defmt_lines.specs.Settings.{AreLawful}
 use Rattle.defmt_lines.specs.declared.form.Form.{Form}
 use Rattle.defmt_lines.specs.declared.settings.Settings.{Settings}
-use Rattle.defmt_script.specs.Lawful.{HasStamp, IsSound, statements_limit}
+use Rattle.defmt_script.specs.Lawful.{AllAreSound, HasStamp, IsSound, statements_limit}
 use Rattle.defmt_script.specs.Script.{count_statements, count_strings}
 use Rattle.defmt_script.specs.State.{State, no_statements, strings_limit}
 use Rattle.defmt_script.specs.Turns.{IsTold}
@@ -41,3 +41,4 @@ pub record IsCounted (strings statements : ℕ) (s : State) : Type 0 where
   pub strings_are : strings ≡ count_strings s.script
   pub statements_are : statements ≡ count_statements s.script
   pub told : IsTold s.script
+  pub sound : AllAreSound s.script.writers

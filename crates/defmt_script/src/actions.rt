@@ -134,6 +134,7 @@ impl Reading {
         if is_wide(self.alloc, &self.table, &stm)? {
             return Err(LineFault::Refused(Cause::Wide));
         }
+        stm.args.are_sound();
         self.writers[usize::from(writer)].push(stm)?;
         self.statements += 1;
         Ok(())

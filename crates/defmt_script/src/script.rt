@@ -1,9 +1,12 @@
 //! Scripts.
 
-ghost use Rattle.std.specs.Prelude.{◌≡◌, ◌++◌, ◌∷◌, ◌<◌, [], length, slice_get, slice_index_or, OnOk, OnErr};
+ghost use Rattle.std.specs.Prelude.{◌≡◌, ◌++◌, ◌∷◌, ◌<◌, ℕ, Some, [], length, slice_get, slice_index_or, OnOk, OnErr};
 ghost use Rattle.std.specs.Option.{option_copied, option_map};
-ghost use Rattle.defmt_script.specs.Lawful.{IsLawful};
+ghost use Rattle.defmt_script.specs.Lawful.{AllAreSound, IsLawful};
+ghost use Rattle.defmt_script.specs.Script.{statements_by};
 ghost use Rattle.defmt_script.specs.Turns.{steps_of, told, told_of};
+ghost use Rattle.defmt_values.specs.Sound.{AreSound};
+ghost use Rattle.defmt_values.specs.declared.value.Statement.{Statement as AnyStatement};
 ghost use Rattle.rtt_terminal.specs.Speech.{count_said, said_by};
 
 use crate::step::{Step, step_at};
@@ -93,7 +96,7 @@ pub struct Script {
 
 impl Model for Script {
     ghost use Rattle.std.specs.Prelude.{◌≡◌};
-    ghost use Rattle.defmt_script.specs.Lawful.{IsLawful as HoldsOfScripts};
+    ghost use Rattle.defmt_script.specs.Lawful.{AllAreSound, IsLawful as HoldsOfScripts};
     ghost use Rattle.defmt_script.specs.Script.{Script as Read};
     ghost use Rattle.defmt_script.specs.Codes.{coded_script};
 
@@ -115,7 +118,7 @@ impl Model for Script {
       names = s.names;
       writers = s.writers.items;
       said = s.said;
-    }) × (s.table.profile ≡ s.settings.profile) };
+    }) × (s.table.profile ≡ s.settings.profile) × AllAreSound s.writers.items };
 }
 
 impl Script {
@@ -127,13 +130,14 @@ impl Script {
         writers: Vec<Statements>,
         said: Speech,
     ) -> Self
-        requires { IsLawful (record {
+        requires lawful { IsLawful (record {
           settings = settings;
           table = table.entries;
           names = names;
           writers = writers.items;
           said = said;
         }) }
+        requires sound { AllAreSound writers.items }
         ensures { result ≡ record {
           settings = settings;
           table = table.entries;
@@ -157,6 +161,15 @@ impl Script {
         ensures { IsLawful self.now }
     {
         let _ = &self.table;
+    }
+
+    /// The values of all statements are what their types say: texts are UTF-8, characters are Unicode scalar values and bytes
+    /// are below 256. So their messages are read back.
+    pub fn statements_are_sound(&self)
+        ensures { (writer place : ℕ) (stm : AnyStatement)
+            → slice_get (statements_by self.now writer) place ≡ Some stm → AreSound stm.args }
+    {
+        let _ = &self.writers;
     }
 
     /// The ring's size in bytes, from 16 to 65,536. Takes no memory.

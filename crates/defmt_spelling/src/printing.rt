@@ -14,7 +14,7 @@ use crate::names::Names;
 use defmt_grammar::{Base, Hint, IntSize, Memory, Text};
 use defmt_hints::{show_bool, show_char, show_int, show_str, show_uint};
 use defmt_intern::Table;
-use defmt_values::{Args, Item, Items, Node, Seq, Statement, Value, args_are_sound, cut};
+use defmt_values::{Args, Item, Items, Node, Seq, Statement, Value, cut};
 use std::alloc::Global;
 
 fn push_name(out: &mut Text, names: &Names, index: u16) -> Result<(), Memory>
@@ -208,7 +208,7 @@ pub fn print_args(
         ReadsArguments names.now table.now.entries stm.now.index text (Ok stm.now.args)) }
 {
     let _ = table;
-    args_are_sound(&stm.args);
+    stm.args.are_sound();
     printed(alloc, names, &stm.args)
 }
 

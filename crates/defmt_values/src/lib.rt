@@ -16,5 +16,4 @@ pub use entries::{form_of, is_format, is_interned, is_logged, look_up, own_form,
 pub use fitting::{check, cut};
 pub use law::one_cause;
 pub use numbers::{bits_between, is_below, is_multiple, is_of_bits, is_signed, power, size_bits};
-pub use sound::args_are_sound;
 pub use value::{Args, Item, Items, Node, Seq, Statement, Value};

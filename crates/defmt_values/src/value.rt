@@ -3,8 +3,10 @@ ghost use Rattle.std.specs.Prelude.{◌≡◌, IfOk, OnOk, OnErr, map};
 ghost use Rattle.std.specs.List.{slice_get};
 ghost use Rattle.std.specs.Option.{option_copied, option_map};
 ghost use Rattle.defmt_values.specs.Plain.{vals_get, no_vals, no_elems, snoc, snoc_elem, vals_len, vals_empty, elems_len, elems_empty};
+ghost use Rattle.defmt_values.specs.Sound.{AreSound, ElemsSound};
 ghost use Rattle.defmt_values.specs.View.{plain, vals_of, elems_of};
 
+use crate::sound::value_is_sound;
 use defmt_grammar::Text;
 use dl_io::{Bytes, Memory};
 use std::alloc::Global;
@@ -98,6 +100,10 @@ impl Model for Args {
 
     ghost view = { λ a. vals_of (map plain a.items.items) };
 
+    ghost use Rattle.defmt_values.specs.Sound.{AreSound};
+
+    ghost invariant = { λ a. AreSound (vals_of (map plain a.items.items)) };
+
     ghost size = { vals_size };
 
     ghost use Rattle.defmt_values.specs.Falls.{values_fall};
@@ -124,6 +130,10 @@ impl Model for Items {
     ghost use Rattle.defmt_values.specs.View.{elems_of};
 
     ghost view = { λ a. elems_of a.items.items };
+
+    ghost use Rattle.defmt_values.specs.Sound.{ElemsSound};
+
+    ghost invariant = { λ a. ElemsSound (elems_of a.items.items) };
 
     ghost size = { elems_size };
 
@@ -193,8 +203,16 @@ impl Args {
         ensures ok { OnOk result (self.new ≡ snoc self.old (plain item)) }
         ensures err { OnErr result (self.new ≡ self.old) }
     {
+        value_is_sound(&item);
         self.items.push(item)?;
         Ok(())
+    }
+
+    /// What the types of the values say of them. Takes no memory.
+    pub fn are_sound(&self)
+        ensures { AreSound self.now }
+    {
+        let _ = &self.items;
     }
 }
 
@@ -242,7 +260,15 @@ impl Items {
         ensures ok { OnOk result (self.new ≡ snoc_elem self.old item.variant item.args) }
         ensures err { OnErr result (self.new ≡ self.old) }
     {
+        item.args.are_sound();
         self.items.push(item)?;
         Ok(())
+    }
+
+    /// What the types of the values in the elements say of them. Takes no memory.
+    pub fn are_sound(&self)
+        ensures { ElemsSound self.now }
+    {
+        let _ = &self.items;
     }
 }

@@ -34,6 +34,7 @@ invariant_of-self-in_err-put_parsed c =
       strings_are = next ∙ sym more;
       statements_are = c.self.invariant.statements_are;
       told = c.self.invariant.told;
+      sound = c.self.invariant.sound;
     }
 
 pub invariant_of-self-2 : goal.invariant_of-self-2
@@ -50,6 +51,7 @@ invariant_of-self-2 c =
       strings_are = next ∙ sym more;
       statements_are = c.self.invariant.statements_are;
       told = c.self.invariant.told;
+      sound = c.self.invariant.sound;
     }
 
 pub returns : goal.returns

@@ -22,6 +22,7 @@ invariant_of-self c =
       strings_are = c.self.invariant.strings_are;
       statements_are = c.self.invariant.statements_are;
       told = c.self.invariant.told;
+      sound = c.self.invariant.sound;
     }
 
 pub invariant_of-self-in_err-put_entry : goal.invariant_of-self-in_err-put_entry
@@ -30,6 +31,7 @@ invariant_of-self-in_err-put_entry c = record {
   strings_are = c.self.invariant.strings_are;
   statements_are = c.self.invariant.statements_are;
   told = c.self.invariant.told;
+  sound = c.self.invariant.sound;
 }
 
 pub invariant_of-self-2 : goal.invariant_of-self-2
@@ -40,6 +42,7 @@ invariant_of-self-2 c =
       strings_are = c.self.invariant.strings_are;
       statements_are = c.self.invariant.statements_are;
       told = c.self.invariant.told;
+      sound = c.self.invariant.sound;
     }
 
 pub returns : goal.returns

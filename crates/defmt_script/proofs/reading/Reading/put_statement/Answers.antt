@@ -2,13 +2,15 @@ use Rattle.std.proofs.Common.{Ok, Result, List, ap, arith, subst, sym, true, ◌
 use Rattle.std.specs.Prelude.{slice_set}
 use Rattle.defmt_lines.specs.Form.{StringsAreOver}
 use Rattle.defmt_lines.specs.declared.cause.Cause.{Cause}
-use Rattle.defmt_script.proofs.StatementSteadiness.{placed, sound_of, statement_counted, statement_steady, taken}
+use Rattle.defmt_script.proofs.StatementSteadiness.{all_added, placed, sound_of, statement_counted, statement_steady, taken}
 use Rattle.defmt_script.proofs.Steadiness.{state}
 use Rattle.defmt_script.proofs.TurnLaws.{told_behind}
+use Rattle.defmt_script.specs.Lawful.{AllAreSound}
 use Rattle.defmt_script.specs.Reads.{is_message, takes_statement}
 use Rattle.defmt_script.specs.Script.{count_statements}
 use Rattle.defmt_script.specs.State.{State}
 use Rattle.defmt_values.specs.Fits.{Fits}
+use Rattle.defmt_values.specs.Sound.{AreSound}
 use Rattle.defmt_values.specs.declared.value.Statement.{Statement}
 use Rattle.defmt_script.proofs.reading.Reading.put_statement.Goals as goal
 
@@ -26,6 +28,7 @@ invariant_of-self-2 c =
       strings_are = c.self.invariant.strings_are;
       statements_are = statement_counted c.self.inside.writers.items _ c.args.writer c.self.inside.statements c.args.stm c.self.invariant.statements_are c.self.invariant.steady.eight c.requires.writer behind;
       told = told_behind inside.script (slice_set c.self.inside.writers.items c.from.result c.push.new.self) c.args.writer c.args.stm behind c.self.invariant.told;
+      sound = subst AllAreSound (sym behind) (all_added (λ (stm : Statement). AreSound stm.args) c.args.writer c.args.stm c.self.inside.writers.items c.self.invariant.sound c.are_sound.ensures);
     }
 
 pub returns : goal.returns

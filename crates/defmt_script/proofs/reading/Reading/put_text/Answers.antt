@@ -20,6 +20,7 @@ invariant_of-self c =
       statements_are = c.self.invariant.statements_are;
       told = told_pushed inside c.args.writer (saying c.count-behind.result c.args.terminal c.args.text.now) c.push.new.self c.push.result c.self.invariant.told c.requires.writer
           (record { one = c.requires.terminal; utf8 = c.utf8.text; sayable = c.requires.text }) room behind c.push.ensures.ok c.push.ensures.err;
+      sound = c.self.invariant.sound;
     }
 
 pub returns : goal.returns

@@ -12,4 +12,5 @@ invariant_of-self c =
       strings_are = c.self.invariant.strings_are;
       statements_are = c.self.invariant.statements_are;
       told = c.self.invariant.told;
+      sound = c.self.invariant.sound;
     }

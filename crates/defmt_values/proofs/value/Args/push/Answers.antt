@@ -1,5 +1,9 @@
 use Rattle.defmt_values.proofs.Pushes.{vals_push}
+use Rattle.defmt_values.proofs.Sounds.{vals_push_sound}
 use Rattle.defmt_values.proofs.value.Args.push.Goals as goal
 
 pub returns-clause-ok : goal.returns-clause-ok
 returns-clause-ok c = rw (c.in_ok-push.ensures.items, ← c.self.view_is) (vals_push c.self.inside.items.items c.args.item)
+
+pub invariant_of-self-2 : goal.invariant_of-self-2
+invariant_of-self-2 c = rw c.in_ok-push.ensures.items (vals_push_sound c.self.inside.items.items c.args.item c.self.invariant c.value_is_sound.ensures)
