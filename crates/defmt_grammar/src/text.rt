@@ -102,7 +102,7 @@ impl Text {
         })
     }
 
-    /// Appends a number in decimal digits.
+    // Appends a number in decimal digits.
     pub(crate) fn push_number(&mut self, number: u16) -> Result<(), Memory>
         ensures { OnOk result (self.new ≡ self.old ++ decimal number) }
     {
