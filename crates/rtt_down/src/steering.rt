@@ -35,11 +35,11 @@ impl Naming for Brand {
 
 /// The quota of a steered logger: a writer has a turn for each of its statements.
 #[derive(Drop)]
-pub struct EachStatement<K> {
+pub struct EachTurn<K> {
     of: PhantomData<K>,
 }
 
-impl<K: Naming> Quota for EachStatement<K> {
+impl<K: Naming> Quota for EachTurn<K> {
     ghost use Rattle.defmt_frames.specs.Frames.{count};
 
     ghost quota = { λ w. count K.script w };
@@ -67,7 +67,7 @@ impl<K: Naming, U: UpEnd, D: DownEnd, C: Clock> Model for Steering<K, U, D, C> {
         × (s.bridge.down.split ≡ K.down) };
 }
 
-impl<K: Naming, U: UpEnd, D: DownEnd, C: Clock> Work<EachStatement<K>> for Steering<K, U, D, C> {
+impl<K: Naming, U: UpEnd, D: DownEnd, C: Clock> Work<EachTurn<K>> for Steering<K, U, D, C> {
     ghost use Rattle.rtt_down.specs.Steered.{turns_of};
 
     ghost done = { λ s w. turns_of w s.turns.turns };

@@ -2,7 +2,7 @@ use Rattle.std.proofs.Common.{ℕ, ◌+◌, ◌==◌, ap, ◌∙◌}
 use Rattle.std.specs.Prelude.{if◌then◌else◌}
 use Rattle.rtt_down.proofs.Next.{turns_of-snoc}
 use Rattle.rtt_down.specs.Steered.{turns_of}
-use Rattle.rtt_down.proofs.steering.SteeringWorkEachStatement.step.Goals as goal
+use Rattle.rtt_down.proofs.steering.SteeringWorkEachTurn.step.Goals as goal
 
 pub append-requires-clause-place : goal.append-requires-clause-place
 append-requires-clause-place g c = rw (c.self.invariant.0, c.self.view_is) c.requires.place
