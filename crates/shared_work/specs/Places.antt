@@ -1,5 +1,5 @@
 -- Places one after another.
-use Rattle.std.specs.Prelude.{◌≡◌, ℕ, ◌+◌, List, [], ◌∷◌, Unit}
+use Rattle.std.specs.Prelude.{◌≡◌, ℕ, ◌+◌, List, [], ◌∷◌}
 
 -- the numbers from this one on, one after another
 abbrev pub AreConsecutive : ℕ → List ℕ → Type 0
