@@ -173,8 +173,8 @@ fn add_string(alloc: Global, strings: &mut Strings, name: &str, entry: &str) -> 
     Ok(())
 }
 
-// Puts how the arguments of the string at index 1 are written that are read from a text.
-fn put_written(
+/// Puts how the arguments of the string at index 1 are written that are read from a text.
+pub fn put_written(
     alloc: Global,
     names: &Names,
     table: &Table,

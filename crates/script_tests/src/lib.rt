@@ -4,9 +4,13 @@
 #[cfg(test)]
 mod arguments;
 #[cfg(test)]
+mod calls;
+#[cfg(test)]
 mod content;
 #[cfg(test)]
 mod generated;
+#[cfg(test)]
+mod readers;
 #[cfg(test)]
 mod rows;
 #[cfg(test)]

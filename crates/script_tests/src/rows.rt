@@ -1,8 +1,10 @@
 //! The rows of the tests, by what is asked of their inputs.
 use crate::arguments::{put_answers_of, put_written_by_script, put_written_of_kind};
+use crate::calls::{put_quick_call, put_quick_number};
 use crate::content::{
     put_cut, put_name, put_said_by_bytes, put_said_by_text, put_setting, put_verdict,
 };
+use crate::readers::put_quick_value;
 use crate::scripts::{put_refusal, put_refusal_at_limit};
 use crate::shapes::{
     put_behind_calls, put_behind_spaces, put_bytes, put_item, put_meaning, put_value,
@@ -31,6 +33,9 @@ pub enum Kind {
     BytesMeant,
     BehindSpaces,
     BehindCalls,
+    QuickValue,
+    QuickCall,
+    QuickNumber,
 }
 
 impl Question for Kind {
@@ -53,6 +58,9 @@ impl Question for Kind {
             Self::BytesMeant => put_bytes(alloc, input, out),
             Self::BehindSpaces => put_behind_spaces(input, out),
             Self::BehindCalls => put_behind_calls(alloc, input, out),
+            Self::QuickValue => put_quick_value(alloc, input, out),
+            Self::QuickCall => put_quick_call(alloc, input, out),
+            Self::QuickNumber => put_quick_number(alloc, input, out),
         }
     }
 }

@@ -121,14 +121,15 @@ fn one(alloc: Global, value: Value) -> Result<Args, Fail> {
     Ok(args)
 }
 
-fn put_first_line(alloc: Global, script: &Script, out: &mut String) -> Result<(), Fail> {
+/// Puts the line of a script's first statement with its first stamp.
+pub fn put_first_line(alloc: Global, script: &Script, out: &mut String) -> Result<(), Fail> {
     let statement = script.statement(0, 0).ok_or("no statement")?;
     let stamp = script.stamp().map_or(0, |(base, _)| base);
     let stamp = one(alloc, Value::Uint(u128::from(stamp)))?;
     put_line(alloc, script.table(), stamp, statement, out)
 }
 
-/// Puts the line of a script's first statement with its first stamp.
+/// The same of the text of a script.
 pub fn put_line_in(alloc: Global, text: &str, out: &mut String) -> Result<(), Fail> {
     let script = script_of(alloc, text)?;
     put_first_line(alloc, &script, out)

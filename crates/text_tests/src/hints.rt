@@ -75,7 +75,8 @@ fn push_int(value: i128, param: &Param, out: &mut Text) -> Result<(), Memory> {
     }
 }
 
-fn push_value(value: &Value, param: &Param, out: &mut Text) -> Result<(), Memory> {
+/// Appends the text of a value that stands alone where this parameter is.
+pub fn push_value(value: &Value, param: &Param, out: &mut Text) -> Result<(), Memory> {
     match value {
         Value::Uint(number) => show_uint(*number, &param.hint, out),
         Value::Int(number) => push_int(*number, param, out),
@@ -97,8 +98,8 @@ fn push_piece(piece: &Piece, args: &Args, out: &mut Text) -> Result<(), Memory> 
     }
 }
 
-// The pieces of a script's first string.
-fn first_pieces(table: &Table) -> &[Piece] {
+/// The pieces of a script's first string.
+pub fn first_pieces(table: &Table) -> &[Piece] {
     match table.parsed(1) {
         Some(Parsed::One(pieces)) => pieces.as_slice(),
         _ => &[],

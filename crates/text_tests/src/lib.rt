@@ -4,11 +4,17 @@
 #[cfg(test)]
 mod eager;
 #[cfg(test)]
+mod flat;
+#[cfg(test)]
 mod grammar;
 #[cfg(test)]
 mod hints;
 #[cfg(test)]
 mod intern;
+#[cfg(test)]
+mod places;
+#[cfg(test)]
+mod rooms;
 #[cfg(test)]
 mod rows;
 #[cfg(test)]

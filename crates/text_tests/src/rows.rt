@@ -1,8 +1,10 @@
 //! The rows of the tests, by what is asked of their inputs.
 use crate::eager::{put_length_for, put_line_in};
+use crate::flat::{put_flat_in, put_flat_shown};
 use crate::grammar::{put_pieces_text, put_slots, put_spelling, put_uses};
 use crate::hints::put_filled;
 use crate::intern::{put_answers, put_count_of_variants, put_name_text, put_parsed, put_written};
+use crate::places::{put_placed, put_widths};
 use crate::values::{put_verdict_in, put_verdict_of};
 use crate::{eager, hints};
 use std::alloc::Global;
@@ -28,6 +30,10 @@ pub enum Kind {
     NameText,
     VerdictIn,
     VerdictOf,
+    Placed,
+    Widths,
+    FlatIn,
+    FlatShown,
 }
 
 impl Question for Kind {
@@ -49,6 +55,10 @@ impl Question for Kind {
             Self::NameText => put_name_text(alloc, input, out),
             Self::VerdictIn => put_verdict_in(alloc, input, out),
             Self::VerdictOf => put_verdict_of(alloc, input, out),
+            Self::Placed => put_placed(alloc, input, out),
+            Self::Widths => put_widths(alloc, input, out),
+            Self::FlatIn => put_flat_in(alloc, input, out),
+            Self::FlatShown => put_flat_shown(alloc, input, out),
         }
     }
 }

@@ -2,6 +2,8 @@
 
 //! The tests of the wire: codes, the parts of streams, messages, events, what a screen shows of them, and the hearing of recordings, as rows of texts.
 #[cfg(test)]
+mod both;
+#[cfg(test)]
 mod codes;
 #[cfg(test)]
 mod ears;
@@ -13,6 +15,10 @@ mod hearing;
 mod messages;
 #[cfg(test)]
 mod parts;
+#[cfg(test)]
+mod plans;
+#[cfg(test)]
+mod rooms;
 #[cfg(test)]
 mod rows;
 #[cfg(test)]

@@ -206,7 +206,8 @@ fn put_stamp(out: &mut String, stamp: &Args) -> Result<(), Fail> {
     Ok(())
 }
 
-fn put_place(out: &mut String, place: Option<u16>) -> Result<(), Fail> {
+/// Puts a place, where there is one.
+pub fn put_place(out: &mut String, place: Option<u16>) -> Result<(), Fail> {
     match place {
         Some(place) => Ok(write!(out, " place {place}")?),
         None => Ok(()),
@@ -248,7 +249,8 @@ fn put_spelled(
     put_stamp(out, &heard.stamp)
 }
 
-fn put_cause(out: &mut String, cause: ReadCause) -> Result<(), Fail> {
+/// Puts the cause for which bytes are no message.
+pub fn put_cause(out: &mut String, cause: ReadCause) -> Result<(), Fail> {
     match cause {
         ReadCause::Bad { cause } => Ok(write!(out, "cause {cause}")?),
         ReadCause::Memory => put_str(out, "memory"),
@@ -310,7 +312,8 @@ pub fn put_read_by_table(alloc: Global, block: &str, out: &mut String) -> Result
     put_read_each(alloc, &Names::new(alloc), &table, rows, out)
 }
 
-fn first_stamp(script: &Script) -> Option<u64> {
+/// The stamp of a script's first statement.
+pub fn first_stamp(script: &Script) -> Option<u64> {
     match script.stamp() {
         Some((base, _)) => Some(base),
         None => None,

@@ -1,5 +1,5 @@
 //! The rows of the tests, by what is asked of their inputs.
-use crate::{codes, events, hearing, messages, parts, screens};
+use crate::{codes, events, hearing, messages, parts, plans, screens};
 use std::alloc::Global;
 use std::test::Fail;
 use test_rows::Question;
@@ -28,6 +28,9 @@ pub enum Kind {
     Heard,
     AtHand,
     Repeated,
+    PlannedSent,
+    PlannedByScript,
+    PlannedByTable,
 }
 
 impl Question for Kind {
@@ -54,6 +57,9 @@ impl Question for Kind {
             Self::Heard => hearing::put_heard(alloc, input, out),
             Self::AtHand => hearing::put_at_hand(alloc, input, out),
             Self::Repeated => hearing::put_repeated(alloc, input, out),
+            Self::PlannedSent => plans::put_sent(alloc, input, out),
+            Self::PlannedByScript => plans::put_by_script(alloc, input, out),
+            Self::PlannedByTable => plans::put_by_table(alloc, input, out),
         }
     }
 }
