@@ -7,7 +7,6 @@ use Rattle.defmt_encode.specs.Carry.{message_of, stamp_args}
 use Rattle.defmt_encode.specs.Placed.{place_in}
 use Rattle.defmt_frames.proofs.Frames.{sound_at}
 use Rattle.defmt_frames.proofs.Stamps.{suits}
-use Rattle.defmt_frames.specs.Frames.{statements_of}
 use Rattle.defmt_frames.specs.Sites.{AreSitesOf, HasSites, HaveSites, IsMessage, IsSiteOf, Keeps, Writes, site_at}
 use Rattle.defmt_frames.specs.declared.sites.Sites.{Sites}
 use Rattle.defmt_intern.specs.Table.{Map}
@@ -15,7 +14,7 @@ use Rattle.defmt_intern.specs.declared.entry.Entry.{Entry}
 use Rattle.defmt_macros.specs.Sites.{IsSite}
 use Rattle.defmt_macros.specs.declared.site.Site.{Site}
 use Rattle.defmt_script.specs.Lawful.{IsLawful, IsSound, message_limit, stamp_in}
-use Rattle.defmt_script.specs.Script.{Script}
+use Rattle.defmt_script.specs.Script.{Script, statements_by}
 use Rattle.defmt_values.specs.Entries.{is_logged}
 use Rattle.defmt_values.specs.Fits.{Fits}
 use Rattle.defmt_values.specs.declared.value.Statement.{Statement}
@@ -62,13 +61,13 @@ pub have_more : (old new : Sites) (list : List Statement) → Keeps old new → 
 have_more old new list keeps have place stm there = keeps stm.index (have place stm there)
 
 -- a statement of the script has one
-pub site_there : (s : Script) (sites : Sites) (w k : ℕ) (stm : Statement) → HasSites s sites → slice_get (statements_of s w) k ≡ Some stm → site_at sites stm.index ≡ None → ⊥
+pub site_there : (s : Script) (sites : Sites) (w k : ℕ) (stm : Statement) → HasSites s sites → slice_get (statements_by s w) k ≡ Some stm → site_at sites stm.index ≡ None → ⊥
 site_there s sites w k stm has there none = let clash : false ≡ true = ap is_some (sym none) ∙ has.all w k stm there in cc clash
 
 -- ---- what logging asks
 
 pub writes : (s : Script) (sites : Sites) (number w k n : ℕ) (stm : Statement) (site : Site) (table : Map) (c o : Option ℕ)
-    → IsLawful s → HasSites s sites → slice_get (statements_of s w) k ≡ Some stm → site_at sites stm.index ≡ Some site → table ≡ s.table → c ≡ place_in s.settings.profile number → o ≡ stamp_in s.settings.stamp n
+    → IsLawful s → HasSites s sites → slice_get (statements_by s w) k ≡ Some stm → site_at sites stm.index ≡ Some site → table ≡ s.table → c ≡ place_in s.settings.profile number → o ≡ stamp_in s.settings.stamp n
     → Writes table site c o stm.args
 writes s sites number w k n stm site table c o h has there at same counted carried =
     let sound : IsSound s.table s.settings stm = sound_at s w k stm h there in

@@ -1,20 +1,16 @@
 -- The frames of a script's statements, and the places and stamps that they carry.
-use Rattle.std.specs.Prelude.{ℕ, ◌+◌, ◌*◌, List, [], length, Option, Some, None, slice_get, slice_index_or}
+use Rattle.std.specs.Prelude.{ℕ, ◌+◌, ◌*◌, List, [], length, Option, Some, None, slice_get}
 use Rattle.defmt_encode.specs.Carry.{frame_of, message_of, stamp_args}
 use Rattle.defmt_encode.specs.Placed.{place_in}
 use Rattle.defmt_hooks.specs.Even.{Pace}
 use Rattle.defmt_intern.specs.Table.{Map}
 use Rattle.defmt_script.specs.Lawful.{stamp_in}
-use Rattle.defmt_script.specs.Script.{Script}
+use Rattle.defmt_script.specs.Script.{Script, statements_by}
 use Rattle.defmt_values.specs.declared.value.Statement.{Statement}
-
--- the statements of a writer, none where there is no such writer
-abbrev pub statements_of : Script → ℕ → List Statement
-statements_of s w = slice_index_or s.writers w []
 
 -- how many statements a writer has
 abbrev pub count : Script → ℕ → ℕ
-count s w = length (statements_of s w)
+count s w = length (statements_by s w)
 
 -- ---- stamps (defmt book, "Timestamps")
 
@@ -47,4 +43,4 @@ frame_with table place stamp (Some stm) =
 unfoldable pub frame_at : Script → ℕ → ℕ → ℕ → ℕ → List ℕ
 frame_at s number writer place stamp =
     frame_with s.table (place_in s.settings.profile number) (stamp_in s.settings.stamp stamp)
-    (slice_get (statements_of s writer) place)
+    (slice_get (statements_by s writer) place)

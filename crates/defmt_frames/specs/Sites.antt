@@ -2,7 +2,6 @@
 use Rattle.std.specs.Prelude.{◌≡◌, ◌≤◌, ℕ, true, List, length, Option, Some, None, IsSome, slice_get, slice_index_or, if◌then◌else◌}
 use Rattle.std.specs.Ordering.{is_eq, nat_cmp}
 use Rattle.defmt_encode.specs.Carry.{message_of, stamp_args}
-use Rattle.defmt_frames.specs.Frames.{statements_of}
 use Rattle.defmt_frames.specs.declared.sites.Sites.{Sites}
 use Rattle.defmt_grammar.specs.declared.piece.Piece.{Piece}
 use Rattle.defmt_intern.specs.Body.{body_of}
@@ -13,7 +12,7 @@ use Rattle.defmt_macros.specs.Sites.{IsSite}
 use Rattle.defmt_macros.specs.Stamps.{StampSuits}
 use Rattle.defmt_macros.specs.declared.site.Site.{Site}
 use Rattle.defmt_script.specs.Lawful.{message_limit}
-use Rattle.defmt_script.specs.Script.{Script}
+use Rattle.defmt_script.specs.Script.{Script, statements_by}
 use Rattle.defmt_values.specs.Entries.{is_logged, look}
 use Rattle.defmt_values.specs.Fits.{Fits}
 use Rattle.defmt_values.specs.Plain.{Vals}
@@ -61,7 +60,7 @@ HaveSites sites list = (place : ℕ) (stm : Statement) → slice_get list place 
 -- there is a site for each statement of the script, and each is of the entry at its index
 pub record HasSites (s : Script) (sites : Sites) : Type 0 where
   pub own : AreSitesOf s.table sites
-  pub all : (w : ℕ) → HaveSites sites (statements_of s w)
+  pub all : (w : ℕ) → HaveSites sites (statements_by s w)
 
 -- what logging by a site's macro asks beside a place that suits the table: the site is of an entry of the table, the stamp
 -- suits the table, the values fit the entry, and the message isn't too long

@@ -1,7 +1,7 @@
 //! The sites of a script.
 ghost use Rattle.std.specs.Prelude.{◌≡◌, ◌≤◌, ℕ, length, IfOk, IsSome, OnOk};
 ghost use Rattle.std.specs.Option.{option_copied};
-ghost use Rattle.defmt_frames.specs.Frames.{statements_of};
+ghost use Rattle.defmt_script.specs.Script.{statements_by};
 ghost use Rattle.defmt_frames.specs.Sites.{AreSitesOf, HasSites, HaveSites, IsMessage, IsPut, IsSiteOf, Keeps, row_at, site_at};
 
 use defmt_intern::{Parsed, Table};
@@ -59,7 +59,7 @@ impl Sites {
         requires own { AreSitesOf script.now.table self.old }
         ensures own { OnOk result (AreSitesOf script.now.table self.new) }
         ensures kept { OnOk result (Keeps self.old self.new) }
-        ensures all { OnOk result (HaveSites self.new (statements_of script.now writer)) }
+        ensures all { OnOk result (HaveSites self.new (statements_by script.now writer)) }
     {
         script.lawful();
         for place in 0..script.count(writer) {

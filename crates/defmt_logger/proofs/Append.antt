@@ -10,9 +10,10 @@ use Rattle.defmt_lines.specs.declared.settings.RingMode.{RingMode}
 use Rattle.defmt_lines.specs.declared.settings.RingMode.TheVariants.{Block, Skip, Trim}
 use Rattle.defmt_script.specs.Script.{Script}
 use Rattle.defmt_logger.specs.declared.mark.Mark.{Mark}
-use Rattle.defmt_logger.specs.Tape.{FateLaw, IsLawful, Leaves, Lost, Released, Runs, mark_frame, mark_part, marks_of, places, stream_from, stream_of}
+use Rattle.defmt_logger.specs.Tape.{FateLaw, IsLawful, Leaves, Lost, Released, mark_frame, mark_part, marks_of, places, stream_from, stream_of}
 use Rattle.defmt_logger.specs.Kept.{Behind, Counts, IsKept, LooksIn, Reel, SendsIn, Sheet, TellsIn, next_mark}
 use Rattle.shared_work.proofs.Counted.{raised}
+use Rattle.shared_work.specs.Places.{AreConsecutive}
 
 -- ---- what a mark more makes of a tape
 
@@ -32,16 +33,16 @@ marks_of-snoc w (x ∷ xs) m =
     grind (arith, nat_tests)
 
 -- the places of a writer go on by one
-order_snoc : (w a : ℕ) (xs : List Mark) (m : Mark) → Runs a (places w xs) → (m.writer ≡ w → m.place ≡ a + marks_of w xs) → Runs a (places w (xs ++ m ∷ []))
+order_snoc : (w a : ℕ) (xs : List Mark) (m : Mark) → AreConsecutive a (places w xs) → (m.writer ≡ w → m.place ≡ a + marks_of w xs) → AreConsecutive a (places w (xs ++ m ∷ []))
 order_snoc w a [] m h e =
-    let P : Bool → Type 0 = λ b. Runs a (if b then m.place ∷ [] else []) in
+    let P : Bool → Type 0 = λ b. AreConsecutive a (if b then m.place ∷ [] else []) in
     elim (eqb_tells m.writer w) [
       | inl t ↦ subst P (sym t.0) (omega (arith, e t.1), tt)
       | inr t ↦ subst P (sym t.0) tt
     ]
 order_snoc w a (x ∷ xs) m h e =
-    (elim (x.writer == w) as (λ (b : Bool). Runs a (if b then x.place ∷ places w xs else places w xs) → (m.writer ≡ w → m.place ≡ a + (if b then marks_of w xs + 1 else marks_of w xs))
-    → Runs a (if b then x.place ∷ places w (xs ++ m ∷ []) else places w (xs ++ m ∷ []))) [
+    (elim (x.writer == w) as (λ (b : Bool). AreConsecutive a (if b then x.place ∷ places w xs else places w xs) → (m.writer ≡ w → m.place ≡ a + (if b then marks_of w xs + 1 else marks_of w xs))
+    → AreConsecutive a (if b then x.place ∷ places w (xs ++ m ∷ []) else places w (xs ++ m ∷ []))) [
       | true ↦ λ g f. (g.0, order_snoc w (a + 1) xs m g.1 (λ t. omega (arith, f t)))
       | false ↦ λ g f. order_snoc w a xs m g f
     ]) h e

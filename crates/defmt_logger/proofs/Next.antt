@@ -14,6 +14,7 @@ use Rattle.defmt_script.specs.Script.{Script, count_all}
 use Rattle.rtt_modes.specs.declared.fate.Fate.{Fate}
 use Rattle.rtt_modes.specs.declared.fate.Fate.TheVariants.{Whole}
 use Rattle.rtt_ring.specs.Views.{Up}
+use Rattle.shared_work.proofs.Counted.{zeros}
 
 -- a writer that has a statement left is one of eight
 pub writer_is : (s : Script) (tape : List Mark) (w : ℕ) → HoldsOfScripts s → marks_of w tape < count s w → w < 8
@@ -64,11 +65,6 @@ next_is d sites places pace message frame w t stamp fate now v k h more t_is giv
     }
 
 -- ---- a desk on which nothing was logged
-
-zeros : (n w : ℕ) → ◌≡◌ {A = ℕ} (slice_index_or (replicate n 0) w 0) 0
-zeros zero w = refl
-zeros (suc n) zero = refl
-zeros (suc n) (suc w) = zeros n w
 
 pub no_counts : (tape : List Mark) → tape ≡ [] → Counts (0 ∷ 0 ∷ 0 ∷ 0 ∷ 0 ∷ 0 ∷ 0 ∷ 0 ∷ []) tape
 no_counts tape none = (refl, λ w lt. zeros 8 w ∙ sym (ap (marks_of w) none))

@@ -2,14 +2,15 @@
 use Rattle.std.specs.Prelude.{◌≡◌, ℕ, ◌+◌, ◌<◌, ◌≤◌, ◌==◌, List, [], ◌∷◌, ◌++◌, length, Option, Some, None, if◌then◌else◌, slice_get}
 use Rattle.defmt_eager.specs.Line.{eager_line}
 use Rattle.defmt_encode.specs.Carry.{stamp_args}
-use Rattle.defmt_frames.specs.Frames.{count, frame_at, stamp_number, statements_of}
+use Rattle.defmt_frames.specs.Frames.{count, frame_at, stamp_number}
 use Rattle.defmt_intern.specs.Table.{Map}
 use Rattle.defmt_lines.specs.declared.settings.RingMode.{RingMode}
 use Rattle.defmt_lines.specs.declared.settings.RingMode.TheVariants.{Skip, Trim}
 use Rattle.defmt_logger.specs.declared.mark.Mark.{Mark}
 use Rattle.defmt_script.specs.Lawful.{stamp_in}
-use Rattle.defmt_script.specs.Script.{Script}
+use Rattle.defmt_script.specs.Script.{Script, statements_by}
 use Rattle.defmt_values.specs.declared.value.Statement.{Statement}
+use Rattle.shared_work.specs.Places.{AreConsecutive}
 use Rattle.rtt_modes.specs.Fates.{part_of}
 use Rattle.rtt_modes.specs.declared.fate.Fate.{Fate}
 use Rattle.rtt_modes.specs.declared.fate.Fate.TheVariants.{Whole, Dropped, Cut}
@@ -43,7 +44,7 @@ line_with table stamp (Some stm) = eager_line table (stamp_args stamp) stm.index
 unfoldable pub mark_line : Script → Mark → List ℕ
 mark_line s m =
     line_with s.table (stamp_in s.settings.stamp m.stamp)
-    (slice_get (statements_of s m.writer) m.place)
+    (slice_get (statements_by s m.writer) m.place)
 
 -- ---- which tapes are lawful
 
@@ -56,11 +57,6 @@ places w (m ∷ ms) = if m.writer == w then m.place ∷ places w ms else places 
 abbrev pub marks_of : ℕ → List Mark → ℕ
 marks_of w [] = 0
 marks_of w (m ∷ ms) = if m.writer == w then marks_of w ms + 1 else marks_of w ms
-
--- the numbers from this one on, one after another
-abbrev pub Runs : ℕ → List ℕ → Type 0
-Runs from [] = Unit {0}
-Runs from (k ∷ ks) = (k ≡ from) × Runs (from + 1) ks
 
 -- Where f bytes are released, a frame behind these marks had room in the ring if its fate is Whole, and else had
 -- no more room than its fate says. Equal offsets mean an empty ring, so one byte of its size is never used
@@ -96,7 +92,7 @@ FateLaw mode s before frame (Cut need room) = (mode ≡ Trim) × Lost s before f
 -- Each writer's marks have the places 0, 1, 2 and so on, no more than it has statements. The mark number t has the
 -- stamp number t. Each fate is one that the mode allows, by the room that was found.
 pub record IsLawful (s : Script) (tape : List Mark) : Type 0 where
-  pub order : (w : ℕ) → Runs 0 (places w tape)
+  pub order : (w : ℕ) → AreConsecutive 0 (places w tape)
   pub within : (w : ℕ) → marks_of w tape ≤ count s w
   pub stamps : (before after : List Mark) (m : Mark) → tape ≡ before ++ m ∷ after
       → m.stamp ≡ stamp_number s (length before)

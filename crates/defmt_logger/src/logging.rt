@@ -1,14 +1,10 @@
 //! What a logger's writers share.
-ghost use Rattle.std.specs.Prelude.{◌≡◌};
-ghost use Rattle.std.specs.Coded.{Coded-set};
-ghost use Rattle.defmt_script.specs.Codes.{coded_script};
-
 use crate::desk::Desk;
 use defmt_hooks::Clock;
 use rtt_modes::Relief;
 use rtt_ring::UpEnd;
 use shared_work::{Quota, Work};
-use std::marker::{Brand, PhantomData};
+use std::marker::{Brand, Model, PhantomData};
 use std::sync::Wait;
 
 /// Which script a logger has, and from which split of a ring its end comes. Whoever starts a logger picks the two.
@@ -49,14 +45,26 @@ impl<K: Naming> Quota for EachStatement<K> {
 pub struct Logging<K: Naming, U: UpEnd, C: Clock> {
     pub(crate) desk: Desk<U, C>,
     pub(crate) of: PhantomData<K>,
-    ghost script: { desk.script ≡ K.script } by { Coded-set coded_script _ _ },
-    ghost split: { desk.up.split ≡ K.split },
+}
+
+impl<K: Naming, U: UpEnd, C: Clock> Model for Logging<K, U, C> {
+    ghost use Rattle.std.specs.Prelude.{◌≡◌};
+    ghost use Rattle.defmt_logger.specs.Kept.{Sheet};
+    ghost use Rattle.defmt_logger.specs.Codes.{coded_sheet};
+
+    ghost Value = { Sheet };
+
+    ghost coded = { coded_sheet };
+
+    ghost view = { λ l. l.desk };
+
+    ghost invariant = { λ l. (l.desk.script ≡ K.script) × (l.desk.up.split ≡ K.split) };
 }
 
 impl<K: Naming, U: UpEnd, C: Clock> Work<EachStatement<K>> for Logging<K, U, C> {
     ghost use Rattle.defmt_logger.specs.Tape.{marks_of};
 
-    ghost done = { λ l w. marks_of w l.desk.tape.marks };
+    ghost done = { λ l w. marks_of w l.tape.marks };
 
     fn step<R: Relief, W: Wait>(&mut self, rt: &W, writer: u8, relief: &mut R) {
         self.desk.append(rt, writer, relief);

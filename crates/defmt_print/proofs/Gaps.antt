@@ -4,7 +4,6 @@ use Rattle.std.specs.Prelude.{Option, Some, None}
 use Rattle.defmt_decode.specs.Gap.{gap_of}
 use Rattle.defmt_decode.specs.declared.event.Event.{Event}
 use Rattle.defmt_encode.specs.Placed.{place_in}
-use Rattle.defmt_frames.specs.Frames.{statements_of}
 use Rattle.defmt_hooks.specs.declared.rules.Rules.{Rules}
 use Rattle.defmt_intern.specs.declared.table.Profile.{Profile}
 use Rattle.defmt_intern.specs.declared.table.Profile.TheVariants as profiles
@@ -19,7 +18,7 @@ use Rattle.defmt_recording.specs.Output.{gap_between, gap_line}
 use Rattle.defmt_print.specs.Printed.{ArePlaced, mark_statement}
 use Rattle.defmt_print.specs.Shown.{dropped_behind, kept_line, shown_by, shown_mark_line, shown_mark_lines, shows_by, tape_line, tape_lines, tape_lines_by}
 use Rattle.defmt_recording.specs.Shown.{event_lines_by, event_lines_from}
-use Rattle.defmt_script.specs.Script.{Script}
+use Rattle.defmt_script.specs.Script.{Script, statements_by}
 use Rattle.defmt_values.specs.declared.value.Statement.{Statement}
 use Rattle.rtt_modes.specs.declared.fate.Fate.{Fate}
 use Rattle.rtt_modes.specs.declared.fate.Fate.TheVariants.{Whole, Dropped, Cut}
@@ -87,7 +86,7 @@ module _ (only : Option Rules) (s : Script) where
     behind : (ms : List Mark) → ArePlaced s ms → Behind ms
     behind [] placed q d n is few = no_events only s.table (Some (q % 65536))
     behind (m ∷ ms) placed q d n is few =
-        let found = there (statements_of s m.writer) m.place placed.0 in
+        let found = there (statements_by s m.writer) m.place placed.0 in
         with_statement (Some (q % 65536)) (Some d) n m ms found.0 found.1
         (behind_by m.fate q d n found.0 (mark_line s m) ms is (omega (arith, few)) (behind ms placed.1))
 
@@ -110,7 +109,7 @@ module _ (only : Option Rules) (s : Script) where
     pub at_first : (ms : List Mark) → ArePlaced s ms → AtFirst ms
     at_first [] placed n few = no_events only s.table None
     at_first (m ∷ ms) placed n few =
-        let found = there (statements_of s m.writer) m.place placed.0 in
+        let found = there (statements_by s m.writer) m.place placed.0 in
         with_statement None None n m ms found.0 found.1
         (first_by m.fate n found.0 (mark_line s m) ms (omega (arith, few)) placed.1 (at_first ms placed.1))
 

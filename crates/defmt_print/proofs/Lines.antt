@@ -12,7 +12,7 @@ use Rattle.defmt_encode.proofs.Placing.{placed}
 use Rattle.defmt_encode.specs.Carry.{message_of, stamp_args}
 use Rattle.defmt_encode.specs.Placed.{place_in}
 use Rattle.defmt_frames.proofs.Frames.{sound_at}
-use Rattle.defmt_frames.specs.Frames.{first_stamp, frame_at, frame_with, stamp_step, statements_of}
+use Rattle.defmt_frames.specs.Frames.{first_stamp, frame_at, frame_with, stamp_step}
 use Rattle.defmt_values.specs.Sound.{AreSound}
 use Rattle.defmt_framing.specs.Cut.{front}
 use Rattle.defmt_framing.specs.Frames.{frame_of, frames}
@@ -26,7 +26,7 @@ use Rattle.defmt_print.proofs.Stamped.{Fit}
 use Rattle.defmt_print.specs.Heard.{LinesIn, catalog_of, event_by, mark_events, whole_events, whole_from}
 use Rattle.defmt_print.specs.Printed.{mark_statement}
 use Rattle.defmt_script.specs.Lawful.{IsLawful, IsSound, stamp_in}
-use Rattle.defmt_script.specs.Script.{Script}
+use Rattle.defmt_script.specs.Script.{Script, statements_by}
 use Rattle.defmt_values.specs.declared.value.Statement.{Statement}
 use Rattle.rtt_modes.specs.Fates.{part_of}
 use Rattle.rtt_modes.specs.declared.fate.Fate.{Fate}
@@ -38,7 +38,7 @@ pub record Known (s : Script) : Type 0 where
   pub fit : Fit
   pub base : first_stamp s.settings.stamp ≤ 281474976710656
   pub step : stamp_step s.settings.stamp ≤ 281474976710656
-  pub sound : (writer place : ℕ) (stm : Statement) → slice_get (statements_of s writer) place ≡ Some stm → AreSound stm.args
+  pub sound : (writer place : ℕ) (stm : Statement) → slice_get (statements_by s writer) place ≡ Some stm → AreSound stm.args
 
 -- ---- statements as they are sent
 
@@ -52,7 +52,7 @@ sent_by (Dropped need room) x = []
 sent_by (Cut need room) x = []
 
 abbrev statement_at : (s : Script) (m : Mark) → IsGood s m → Statement
-statement_at s m good = (there (statements_of s m.writer) m.place good.placed).0
+statement_at s m good = (there (statements_by s m.writer) m.place good.placed).0
 
 abbrev mark_sent : (s : Script) (number : ℕ) (m : Mark) → IsGood s m → Sent
 mark_sent s number m good = sent_of s number m.stamp (statement_at s m good)
@@ -64,7 +64,7 @@ sents s number (m ∷ ms) good = sent_by m.fate (mark_sent s number m good.0) ++
 
 -- ---- what was sent is the stream of their frames
 
-part_is : (s : Script) (number : ℕ) (m : Mark) (stm : Statement) → slice_get (statements_of s m.writer) m.place ≡ Some stm → (fate : Fate) → IsKept fate
+part_is : (s : Script) (number : ℕ) (m : Mark) (stm : Statement) → slice_get (statements_by s m.writer) m.place ≡ Some stm → (fate : Fate) → IsKept fate
     → part_of (mark_frame s number m) fate ≡ frames (map (code_of (catalog_of s)) (sent_by fate (sent_of s number m.stamp stm)))
 unfolding frame_at frames
 part_is s number m stm found Whole kept =
@@ -83,7 +83,7 @@ unfolding frames
 stream_is s number [] good = refl
 stream_is s number (m ∷ ms) good =
     let x = mark_sent s number m good.0 in
-    ap (λ (l : List ℕ). l ++ stream_from s (number + 1) ms) (part_is s number m (statement_at s m good.0) (there (statements_of s m.writer) m.place good.0.placed).1 m.fate good.0.kept)
+    ap (λ (l : List ℕ). l ++ stream_from s (number + 1) ms) (part_is s number m (statement_at s m good.0) (there (statements_by s m.writer) m.place good.0.placed).1 m.fate good.0.kept)
     ∙ ap (λ (l : List ℕ). frames (map (code_of (catalog_of s)) (sent_by m.fate x)) ++ l) (stream_is s (number + 1) ms good.1)
     ∙ sym (frames-append (catalog_of s) (sent_by m.fate x) (sents s (number + 1) ms good.1))
 
@@ -99,7 +99,7 @@ Short = (t : Catalog) (x : Sent) → length (message_of t.entries x.place x.stam
 is_sent : (s : Script) → Known s → Short → (number : ℕ) (m : Mark) (good : IsGood s m) → IsSent (catalog_of s) (mark_sent s number m good)
 is_sent s known short number m good =
     let stm = statement_at s m good in
-    let found = (there (statements_of s m.writer) m.place good.placed).1 in
+    let found = (there (statements_by s m.writer) m.place good.placed).1 in
     let sound : IsSound s.table s.settings stm = sound_at s m.writer m.place stm known.lawful found in
     record {
       placed = placed s.settings.profile number;
@@ -147,12 +147,12 @@ lines_sent law t xs sent =
 
 -- ---- their lines
 
-pub line_is : (s : Script) (m : Mark) (stm : Statement) → slice_get (statements_of s m.writer) m.place ≡ Some stm
+pub line_is : (s : Script) (m : Mark) (stm : Statement) → slice_get (statements_by s m.writer) m.place ≡ Some stm
     → eager_line s.table (stamp_args (stamp_in s.settings.stamp m.stamp)) stm.index stm.args ≡ mark_line s m
 unfolding mark_line
 line_is s m stm found = ap (line_with s.table (stamp_in s.settings.stamp m.stamp)) (sym found)
 
-fate_events : (s : Script) (number : ℕ) (m : Mark) (stm : Statement) (fate : Fate) → slice_get (statements_of s m.writer) m.place ≡ Some stm
+fate_events : (s : Script) (number : ℕ) (m : Mark) (stm : Statement) (fate : Fate) → slice_get (statements_by s m.writer) m.place ≡ Some stm
     → map (line_of (catalog_of s)) (sent_by fate (sent_of s number m.stamp stm)) ≡ event_by fate (place_in s.settings.profile number) (mark_statement s m) (mark_line s m)
 fate_events s number m stm Whole found =
     let place : Option ℕ = place_in s.settings.profile number in
@@ -166,7 +166,7 @@ lines_are s number [] good = refl
 lines_are s number (m ∷ ms) good =
     map-append (line_of (catalog_of s)) (sent_by m.fate (mark_sent s number m good.0)) (sents s (number + 1) ms good.1)
     ∙ ap (λ (l : List Event). l ++ map (line_of (catalog_of s)) (sents s (number + 1) ms good.1))
-    (fate_events s number m (statement_at s m good.0) m.fate (there (statements_of s m.writer) m.place good.0.placed).1)
+    (fate_events s number m (statement_at s m good.0) m.fate (there (statements_by s m.writer) m.place good.0.placed).1)
     ∙ ap (λ (l : List Event). mark_events s number m ++ l) (lines_are s (number + 1) ms good.1)
 
 -- ---- both

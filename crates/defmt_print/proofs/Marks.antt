@@ -5,7 +5,7 @@ use Rattle.std.proofs.Math.Nat.{mul-le-mul_left}
 use Rattle.defmt_frames.specs.Frames.{count, first_stamp, stamp_number, stamp_step}
 use Rattle.defmt_lines.specs.declared.settings.RingMode.TheVariants.{Trim}
 use Rattle.defmt_logger.proofs.Room.{tape_fits}
-use Rattle.defmt_logger.specs.Tape.{FateLaw, IsLawful as IsLawfulTape, Runs, mark_frame, marks_of, places}
+use Rattle.defmt_logger.specs.Tape.{FateLaw, IsLawful as IsLawfulTape, mark_frame, marks_of, places}
 use Rattle.defmt_logger.specs.declared.mark.Mark.{Mark}
 use Rattle.defmt_print.specs.Printed.{ArePlaced}
 use Rattle.defmt_script.specs.Lawful.{IsLawful}
@@ -13,14 +13,15 @@ use Rattle.defmt_script.specs.Script.{Script}
 use Rattle.defmt_values.specs.declared.value.Statement.{Statement}
 use Rattle.rtt_modes.specs.declared.fate.Fate.{Fate}
 use Rattle.rtt_modes.specs.declared.fate.Fate.TheVariants.{Whole, Dropped, Cut}
+use Rattle.shared_work.specs.Places.{AreConsecutive}
 
 -- ---- places
 
-first_place : (b : Bool) (from x n most : ℕ) (xs : List ℕ) → b ≡ true → Runs from (if b then x ∷ xs else xs) → from + (if b then n + 1 else n) ≤ most → x < most
+first_place : (b : Bool) (from x n most : ℕ) (xs : List ℕ) → b ≡ true → AreConsecutive from (if b then x ∷ xs else xs) → from + (if b then n + 1 else n) ≤ most → x < most
 first_place true from x n most xs is runs fits = omega (arith, runs.0, fits)
 first_place false from x n most xs is runs fits = absurd (cc is)
 
-runs_on : (b : Bool) (from x : ℕ) (xs : List ℕ) → Runs from (if b then x ∷ xs else xs) → Runs (if b then from + 1 else from) xs
+runs_on : (b : Bool) (from x : ℕ) (xs : List ℕ) → AreConsecutive from (if b then x ∷ xs else xs) → AreConsecutive (if b then from + 1 else from) xs
 runs_on true from x xs runs = runs.1
 runs_on false from x xs runs = runs
 
@@ -29,7 +30,7 @@ fits_on true from n most fits = omega (arith, fits)
 fits_on false from n most fits = fits
 
 -- where each writer's marks go on from its own place
-placed_from : (s : Script) (start : ℕ → ℕ) (tape : List Mark) → ((w : ℕ) → Runs (start w) (places w tape)) → ((w : ℕ) → start w + marks_of w tape ≤ count s w) → ArePlaced s tape
+placed_from : (s : Script) (start : ℕ → ℕ) (tape : List Mark) → ((w : ℕ) → AreConsecutive (start w) (places w tape)) → ((w : ℕ) → start w + marks_of w tape ≤ count s w) → ArePlaced s tape
 placed_from s start [] order within = tt
 placed_from s start (m ∷ ms) order within = (
   first_place (m.writer == m.writer) (start m.writer) m.place (marks_of m.writer ms) (count s m.writer) (places m.writer ms) (eq-eqb m.writer m.writer refl) (order m.writer) (within m.writer),

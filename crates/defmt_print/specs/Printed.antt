@@ -6,7 +6,7 @@ use Rattle.defmt_eager.specs.Line.{eager_line, IsWide}
 use Rattle.defmt_intern.specs.Stamp.{stamp_of}
 use Rattle.defmt_encode.specs.Carry.{message_of, stamp_args}
 use Rattle.defmt_encode.specs.Placed.{place_in}
-use Rattle.defmt_frames.specs.Frames.{count, stamp_number, statements_of}
+use Rattle.defmt_frames.specs.Frames.{count, stamp_number}
 use Rattle.defmt_intern.specs.Table.{Map}
 use Rattle.defmt_intern.specs.declared.entry.Entry.{Entry}
 use Rattle.defmt_intern.specs.declared.entry.Tag.{Tag}
@@ -16,7 +16,7 @@ use Rattle.defmt_recording.specs.Output.{ended}
 use Rattle.defmt_hooks.specs.declared.level.Level.{Level}
 use Rattle.defmt_hooks.specs.declared.level.Level.TheVariants as levels
 use Rattle.defmt_script.specs.Lawful.{stamp_in}
-use Rattle.defmt_script.specs.Script.{Script}
+use Rattle.defmt_script.specs.Script.{Script, statements_by}
 use Rattle.defmt_values.specs.Entries.{look}
 use Rattle.defmt_values.specs.Fits.{Fits, FitsStamp, IsLogged}
 use Rattle.defmt_values.specs.declared.value.Statement.{Statement}
@@ -55,7 +55,7 @@ whole_by (Cut need room) line = []
 
 -- the statement of a mark
 abbrev pub mark_statement : Script → Mark → Option Statement
-mark_statement s m = slice_get (statements_of s m.writer) m.place
+mark_statement s m = slice_get (statements_by s m.writer) m.place
 
 abbrev pub entry_with : Map → Option Statement → Option Entry
 entry_with table None = None

@@ -1,5 +1,5 @@
 //! The lines of a script's statements.
-ghost use Rattle.std.specs.Prelude.{◌≡◌, ◌≤◌, ◌<◌, ◌^◌, ◌+◌, ◌++◌, [], length, slice_index_or, IfOk, OnOk};
+ghost use Rattle.std.specs.Prelude.{◌≡◌, ◌≤◌, ◌<◌, ◌^◌, ◌+◌, ◌++◌, length, IfOk, OnOk};
 ghost use Rattle.defmt_encode.specs.Carry.{stamp_args};
 ghost use Rattle.defmt_frames.specs.Frames.{first_stamp, stamp_number, stamp_step};
 ghost use Rattle.defmt_logger.specs.Tape.{mark_line};
@@ -8,6 +8,7 @@ ghost use Rattle.defmt_eager.specs.Line.{eager_line};
 ghost use Rattle.defmt_print.specs.Printed.{IsPlaced, Prints, numbered, numbered_line, statement_lines};
 ghost use Rattle.defmt_put.specs.Written.{Writes};
 ghost use Rattle.defmt_script.specs.Lawful.{IsSound, stamp_in};
+ghost use Rattle.defmt_script.specs.Script.{statements_by};
 
 use defmt_eager::{EagerFault, line};
 use defmt_flat::put_line;
@@ -67,12 +68,12 @@ fn add_writer(
     out: &mut Bytes,
 ) -> Result<u32, Memory>
     requires writer { writer < length script.now.writers }
-    requires few { number + length (slice_index_or script.now.writers writer []) ≤ 4096 }
+    requires few { number + length (statements_by script.now writer) ≤ 4096 }
     ensures count { IfOk result (λ after.
-        after ≡ number + length (slice_index_or script.now.writers writer [])) }
+        after ≡ number + length (statements_by script.now writer)) }
     ensures bytes { OnOk result (out.new.items ≡ out.old.items
         ++ numbered (numbered_line script.now) number
-        (slice_index_or script.now.writers writer [])) }
+        (statements_by script.now writer)) }
 {
     script.lawful();
     let count = script.count(writer);

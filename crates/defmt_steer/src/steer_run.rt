@@ -12,7 +12,7 @@ use defmt_hooks::{Clock, Level, Stamp};
 use defmt_script::Script;
 use defmt_writers::{Gate, RingEnds, SettledRing, finish, prepare, run_threads, settle};
 use dl_io::{Bytes, Memory};
-use rtt_down::{EachStatement, Naming, Steered, Steering, Turns};
+use rtt_down::{EachTurn, Naming, Steered, Steering, Turns};
 use rtt_ring::{Channel, RingFault, Settled};
 use shared_work::{Blanks, Eight, Named, Names};
 use std::alloc::Global;
@@ -159,7 +159,7 @@ fn run_hosted<
     let host = host_of::<N, H::Up, H::Down, G>(reads, captured, sends, orders, gate);
     let (steered, mut helms) = Steered::<
         Eight<Named<E>>,
-        EachStatement<K>,
+        EachTurn<K>,
         Steering<K, H::Up, H::Down, C>,
     >::start(alloc, blanks, script, stamp, up, down)?;
     let mut host = run_threads(rt, steered.shared(), &mut helms, gate, true, host);

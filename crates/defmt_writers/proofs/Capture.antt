@@ -4,12 +4,12 @@ use Rattle.std.proofs.Math.Nat.{mul-div-le}
 use Rattle.defmt_encode.specs.Carry.{message_of, stamp_args}
 use Rattle.defmt_encode.specs.Placed.{place_in}
 use Rattle.defmt_frames.proofs.Frames.{sound_at}
-use Rattle.defmt_frames.specs.Frames.{frame_at, frame_with, statements_of}
+use Rattle.defmt_frames.specs.Frames.{frame_at, frame_with}
 use Rattle.defmt_logger.proofs.Room.{tape_fits}
 use Rattle.defmt_logger.specs.Tape.{IsLawful, mark_frame, mark_part, stream_from, stream_of}
 use Rattle.defmt_logger.specs.declared.mark.Mark.{Mark}
 use Rattle.defmt_script.specs.Lawful.{IsSound, IsLawful as HoldsOfScripts, stamp_in}
-use Rattle.defmt_script.specs.Script.{Script, count_all}
+use Rattle.defmt_script.specs.Script.{Script, count_all, statements_by}
 use Rattle.defmt_values.specs.declared.value.Statement.{Statement}
 use Rattle.rtt_down.proofs.Room.{turns_fit}
 use Rattle.rtt_down.specs.Steered.{IsSteered, turn_part, stream_from as steered_from, stream_of as steered_stream}
@@ -41,7 +41,7 @@ with_short s number n (Some stm) bounded sound =
 
 at_short : (s : Script) (number w k n : ℕ) → Bounded → HoldsOfScripts s → length (frame_at s number w k n) ≤ 2288
 unfolding frame_at
-at_short s number w k n bounded h = with_short s number n (slice_get (statements_of s w) k) bounded (λ stm is. sound_at s w k stm h is)
+at_short s number w k n bounded h = with_short s number n (slice_get (statements_by s w) k) bounded (λ stm is. sound_at s w k stm h is)
 
 part_short : (bytes : List ℕ) (fate : Fate) → length bytes ≤ 2288 → length (part_of bytes fate) ≤ 2288
 part_short bytes Whole short = short

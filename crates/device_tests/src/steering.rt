@@ -12,7 +12,7 @@ use crate::scripts::{put_digits_or_nothing, script_of, stamp_of};
 use defmt_hooks::{Clock, Level, Stamp};
 use defmt_script::Script;
 use dl_io::Bytes;
-use rtt_down::{EachStatement, Ear, Naming, Steered, Steering, Turn, Turns, order_bytes};
+use rtt_down::{EachTurn, Ear, Naming, Steered, Steering, Turn, Turns, order_bytes};
 use rtt_modes::skip;
 use rtt_ring::{Channel, PlainRing, WordDown, WordRing, WordUp};
 use shared_work::{Blanks, Books, Eight, HasBook, Named, Names, Pen, Quota, Work};
@@ -193,7 +193,7 @@ fn steer_by_helms<E: Names, K: Naming, C: Clock + Drop, W: Wait>(
 {
     let (logger, mut helms) = Steered::<
         Eight<Named<E>>,
-        EachStatement<K>,
+        EachTurn<K>,
         Steering<K, PlainRing, WordDown, C>,
     >::start(alloc, blanks, script, stamp, ring, down)?;
     let (first, second, third) = orders;

@@ -5,11 +5,12 @@ use Rattle.std.proofs.lemmas.Bool.{eqb-true}
 use Rattle.std.proofs.lemmas.List.{length-set}
 use Rattle.rtt_booth.proofs.Spoken.{spoken_behind}
 use Rattle.rtt_booth.specs.Kept.{Counts, current_after, line_from, word}
-use Rattle.rtt_booth.specs.Said.{IsLawful, Runs, lines_of, places, spoken_by, words_of}
+use Rattle.rtt_booth.specs.Said.{IsLawful, lines_of, places, spoken_by, words_of}
 use Rattle.rtt_booth.specs.declared.said.Word.{Word}
 use Rattle.rtt_terminal.specs.Speech.{Saying, Speech, count_said, line_of, said_by}
 use Rattle.rtt_terminal.specs.Stream.{Line, spoken}
-use Rattle.shared_work.proofs.Counted.{raised}
+use Rattle.shared_work.proofs.Counted.{consecutive-snoc, raised}
+use Rattle.shared_work.specs.Places.{AreConsecutive}
 
 -- ---- the places
 
@@ -41,16 +42,12 @@ length-places w (x ∷ xs) =
       | false ↦ h
     ]
 
-Runs-snoc : (a : ℕ) (xs : List ℕ) (k : ℕ) → Runs a xs → k ≡ a + length xs → Runs a (xs ++ k ∷ [])
-Runs-snoc a [] k h e = (omega (arith, e), tt)
-Runs-snoc a (x ∷ xs) k h e = (h.0, Runs-snoc (a + 1) xs k h.1 (omega (arith, e)))
-
-order_case : (w : ℕ) (words : List Word) (v : Word) → Runs 0 (places w words) → v.place ≡ words_of v.writer words → (b : Bool) → (v.writer == w) ≡ b → Runs 0 (places w words ++ (if b then v.place ∷ [] else []))
+order_case : (w : ℕ) (words : List Word) (v : Word) → AreConsecutive 0 (places w words) → v.place ≡ words_of v.writer words → (b : Bool) → (v.writer == w) ≡ b → AreConsecutive 0 (places w words ++ (if b then v.place ∷ [] else []))
 order_case w words v h e true is =
     let same : v.writer ≡ w = eqb-true _ _ is in
     let here : v.place ≡ words_of w words = e ∙ ap (λ (n : ℕ). words_of n words) same in
-    Runs-snoc 0 (places w words) v.place h (omega (arith, here, length-places w words))
-order_case w words v h e false is = subst (Runs 0) (sym (append-nil (places w words))) h
+    consecutive-snoc 0 (places w words) v.place h (omega (arith, here, length-places w words))
+order_case w words v h e false is = subst (AreConsecutive 0) (sym (append-nil (places w words))) h
 
 within_case : (speech : Speech) (w : ℕ) (words : List Word) (v : Word) → words_of w words ≤ count_said speech w → words_of v.writer words < count_said speech v.writer → (b : Bool) → (v.writer == w) ≡ b
     → words_of w words + (if b then 1 else 0) ≤ count_said speech w
@@ -74,7 +71,7 @@ pub lawful_more : (speech : Speech) (words : List Word) (w : ℕ) → IsLawful s
 lawful_more speech words w is more =
     let v : Word = next_word words w in
     record {
-      order = λ n. subst (Runs 0) (sym (places-snoc n words v)) (order_case n words v (is.order n) refl (w == n) refl);
+      order = λ n. subst (AreConsecutive 0) (sym (places-snoc n words v)) (order_case n words v (is.order n) refl (w == n) refl);
       within = within_snoc speech words v is.within more;
     }
 

@@ -9,6 +9,7 @@ use Rattle.rtt_booth.specs.declared.said.Word.{Word}
 use Rattle.rtt_ring.specs.Views.{Up}
 use Rattle.rtt_terminal.proofs.SpeechLaws.{said_within}
 use Rattle.rtt_terminal.specs.Speech.{IsSpeech, Saying, Speech, count_said, said_by}
+use Rattle.shared_work.proofs.Counted.{zeros}
 
 -- a stand that is the same has the text left too
 pub more_left : (d e : Sheet) (w : ℕ) → d ≡ e → words_of w e.said.words < count_said e.speech w → words_of w d.said.words < count_said d.speech w
@@ -78,11 +79,6 @@ next_is d places current line w terminal text s now v k below more there termina
     (next_by d places current w (slice_index_or places w 0) s now v k.kept k.counts k.current_is below more (k.counts.1 w below) there small sent_is staged words room)
 
 -- ---- a stand at which nothing was said
-
-zeros : (n w : ℕ) → ◌≡◌ {A = ℕ} (slice_index_or (replicate n 0) w 0) 0
-zeros zero w = refl
-zeros (suc n) zero = refl
-zeros (suc n) (suc w) = zeros n w
 
 pub no_counts : (words : List Word) → words ≡ [] → Counts (0 ∷ 0 ∷ 0 ∷ 0 ∷ 0 ∷ 0 ∷ 0 ∷ 0 ∷ []) words
 no_counts words none = (refl, λ w lt. zeros 8 w ∙ sym (ap (words_of w) none))

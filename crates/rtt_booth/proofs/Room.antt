@@ -5,24 +5,16 @@ use Rattle.std.proofs.lemmas.Bool.Decides.{nat_tests}
 use Rattle.rtt_booth.specs.Said.{words_of}
 use Rattle.rtt_booth.specs.declared.said.Word.{Word}
 use Rattle.rtt_terminal.specs.Speech.{Speech, count_said, count_texts}
+use Rattle.shared_work.proofs.Counted.{grows, none_there, one_more}
 
 -- the words of the writers from w on
 abbrev words_from : ℕ → List Word → ℕ
 words_from w [] = 0
 words_from w (v ∷ vs) = if nat_le w v.writer then words_from w vs + 1 else words_from w vs
 
-one_more : (w x a b c : ℕ) → a ≡ b + c → (if nat_le w x then a + 1 else a) ≡ (if x == w then b + 1 else b) + (if nat_le (w + 1) x then c + 1 else c)
-one_more w x a b c e = grind (arith, nat_tests)
-
 from_next : (w : ℕ) (words : List Word) → words_from w words ≡ words_of w words + words_from (w + 1) words
 from_next w [] = refl
 from_next w (v ∷ vs) = one_more w v.writer (words_from w vs) (words_of w vs) (words_from (w + 1) vs) (from_next w vs)
-
-none_there : (w x a b : ℕ) → (w ≤ x → (if x == x then b + 1 else b) ≤ 0) → a ≤ 0 → (if nat_le w x then a + 1 else a) ≤ 0
-none_there w x a b none le = grind (arith, nat_tests)
-
-grows : (v x n : ℕ) → n ≤ (if x == v then n + 1 else n)
-grows v x n = elim (x == v) as (λ (b : Bool). n ≤ (if b then n + 1 else n)) [ true ↦ omega arith | false ↦ omega arith ]
 
 none_from : (w : ℕ) (words : List Word) → ((v : ℕ) → w ≤ v → words_of v words ≤ 0) → words_from w words ≤ 0
 none_from w [] none = omega arith

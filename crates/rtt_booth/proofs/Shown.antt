@@ -5,11 +5,12 @@ use Rattle.std.specs.List.{AllByRecursion}
 use Rattle.std.proofs.lemmas.Bool.{cases_eq, eq-eqb, ne_eqb}
 use Rattle.std.proofs.lemmas.List.Elements.{All-head, All-tail}
 use Rattle.rtt_booth.proofs.Append.{length-places}
-use Rattle.rtt_booth.specs.Said.{IsLawful, Runs, lines_of, places, screens_by, spoken_by}
+use Rattle.rtt_booth.specs.Said.{IsLawful, lines_of, places, screens_by, spoken_by}
 use Rattle.rtt_booth.specs.declared.said.Word.{Word}
 use Rattle.rtt_terminal.proofs.Lines.{spoken_shows}
 use Rattle.rtt_terminal.specs.Speech.{CanBeSaid, IsSpeech, Saying, Speech, count_said, line_of, said_by}
 use Rattle.rtt_terminal.specs.Stream.{IsLine, LacksNewline, Shows}
+use Rattle.shared_work.specs.Places.{AreConsecutive}
 
 -- ---- each line is a terminal's
 
@@ -47,7 +48,7 @@ one_there (s ∷ list) (suc place) below = one_there list place (omega arith)
 
 -- where each writer has come so far
 abbrev Follows : Speech → (ℕ → ℕ) → List Word → Type 0
-Follows speech from words = (writer : ℕ) → Runs (from writer) (places writer words) × (from writer + length (places writer words) ≤ count_said speech writer)
+Follows speech from words = (writer : ℕ) → AreConsecutive (from writer) (places writer words) × (from writer + length (places writer words) ≤ count_said speech writer)
 
 abbrev after_one : ℕ → (ℕ → ℕ) → ℕ → ℕ
 after_one this from writer = cond (eqb this writer) (from writer + 1) (from writer)
@@ -61,7 +62,7 @@ elsewhere w words writer not = rw (ne_eqb w.writer writer not) refl
 first_follows : (speech : Speech) (from : ℕ → ℕ) (w : Word) (words : List Word) → Follows speech from (w ∷ words) → (w.place ≡ from w.writer) × (w.place < count_said speech w.writer)
 first_follows speech from w words follows =
     let f = follows w.writer in
-    let runs = subst (λ (l : List ℕ). Runs (from w.writer) l) (here w words) f.0 in
+    let runs = subst (λ (l : List ℕ). AreConsecutive (from w.writer) l) (here w words) f.0 in
     let many = ap length (here w words) in
     (runs.0, omega (arith, f.1, runs.0, many))
 
@@ -69,14 +70,14 @@ rest_follows : (speech : Speech) (from : ℕ → ℕ) (w : Word) (words : List W
 rest_follows speech from w words follows writer = elim (cases_eq w.writer writer) [
   | inl same ↦
       let f = follows w.writer in
-      let runs = subst (λ (l : List ℕ). Runs (from w.writer) l) (here w words) f.0 in
+      let runs = subst (λ (l : List ℕ). AreConsecutive (from w.writer) l) (here w words) f.0 in
       let many = ap length (here w words) in
-      subst (λ (n : ℕ). Runs (after_one w.writer from n) (places n words) × (after_one w.writer from n + length (places n words) ≤ count_said speech n)) same
+      subst (λ (n : ℕ). AreConsecutive (after_one w.writer from n) (places n words) × (after_one w.writer from n + length (places n words) ≤ count_said speech n)) same
       (rw (eq-eqb w.writer w.writer refl) (runs.1, omega (arith, f.1, many)))
   | inr not ↦
       let f = follows writer in
       rw (ne_eqb w.writer writer not)
-      (subst (λ (l : List ℕ). Runs (from writer) l × (from writer + length l ≤ count_said speech writer)) (elsewhere w words writer not) f)
+      (subst (λ (l : List ℕ). AreConsecutive (from writer) l × (from writer + length l ≤ count_said speech writer)) (elsewhere w words writer not) f)
 ]
 
 each_said : (speech : Speech) (from : ℕ → ℕ) (words : List Word) → Follows speech from words → length (lines_of speech words) ≡ length words

@@ -3,6 +3,7 @@ use Rattle.std.specs.Prelude.{◌≡◌, ℕ, ◌+◌, ◌≤◌, ◌==◌, List
 use Rattle.rtt_booth.specs.declared.said.Word.{Word}
 use Rattle.rtt_terminal.specs.Speech.{Speech, count_said, line_of, said_by}
 use Rattle.rtt_terminal.specs.Stream.{Line, screens, spoken}
+use Rattle.shared_work.specs.Places.{AreConsecutive}
 
 -- ---- what was spoken
 
@@ -35,12 +36,7 @@ words_of writer [] = 0
 words_of writer (w ∷ words) =
     if w.writer == writer then words_of writer words + 1 else words_of writer words
 
--- the numbers from this one on, one after another
-abbrev pub Runs : ℕ → List ℕ → Type 0
-Runs from [] = Unit {0}
-Runs from (k ∷ ks) = (k ≡ from) × Runs (from + 1) ks
-
 -- Each writer's words have the places 0, 1, 2 and so on, no more than it has texts.
 pub record IsLawful (speech : Speech) (words : List Word) : Type 0 where
-  pub order : (writer : ℕ) → Runs 0 (places writer words)
+  pub order : (writer : ℕ) → AreConsecutive 0 (places writer words)
   pub within : (writer : ℕ) → words_of writer words ≤ count_said speech writer

@@ -1,13 +1,9 @@
 //! What a booth's writers share.
-ghost use Rattle.std.specs.Prelude.{◌≡◌};
-ghost use Rattle.std.specs.Coded.{Coded-set};
-ghost use Rattle.rtt_terminal.specs.Codes.{coded_speech};
-
 use crate::stand::Stand;
 use rtt_modes::Relief;
 use rtt_ring::UpEnd;
 use shared_work::{Quota, Work};
-use std::marker::{Brand, PhantomData};
+use std::marker::{Brand, Model, PhantomData};
 use std::sync::Wait;
 
 /// What the writers of a booth have to say, and from which split of a ring its end comes. Whoever starts a booth picks the
@@ -48,14 +44,26 @@ impl<K: Naming> Quota for EachText<K> {
 pub struct Speaking<K: Naming, U: UpEnd> {
     pub(crate) stand: Stand<U>,
     pub(crate) of: PhantomData<K>,
-    ghost speech: { stand.speech ≡ K.speech } by { Coded-set coded_speech _ _ },
-    ghost split: { stand.up.split ≡ K.split },
+}
+
+impl<K: Naming, U: UpEnd> Model for Speaking<K, U> {
+    ghost use Rattle.std.specs.Prelude.{◌≡◌};
+    ghost use Rattle.rtt_booth.specs.Kept.{Sheet};
+    ghost use Rattle.rtt_booth.specs.Codes.{coded_sheet};
+
+    ghost Value = { Sheet };
+
+    ghost coded = { coded_sheet };
+
+    ghost view = { λ s. s.stand };
+
+    ghost invariant = { λ s. (s.stand.speech ≡ K.speech) × (s.stand.up.split ≡ K.split) };
 }
 
 impl<K: Naming, U: UpEnd> Work<EachText<K>> for Speaking<K, U> {
     ghost use Rattle.rtt_booth.specs.Said.{words_of};
 
-    ghost done = { λ s w. words_of w s.stand.said.words };
+    ghost done = { λ s w. words_of w s.said.words };
 
     fn step<R: Relief, W: Wait>(&mut self, rt: &W, writer: u8, relief: &mut R) {
         self.stand.append(rt, writer, relief)

@@ -13,9 +13,10 @@ use Rattle.rtt_down.specs.Levels.{is_sent, level_at}
 use Rattle.rtt_down.specs.Listening.{FloorIs, Heard}
 use Rattle.rtt_down.specs.Orders.{lines_from, open_line, ordered_by, orders, orders_in, whole_lines}
 use Rattle.rtt_down.specs.Reel.{Reel}
-use Rattle.rtt_down.specs.Steered.{IsSteered, IsTurn, Rises, Runs, last_seen, places, stream_from, stream_of, turn_part, turns_of}
+use Rattle.rtt_down.specs.Steered.{IsSteered, IsTurn, Rises, last_seen, places, stream_from, stream_of, turn_part, turns_of}
 use Rattle.rtt_down.specs.declared.turn.Turn.{Turn}
-use Rattle.shared_work.proofs.Counted.{raised}
+use Rattle.shared_work.proofs.Counted.{consecutive-snoc, raised}
+use Rattle.shared_work.specs.Places.{AreConsecutive}
 
 -- ---- streams by number
 
@@ -66,16 +67,12 @@ length-places w (x ∷ xs) =
       | false ↦ h
     ]
 
-Runs-snoc : (a : ℕ) (xs : List ℕ) (k : ℕ) → Runs a xs → k ≡ a + length xs → Runs a (xs ++ k ∷ [])
-Runs-snoc a [] k h e = (omega (arith, e), tt)
-Runs-snoc a (x ∷ xs) k h e = (h.0, Runs-snoc (a + 1) xs k h.1 (omega (arith, e)))
-
-order_case : (w : ℕ) (tape : List Turn) (m : Turn) → Runs 0 (places w tape) → m.place ≡ turns_of m.writer tape → (b : Bool) → (m.writer == w) ≡ b → Runs 0 (places w tape ++ (if b then m.place ∷ [] else []))
+order_case : (w : ℕ) (tape : List Turn) (m : Turn) → AreConsecutive 0 (places w tape) → m.place ≡ turns_of m.writer tape → (b : Bool) → (m.writer == w) ≡ b → AreConsecutive 0 (places w tape ++ (if b then m.place ∷ [] else []))
 order_case w tape m h e true is =
     let same : m.writer ≡ w = eqb-true _ _ is in
     let here : m.place ≡ turns_of w tape = e ∙ ap (λ (v : ℕ). turns_of v tape) same in
-    Runs-snoc 0 (places w tape) m.place h (omega (arith, here, length-places w tape))
-order_case w tape m h e false is = subst (Runs 0) (sym (append-nil (places w tape))) h
+    consecutive-snoc 0 (places w tape) m.place h (omega (arith, here, length-places w tape))
+order_case w tape m h e false is = subst (AreConsecutive 0) (sym (append-nil (places w tape))) h
 
 within_case : (s : Script) (w : ℕ) (tape : List Turn) (m : Turn) → turns_of w tape ≤ count s w → turns_of m.writer tape < count s m.writer → (b : Bool) → (m.writer == w) ≡ b → turns_of w tape + (if b then 1 else 0) ≤ count s w
 within_case s w tape m h more true is =
@@ -171,7 +168,7 @@ steered_next s turns got taken t k place more seen is =
     let joined : orders (got ++ taken) ≡ orders got ++ extra = orders-append got taken in
     let longer : length (orders (got ++ taken)) ≡ length (orders got) + length extra = ap length joined ∙ length-append (orders got) extra in
     record {
-      order = λ w. subst (Runs 0) (sym (places-snoc w turns t)) (order_case w turns t (k.order w) place (t.writer == w) refl);
+      order = λ w. subst (AreConsecutive 0) (sym (places-snoc w turns t)) (order_case w turns t (k.order w) place (t.writer == w) refl);
       within = within_snoc s turns t k.within more;
       rises = rises-snoc 0 turns t k.rises (omega (arith, k.all_seen, seen, longer));
       all_seen = last_seen-snoc 0 turns t ∙ seen;

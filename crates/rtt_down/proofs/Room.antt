@@ -7,24 +7,16 @@ use Rattle.defmt_script.specs.Script.{Script, count_all}
 use Rattle.defmt_values.specs.declared.value.Statement.{Statement}
 use Rattle.rtt_down.specs.Steered.{turns_of}
 use Rattle.rtt_down.specs.declared.turn.Turn.{Turn}
+use Rattle.shared_work.proofs.Counted.{grows, none_there, one_more}
 
 -- the turns of the writers from w on
 abbrev turns_from : ℕ → List Turn → ℕ
 turns_from w [] = 0
 turns_from w (m ∷ ms) = if nat_le w m.writer then turns_from w ms + 1 else turns_from w ms
 
-one_more : (w x a b c : ℕ) → a ≡ b + c → (if nat_le w x then a + 1 else a) ≡ (if x == w then b + 1 else b) + (if nat_le (w + 1) x then c + 1 else c)
-one_more w x a b c e = grind (arith, nat_tests)
-
 from_next : (w : ℕ) (turns : List Turn) → turns_from w turns ≡ turns_of w turns + turns_from (w + 1) turns
 from_next w [] = refl
 from_next w (m ∷ ms) = one_more w m.writer (turns_from w ms) (turns_of w ms) (turns_from (w + 1) ms) (from_next w ms)
-
-none_there : (w x a b : ℕ) → (w ≤ x → (if x == x then b + 1 else b) ≤ 0) → a ≤ 0 → (if nat_le w x then a + 1 else a) ≤ 0
-none_there w x a b none le = grind (arith, nat_tests)
-
-grows : (v x n : ℕ) → n ≤ (if x == v then n + 1 else n)
-grows v x n = elim (x == v) as (λ (b : Bool). n ≤ (if b then n + 1 else n)) [ true ↦ omega arith | false ↦ omega arith ]
 
 none_from : (w : ℕ) (turns : List Turn) → ((v : ℕ) → w ≤ v → turns_of v turns ≤ 0) → turns_from w turns ≤ 0
 none_from w [] none = omega arith

@@ -1,6 +1,5 @@
 -- The levels of a script's statements, and which of them are sent.
 use Rattle.std.specs.Prelude.{ℕ, Bool, true, Option, Some, None, slice_get}
-use Rattle.defmt_frames.specs.Frames.{statements_of}
 use Rattle.defmt_hooks.specs.Kept.{passes}
 use Rattle.defmt_hooks.specs.declared.level.Floor.TheVariants.{At}
 use Rattle.defmt_hooks.specs.declared.level.Level.{Level}
@@ -9,7 +8,7 @@ use Rattle.defmt_intern.specs.Table.{Map}
 use Rattle.defmt_intern.specs.declared.entry.Entry.{Entry}
 use Rattle.defmt_intern.specs.declared.entry.Tag.{Tag}
 use Rattle.defmt_intern.specs.declared.entry.Tag.TheVariants as tags
-use Rattle.defmt_script.specs.Script.{Script}
+use Rattle.defmt_script.specs.Script.{Script, statements_by}
 use Rattle.defmt_values.specs.Entries.{look}
 use Rattle.defmt_values.specs.declared.value.Statement.{Statement}
 
@@ -32,7 +31,7 @@ level_with table (Some stm) = level_in (look table stm.index)
 
 -- the level of a writer's statement
 unfoldable pub level_at : Script → ℕ → ℕ → Option Level
-level_at s writer place = level_with s.table (slice_get (statements_of s writer) place)
+level_at s writer place = level_with s.table (slice_get (statements_by s writer) place)
 
 -- A message is sent where its level is the floor or a later one, and always where it has no level.
 abbrev pub is_sent : Option Level → Level → Bool

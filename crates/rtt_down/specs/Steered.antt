@@ -8,6 +8,7 @@ use Rattle.rtt_down.specs.Levels.{is_sent, level_at}
 use Rattle.rtt_down.specs.Listening.{FloorIs}
 use Rattle.rtt_down.specs.Orders.{orders}
 use Rattle.rtt_down.specs.declared.turn.Turn.{Turn}
+use Rattle.shared_work.specs.Places.{AreConsecutive}
 
 -- ---- which turns are lawful
 
@@ -20,11 +21,6 @@ places w (t ∷ ts) = if t.writer == w then t.place ∷ places w ts else places 
 abbrev pub turns_of : ℕ → List Turn → ℕ
 turns_of w [] = 0
 turns_of w (t ∷ ts) = if t.writer == w then turns_of w ts + 1 else turns_of w ts
-
--- the numbers from this one on, one after another
-abbrev pub Runs : ℕ → List ℕ → Type 0
-Runs from [] = Unit {0}
-Runs from (k ∷ ks) = (k ≡ from) × Runs (from + 1) ks
 
 -- the number of orders that were heard never falls
 abbrev pub Rises : ℕ → List Turn → Type 0
@@ -46,7 +42,7 @@ pub record IsTurn (s : Script) (before : List Turn) (levels : List Level) (t : T
 -- Each writer's turns have the places 0, 1, 2 and so on, no more than it has statements. What was heard never falls, and
 -- at last it is all orders in the bytes that were got. Each turn is one by these orders.
 pub record IsSteered (s : Script) (turns : List Turn) (got : List ℕ) : Type 0 where
-  pub order : (w : ℕ) → Runs 0 (places w turns)
+  pub order : (w : ℕ) → AreConsecutive 0 (places w turns)
   pub within : (w : ℕ) → turns_of w turns ≤ count s w
   pub rises : Rises 0 turns
   pub all_seen : last_seen 0 turns ≡ length (orders got)

@@ -35,6 +35,6 @@ pub use mode::{mode_line, modes_are_set};
 pub use orders::{order_bytes, orders_by_parts, orders_read_back};
 pub use shared_work::{Pen, Pens};
 pub use steered::Steered;
-pub use steering::{EachStatement, Naming, Steering};
+pub use steering::{EachTurn, Naming, Steering};
 pub use turn::Turn;
 pub use turns::Turns;

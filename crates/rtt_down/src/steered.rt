@@ -7,7 +7,7 @@ ghost use Rattle.rtt_ring.specs.Views.{new_down, new_up};
 ghost use Rattle.shared_work.specs.Names.{AreNamed};
 
 use crate::bridge::Bridge;
-use crate::steering::{EachStatement, Naming, Steering};
+use crate::steering::{EachTurn, Naming, Steering};
 use crate::turns::Turns;
 use defmt_hooks::{Clock, Stamp};
 use defmt_script::Script;
@@ -74,7 +74,7 @@ fn totals_of(script: &Script) -> [u32; 8]
 
 impl<E: Names, K: Naming, U: UpEnd + Drop, D: DownEnd + Drop, C: Clock + Drop> Steered<
     Eight<Named<E>>,
-    EachStatement<K>,
+    EachTurn<K>,
     Steering<K, U, D, C>,
 > {
     /// A steered logger of which no turn was taken, and the helms of the writers 0 to 7.
@@ -91,7 +91,7 @@ impl<E: Names, K: Naming, U: UpEnd + Drop, D: DownEnd + Drop, C: Clock + Drop> S
         stamp: Stamp<C>,
         up: U,
         down: D,
-    ) -> Result<(Self, Pens<Named<E>, EachStatement<K>>), Memory>
+    ) -> Result<(Self, Pens<Named<E>, EachTurn<K>>), Memory>
         requires pace { stamp ≡ pace_of script.settings.stamp }
         requires up { U.view up ≡ new_up (U.view up).split (U.view up).size (U.view up).tells }
         requires down { D.view down ≡ new_down (D.view down).split (D.view down).size }
@@ -121,7 +121,7 @@ impl<E: Names, K: Naming, U: UpEnd + Drop, D: DownEnd + Drop, C: Clock + Drop> S
     ///
     /// The script is the one that `start` took, and the ends come from the same splits as those that `start` took. Each
     /// writer has as many turns as its helm's place.
-    pub fn close(self, helms: Pens<Named<E>, EachStatement<K>>) -> (Turns, U, D, Script)
+    pub fn close(self, helms: Pens<Named<E>, EachTurn<K>>) -> (Turns, U, D, Script)
         ensures script { result.3 ≡ K.script }
         ensures up { (U.view result.1).split ≡ K.up }
         ensures down { (D.view result.2).split ≡ K.down }

@@ -1,14 +1,10 @@
 //! What a steered logger's writers share.
-ghost use Rattle.std.specs.Prelude.{◌≡◌};
-ghost use Rattle.std.specs.Coded.{Coded-set};
-ghost use Rattle.defmt_script.specs.Codes.{coded_script};
-
 use crate::bridge::Bridge;
 use defmt_hooks::Clock;
 use rtt_modes::Relief;
 use rtt_ring::{DownEnd, UpEnd};
 use shared_work::{Quota, Work};
-use std::marker::{Brand, PhantomData};
+use std::marker::{Brand, Model, PhantomData};
 use std::sync::Wait;
 
 /// Which script a steered logger has, and from which splits of two rings its ends come. Whoever starts it picks the three.
@@ -39,11 +35,11 @@ impl Naming for Brand {
 
 /// The quota of a steered logger: a writer has a turn for each of its statements.
 #[derive(Drop)]
-pub struct EachStatement<K> {
+pub struct EachTurn<K> {
     of: PhantomData<K>,
 }
 
-impl<K: Naming> Quota for EachStatement<K> {
+impl<K: Naming> Quota for EachTurn<K> {
     ghost use Rattle.defmt_frames.specs.Frames.{count};
 
     ghost quota = { λ w. count K.script w };
@@ -54,15 +50,27 @@ impl<K: Naming> Quota for EachStatement<K> {
 pub struct Steering<K: Naming, U: UpEnd, D: DownEnd, C: Clock> {
     pub(crate) bridge: Bridge<U, D, C>,
     pub(crate) of: PhantomData<K>,
-    ghost script: { bridge.script ≡ K.script } by { Coded-set coded_script _ _ },
-    ghost up: { bridge.up.split ≡ K.up },
-    ghost down: { bridge.down.split ≡ K.down },
 }
 
-impl<K: Naming, U: UpEnd, D: DownEnd, C: Clock> Work<EachStatement<K>> for Steering<K, U, D, C> {
+impl<K: Naming, U: UpEnd, D: DownEnd, C: Clock> Model for Steering<K, U, D, C> {
+    ghost use Rattle.std.specs.Prelude.{◌≡◌};
+    ghost use Rattle.rtt_down.specs.Kept.{Sheet};
+    ghost use Rattle.rtt_down.specs.Codes.{coded_sheet};
+
+    ghost Value = { Sheet };
+
+    ghost coded = { coded_sheet };
+
+    ghost view = { λ s. s.bridge };
+
+    ghost invariant = { λ s. (s.bridge.script ≡ K.script) × (s.bridge.up.split ≡ K.up)
+        × (s.bridge.down.split ≡ K.down) };
+}
+
+impl<K: Naming, U: UpEnd, D: DownEnd, C: Clock> Work<EachTurn<K>> for Steering<K, U, D, C> {
     ghost use Rattle.rtt_down.specs.Steered.{turns_of};
 
-    ghost done = { λ s w. turns_of w s.bridge.turns.turns };
+    ghost done = { λ s w. turns_of w s.turns.turns };
 
     fn step<R: Relief, W: Wait>(&mut self, rt: &W, writer: u8, relief: &mut R) {
         self.bridge.append(rt, writer, relief);

@@ -1,6 +1,8 @@
 -- What a list of counts tells of each writer.
-use Rattle.std.proofs.Common.{◌≡◌, ℕ, zero, suc, ◌+◌, ◌<◌, List, [], ◌∷◌, Bool, ◌==◌, length, refl, sym, ap, ◌∙◌, subst, inl, inr, arith, if◌then◌else◌, slice_index_or, slice_set, get_or-set_same, get_or-set_other}
-use Rattle.std.proofs.lemmas.Bool.Decides.{eqb_tells}
+use Rattle.std.proofs.Common.{◌≡◌, ℕ, zero, suc, ◌+◌, ◌<◌, ◌≤◌, List, [], ◌∷◌, ◌++◌, Bool, true, false, ◌==◌, length, refl, sym, ap, ◌∙◌, subst, inl, inr, arith, if◌then◌else◌, slice_index_or, slice_set, replicate, get_or-set_same, get_or-set_other}
+use Rattle.std.specs.Prelude.{nat_le}
+use Rattle.std.proofs.lemmas.Bool.Decides.{eqb_tells, nat_tests}
+use Rattle.shared_work.specs.Places.{AreConsecutive}
 
 -- one more at n
 pub raised : (xs : List ℕ) (n w : ℕ) → (n ≡ w → n < length xs) → slice_index_or (slice_set xs n (slice_index_or xs n 0 + 1)) w 0 ≡ slice_index_or xs w 0 + (if n == w then 1 else 0)
@@ -18,3 +20,26 @@ pub kept : (xs : List ℕ) (n : ℕ) → slice_set xs n (slice_index_or xs n 0 +
 kept [] n = refl
 kept (x ∷ xs) zero = ap (λ (y : ℕ). y ∷ xs) (omega arith)
 kept (x ∷ xs) (suc n) = ap (λ (l : List ℕ). x ∷ l) (kept xs n)
+
+-- zeros tell 0 of each writer
+pub zeros : (n w : ℕ) → ◌≡◌ {A = ℕ} (slice_index_or (replicate n 0) w 0) 0
+zeros zero w = refl
+zeros (suc n) zero = refl
+zeros (suc n) (suc w) = zeros n w
+
+-- ---- what the steps of the writers from w on count, by those of w and those behind
+
+pub one_more : (w x a b c : ℕ) → a ≡ b + c → (if nat_le w x then a + 1 else a) ≡ (if x == w then b + 1 else b) + (if nat_le (w + 1) x then c + 1 else c)
+one_more w x a b c e = grind (arith, nat_tests)
+
+pub none_there : (w x a b : ℕ) → (w ≤ x → (if x == x then b + 1 else b) ≤ 0) → a ≤ 0 → (if nat_le w x then a + 1 else a) ≤ 0
+none_there w x a b none le = grind (arith, nat_tests)
+
+pub grows : (v x n : ℕ) → n ≤ (if x == v then n + 1 else n)
+grows v x n = elim (x == v) as (λ (b : Bool). n ≤ (if b then n + 1 else n)) [ true ↦ omega arith | false ↦ omega arith ]
+
+-- ---- places one after another
+
+pub consecutive-snoc : (a : ℕ) (xs : List ℕ) (k : ℕ) → AreConsecutive a xs → k ≡ a + length xs → AreConsecutive a (xs ++ k ∷ [])
+consecutive-snoc a [] k h e = (omega (arith, e), tt)
+consecutive-snoc a (x ∷ xs) k h e = (h.0, consecutive-snoc (a + 1) xs k h.1 (omega (arith, e)))

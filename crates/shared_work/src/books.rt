@@ -53,14 +53,29 @@ pub trait Ledgers {
 /// The books of eight writers.
 #[derive(Drop)]
 pub struct Eight<E: Ledgers> {
-    pub(crate) b0: Book<E::L0>,
-    pub(crate) b1: Book<E::L1>,
-    pub(crate) b2: Book<E::L2>,
-    pub(crate) b3: Book<E::L3>,
-    pub(crate) b4: Book<E::L4>,
-    pub(crate) b5: Book<E::L5>,
-    pub(crate) b6: Book<E::L6>,
-    pub(crate) b7: Book<E::L7>,
+    /// The book of the writer 0.
+    pub b0: Book<E::L0>,
+
+    /// The book of the writer 1.
+    pub b1: Book<E::L1>,
+
+    /// The book of the writer 2.
+    pub b2: Book<E::L2>,
+
+    /// The book of the writer 3.
+    pub b3: Book<E::L3>,
+
+    /// The book of the writer 4.
+    pub b4: Book<E::L4>,
+
+    /// The book of the writer 5.
+    pub b5: Book<E::L5>,
+
+    /// The book of the writer 6.
+    pub b6: Book<E::L6>,
+
+    /// The book of the writer 7.
+    pub b7: Book<E::L7>,
 }
 
 impl<E: Ledgers> Books for Eight<E> {

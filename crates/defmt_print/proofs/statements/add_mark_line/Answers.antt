@@ -3,7 +3,7 @@ use Rattle.std.specs.Prelude.{OnOk, Option}
 use Rattle.defmt_eager.specs.Line.{eager_line}
 use Rattle.defmt_encode.specs.Carry.{stamp_args}
 use Rattle.defmt_frames.proofs.Frames.{sound_at}
-use Rattle.defmt_frames.specs.Frames.{statements_of}
+use Rattle.defmt_script.specs.Script.{statements_by}
 use Rattle.defmt_intern.specs.Table.{Map}
 use Rattle.defmt_logger.specs.Tape.{mark_line}
 use Rattle.defmt_recording.specs.Output.{ended}
@@ -13,7 +13,7 @@ use Rattle.defmt_print.proofs.Stamped.{prints}
 use Rattle.defmt_print.proofs.statements.add_mark_line.Goals as goal
 
 pub unreachable-requires : goal.unreachable-requires
-unreachable-requires c = is_there (statements_of c.args.script.now c.args.mark.now.writer) c.args.mark.now.place c.requires c.in_default.ensures
+unreachable-requires c = is_there (statements_by c.args.script.now c.args.mark.now.writer) c.args.mark.now.place c.requires c.in_default.ensures
 
 pub add_line-requires : goal.add_line-requires
 add_line-requires c =

@@ -2,7 +2,7 @@ use Rattle.std.proofs.Common.{◌≡◌, Some, sym, ap, subst, ◌∙◌, arith,
 use Rattle.std.proofs.lemmas.Option.{slice_get_within}
 use Rattle.defmt_frames.proofs.Frames.{sound_at}
 use Rattle.defmt_frames.proofs.SiteLaws.{sound_message}
-use Rattle.defmt_frames.specs.Frames.{statements_of}
+use Rattle.defmt_script.specs.Script.{statements_by}
 use Rattle.defmt_frames.specs.Sites.{IsMessage}
 use Rattle.defmt_intern.specs.Table.{Map}
 use Rattle.defmt_frames.proofs.sites.Sites.add_all.Goals as goal
@@ -12,9 +12,9 @@ pub add-requires-clause-message : goal.add-requires-clause-message
 add-requires-clause-message c =
     let s = c.args.script.now in
     let stm : Statement = c.in-Some.statement.now in
-    let there : slice_get (statements_of s c.args.writer) c.loop-place.place ≡ Some stm = sym c.statement.ensures ∙ ap option_copied c.in-Some.is in
+    let there : slice_get (statements_by s c.args.writer) c.loop-place.place ≡ Some stm = sym c.statement.ensures ∙ ap option_copied c.in-Some.is in
     subst (λ (t : Map). IsMessage t stm.index) (sym c.table.ensures.entries) (sound_message s stm (sound_at s c.args.writer c.loop-place.place stm c.lawful.ensures there))
 
 pub returns-clause-all : goal.returns-clause-all
 returns-clause-all c place stm there =
-    c.loop-place.invariant.2 place (omega (arith, slice_get_within (statements_of c.args.script.now c.args.writer) place stm there, c.loop-place-test.false, c.count-place-end.ensures)) stm there
+    c.loop-place.invariant.2 place (omega (arith, slice_get_within (statements_by c.args.script.now c.args.writer) place stm there, c.loop-place-test.false, c.count-place-end.ensures)) stm there
