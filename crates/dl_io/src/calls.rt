@@ -71,9 +71,10 @@ pub fn read_all<S: Source>(alloc: Global, src: &mut S, limit: usize) -> Result<B
 
 /// Reads a whole file of the shelf.
 ///
-/// `Long` comes exactly where `limit + 1` bytes were taken. `Failed` comes only where the shelf's count
-/// of faults rose, or where its files are told and none has the name; for such a name no answer but
-/// `Failed` and `Memory` comes.
+/// Where the shelf's files are told, `Long` comes only of a file that is longer than the limit, and such a
+/// file is never given; `Long` tells `limit + 1`. `Failed` comes only where the shelf's count of faults
+/// rose, or where its files are told and none has the name; for such a name no answer but `Failed` and
+/// `Memory` comes.
 pub fn fetch_all<F: Shelf>(
     alloc: Global,
     shelf: &mut F,
