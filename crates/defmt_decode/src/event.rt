@@ -21,13 +21,9 @@ pub enum Event {
     },
     /// A piece gives no line.
     Bad {
-        /// The first cause that stands in the piece: 1 it is no code, 2 an index isn't in the
-        /// table, 3 the tag of its entry doesn't suit, 4 the entry isn't supported, 5 the bytes
-        /// end within a field, 6 a truth value above 1, 7 no character, 8 a text that isn't
-        /// UTF-8, 9 a variant that isn't there, 10 a Format value at depth 17, 11 anything else
-        /// than at most six zeros behind the last argument, 12 the sum of the weights of Format
-        /// values passes 8,192, 13 the piece has more than 65,536 bytes, 14 the text of the stamp
-        /// or of the statement has more than 65,536 bytes.
+        /// The number of the first cause that stands in the piece: it is no code, its message is
+        /// refused with a cause of defmt_encode, it has more than 65,536 bytes, or the text of its
+        /// stamp or of its statement has. defmt_encode has the numbers, and `fault_name` the names.
         cause: u8,
     },
     /// Bytes stand before the first zero.

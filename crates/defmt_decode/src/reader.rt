@@ -11,7 +11,7 @@ use crate::event::{Event, Mark};
 use crate::notices::{line_behind, notice_behind};
 use crate::room::{line_room, make_room, room_behind};
 use defmt_eager::{EagerFault, line};
-use defmt_encode::{Heard, ReadCause};
+use defmt_encode::{COBS, Heard, LONG, ReadCause, WIDE};
 use defmt_framing::{Notice, Teller, decode_piece, decode_zeroless_piece};
 use defmt_grammar::Text;
 use defmt_intern::Table;
@@ -33,9 +33,9 @@ impl Refusal {
         ensures { result ≡ refusal_number self }
     {
         match self {
-            Refusal::Cobs => 1,
-            Refusal::Long => 13,
-            Refusal::Wide => 14,
+            Refusal::Cobs => COBS,
+            Refusal::Long => LONG,
+            Refusal::Wide => WIDE,
         }
     }
 

@@ -32,12 +32,12 @@ pub struct Heard {
 /// Why bytes aren't read as a message.
 #[derive(Clone, Copy, Debug, PartialEq, Eq)]
 pub enum ReadCause {
-    /// The first cause that stands in the bytes, from left to right: 2 an index that isn't in the
-    /// table; 3 an entry whose tag doesn't suit; 4 an entry whose tag is unknown, or whose text was
-    /// refused; 5 the bytes end within a field; 6 a truth value above 1; 7 a number that is no
-    /// character; 8 a text that isn't UTF-8; 9 a variant that isn't there; 10 a Format value at depth
-    /// 17; 11 something else than at most six zeros behind the last argument; 12 the weights of the
-    /// Format values pass 8,192.
+    /// The first cause that stands in the bytes, from left to right, by the number of its event: an
+    /// index that isn't in the table, an entry whose tag doesn't suit, an entry whose tag is unknown or
+    /// whose text was refused, bytes that end within a field, a truth value above 1, a number that is no
+    /// character, a text that isn't UTF-8, a variant that isn't there, a Format value at depth 17,
+    /// something else than at most six zeros behind the last argument, or weights of the Format values
+    /// that pass 8,192. `fault_name` tells its name.
     Bad { cause: u8 },
     /// Want of memory.
     Memory,

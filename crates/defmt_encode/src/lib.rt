@@ -21,6 +21,7 @@ mod values;
 mod widths;
 mod writing;
 
+pub use cause::{COBS, LONG, WIDE, fault_name};
 pub use framing::frame;
 pub use heard::{Heard, ReadCause, read_message};
 pub use law::{lengths_fit, one_answer, place_length, places_suit, reads_back, stamp_length};

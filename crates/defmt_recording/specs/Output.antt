@@ -1,6 +1,7 @@
 -- The output lines of events and of the gaps between them.
 use Rattle.std.specs.Prelude.{◌==◌, ℕ, Bool, true, false, List, [], ◌∷◌, ◌++◌, Option, Some, None, codes, if◌then◌else◌}
 use Rattle.std.specs.Fmt.{decimal}
+use Rattle.defmt_encode.specs.Cause.{fault_name}
 use Rattle.defmt_intern.specs.Catalog.{Catalog}
 use Rattle.defmt_listen.specs.Heard.{Reporting, Reports, lines_from}
 use Rattle.defmt_decode.specs.declared.event.Event.{Event}
@@ -14,15 +15,6 @@ abbrev pub ended : List ℕ → List ℕ
 ended text = text ++ 10 ∷ []
 
 -- ---- events
-
--- the name of a piece's fault
-abbrev pub fault_name : ℕ → List ℕ
-fault_name cause =
-    if cause == 1 then codes "Cobs" else if cause == 2 then codes "NoEntry" else if cause == 3 then codes "Tag"
-    else if cause == 4 then codes "Unsupported" else if cause == 5 then codes "Short" else if cause == 6 then codes "BadBool"
-    else if cause == 7 then codes "BadChar" else if cause == 8 then codes "BadText" else if cause == 9 then codes "BadVariant"
-    else if cause == 10 then codes "Deep" else if cause == 11 then codes "Trailing" else if cause == 12 then codes "Many"
-    else if cause == 13 then codes "Long" else codes "Wide"
 
 -- without its newline: the line of a statement, the number and the name of a piece's fault, how many bytes were cut off
 abbrev pub event_text : Event → List ℕ

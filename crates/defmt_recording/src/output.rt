@@ -2,9 +2,11 @@
 ghost use Rattle.std.specs.Prelude.{◌≡◌, ◌++◌, codes, OnErr, OnOk};
 ghost use Rattle.std.specs.Fmt.{decimal};
 ghost use Rattle.defmt_decode.specs.Event.{line_with};
-ghost use Rattle.defmt_recording.specs.Output.{ended, event_line, fault_name, gap_before, gap_between, gap_line, gapped_line, is_fault, last_behind};
+ghost use Rattle.defmt_encode.specs.Cause.{fault_name};
+ghost use Rattle.defmt_recording.specs.Output.{ended, event_line, gap_before, gap_between, gap_line, gapped_line, is_fault, last_behind};
 
 use defmt_decode::{Event, Mark, gap};
+use defmt_encode::fault_name;
 use dl_io::{Bytes, Memory};
 use std::alloc::Global;
 
@@ -212,27 +214,6 @@ pub fn add_count(alloc: Global, front: &[u8], count: u64, out: &mut Bytes) -> Re
     out.extend_reserved(front);
     out.extend_reserved(digits.as_str().as_bytes());
     Ok(())
-}
-
-fn fault_name(cause: u8) -> &'static str
-    ensures { result.now ≡ fault_name cause }
-{
-    match cause {
-        1 => "Cobs",
-        2 => "NoEntry",
-        3 => "Tag",
-        4 => "Unsupported",
-        5 => "Short",
-        6 => "BadBool",
-        7 => "BadChar",
-        8 => "BadText",
-        9 => "BadVariant",
-        10 => "Deep",
-        11 => "Trailing",
-        12 => "Many",
-        13 => "Long",
-        _ => "Wide",
-    }
 }
 
 /// Whether an event is a fault of a recording.
