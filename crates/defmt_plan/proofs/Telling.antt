@@ -1,6 +1,6 @@
 -- Whole messages.
 use Rattle.std.proofs.Common.{◌≡◌, ◌≤◌, ◌+◌, ◌-◌, inl, inr, ℕ, true, List, ◌++◌, length, take, drop, refl, sym, ap, subst, ◌∙◌, arith, append_assoc, length-append, length-drop, Option, Some, None}
-use Rattle.std.proofs.lemmas.List.{take_all}
+use Rattle.std.proofs.lemmas.List.{append-nil, take_all}
 use Rattle.byteorder.specs.Endian.{little_bytes}
 use Rattle.defmt_grammar.specs.Slots.{slots_of}
 use Rattle.defmt_grammar.specs.declared.hint.Hint.TheVariants as hints
@@ -137,7 +137,8 @@ told_at t plan head bytes padding middle to old mid begun new at m k end le room
     let place : List ℕ = place_bytes head.place in
     let first : List ℕ = bytes_vals es (stamp_slots es (stamp_of es)) s.stamp in
     let body : List ℕ = bytes_vals es (own_slots es plan.index) o.args in
-    let front_bytes : Carried bytes 0 head.read (index ++ place) = subst (λ (i : ℕ). Carried bytes 0 head.read (little_bytes 2 i ++ place_bytes head.place)) (sym same) h.carried in
+    let front_bytes : Carried bytes 0 head.read (index ++ place) = subst (λ (i : ℕ). Carried bytes 0 head.read (little_bytes 2 i ++ place)) (sym same)
+    (subst (λ (p : List ℕ). Carried bytes 0 head.read (little_bytes 2 head.index ++ p)) (append-nil place) h.carried) in
     let all : Carried bytes 0 to (((index ++ place) ++ first) ++ body) = carried_two bytes 0 middle to ((index ++ place) ++ first) body (carried_two bytes 0 head.read middle (index ++ place) first front_bytes s.carried) o.carried in
     let rest : drop to bytes ≡ padding = sym (pad ∙ take_all (length bytes - to) (drop to bytes) (omega (arith, length-drop to bytes))) in
     let stamp : List ℕ = stamp_text es (stamp_of es) s.stamp in

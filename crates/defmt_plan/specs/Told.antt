@@ -1,6 +1,5 @@
 -- What one pass over a whole message leaves.
-use Rattle.std.specs.Prelude.{◌≡◌, ◌≤◌, ℕ, List, ◌++◌, Option, Some, None}
-use Rattle.byteorder.specs.Endian.{little_bytes}
+use Rattle.std.specs.Prelude.{◌≡◌, ◌≤◌, ℕ, List, [], Option, Some, None}
 use Rattle.defmt_grammar.specs.Slots.{slots_of}
 use Rattle.defmt_grammar.specs.declared.hint.Hint.TheVariants as hints
 use Rattle.defmt_grammar.specs.declared.piece.Piece.{Piece}
@@ -12,10 +11,10 @@ use Rattle.defmt_values.specs.Entries.{places_of}
 use Rattle.defmt_values.specs.Fits.{FitsStamp, FitsVals, weigh_vals}
 use Rattle.defmt_values.specs.Plain.{Vals}
 use Rattle.defmt_values.specs.Sound.{AreSound}
-use Rattle.defmt_encode.specs.Carry.{bytes_vals, stamp_slots}
+use Rattle.defmt_encode.specs.Carry.{bytes_vals, message_head, stamp_slots}
 use Rattle.defmt_encode.specs.Heard.{IsHeard}
 use Rattle.defmt_encode.specs.Lengths.{LengthsFit}
-use Rattle.defmt_encode.specs.Placed.{HasPlace, place_bytes}
+use Rattle.defmt_encode.specs.Placed.{HasPlace}
 use Rattle.defmt_eager.specs.Line.{eager_line, stamp_text, IsWide}
 use Rattle.defmt_eager.specs.Show.{pieces_text, shows}
 use Rattle.defmt_plan.specs.Carried.{Carried}
@@ -24,10 +23,10 @@ use Rattle.defmt_plan.specs.declared.leaves.Progress.{Progress}
 use Rattle.defmt_plan.specs.declared.message.Head.{Head}
 use Rattle.defmt_plan.specs.declared.message.Told.{Told}
 
--- the index and the place that a message begins with
+-- the index and the place that a message begins with: its head without a stamp
 pub record IsHead (profile : Profile) (bytes : List ℕ) (head : Head) : Type 0 where
   pub placed : HasPlace profile head.place
-  pub carried : Carried bytes 0 head.read (little_bytes 2 head.index ++ place_bytes head.place)
+  pub carried : Carried bytes 0 head.read (message_head head.index head.place [])
 
 -- the stamp, where the table has one
 pub record StampPassed (t : Map) (bytes : List ℕ) (from to : ℕ) (old : List ℕ) (at : ℕ)
