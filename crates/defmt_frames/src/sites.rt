@@ -6,7 +6,7 @@ ghost use Rattle.defmt_frames.specs.Sites.{AreSitesOf, HasSites, HaveSites, IsMe
 
 use defmt_intern::{Parsed, Table};
 use defmt_macros::Site;
-use defmt_script::Script;
+use defmt_script::{Script, WRITERS};
 use defmt_values::look_up;
 use dl_io::Memory;
 use std::alloc::Global;
@@ -48,7 +48,7 @@ impl Sites {
         let mut sites = Sites {
             rows: Vec::new(alloc),
         };
-        for writer in 0..8u8 {
+        for writer in 0..WRITERS {
             sites.add_all(alloc, script, writer)?;
         }
         Ok(sites)

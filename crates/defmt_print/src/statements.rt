@@ -15,12 +15,10 @@ use defmt_flat::put_line;
 use defmt_intern::Table;
 use defmt_logger::Mark;
 use defmt_put::put;
-use defmt_script::{Script, stamps_fit};
+use defmt_script::{Script, WRITERS, stamps_fit};
 use defmt_values::{Args, Statement, Value};
 use dl_io::{Bytes, Memory};
 use std::alloc::Global;
-
-const WRITERS: u8 = 8;
 
 /// More bytes than most lines have.
 pub const LINE_ROOM: usize = 4_096;

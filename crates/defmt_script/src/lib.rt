@@ -20,6 +20,7 @@ pub use fault::ScriptFault;
 pub use laws::{
     scripts_are_lawful, stamps_are_alike, stamps_fit, steps_are_counted, texts_are_few,
 };
+pub use rtt_terminal::WRITERS;
 pub use script::{Script, Statements};
 pub use step::Step;
 pub use top::{one_reading, read};

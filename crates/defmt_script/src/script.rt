@@ -1,6 +1,6 @@
 //! Scripts.
 
-ghost use Rattle.std.specs.Prelude.{◌≡◌, ◌++◌, ◌∷◌, ◌<◌, ℕ, Some, [], length, slice_get, slice_index_or, OnOk, OnErr};
+ghost use Rattle.std.specs.Prelude.{◌≡◌, ◌++◌, ◌∷◌, ◌<◌, ℕ, Some, [], length, slice_get, OnOk, OnErr};
 ghost use Rattle.std.specs.Option.{option_copied, option_map};
 ghost use Rattle.defmt_script.specs.Lawful.{AllAreSound, IsLawful};
 ghost use Rattle.defmt_script.specs.Script.{statements_by};
@@ -234,7 +234,7 @@ impl Script {
 
     // The statements of a writer, none for a number above 7.
     fn statements(&self, writer: u8) -> &[Statement]
-        ensures { result.now ≡ slice_index_or self.now.writers writer [] }
+        ensures { result.now ≡ statements_by self.now writer }
     {
         match self.writers.get(usize::from(writer)) {
             Some(statements) => statements.as_slice(),
@@ -244,7 +244,7 @@ impl Script {
 
     /// How many statements a writer has, 0 for each number above 7. Takes no memory.
     pub fn count(&self, writer: u8) -> u32
-        ensures { result ≡ length (slice_index_or self.now.writers writer []) }
+        ensures { result ≡ length (statements_by self.now writer) }
     {
         // So a writer has at most 4,096.
         self.lawful();
@@ -254,8 +254,7 @@ impl Script {
     /// The statement of a writer at a place, from 0; `None` exactly where the place isn't below the writer's count. Takes no
     /// memory.
     pub fn statement(&self, writer: u8, place: u32) -> Option<&Statement>
-        ensures { option_copied result
-            ≡ slice_get (slice_index_or self.now.writers writer []) place }
+        ensures { option_copied result ≡ slice_get (statements_by self.now writer) place }
     {
         self.statements(writer).get(place as usize)
     }
@@ -276,7 +275,7 @@ impl Script {
 
     /// The terminal and the text that a writer has to say at a place, from 0; `None` exactly where the place isn't below the
     /// writer's count of texts. Takes no memory.
-    pub fn said(&self, writer: u8, place: u32) -> Option<(u8, &str)>
+    pub fn text_said(&self, writer: u8, place: u32) -> Option<(u8, &str)>
         ensures { told_of result
             ≡ option_map told (slice_get (said_by self.now.said writer) place) }
     {

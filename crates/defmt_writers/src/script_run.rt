@@ -17,7 +17,7 @@ use crate::writers::{finish, run_threads};
 use defmt_frames::FRAME_SIZE;
 use defmt_hooks::{Clock, Stamp};
 use defmt_logger::{EachStatement, Logger, Logging, Naming, Tape};
-use defmt_script::Script;
+use defmt_script::{Script, WRITERS};
 use dl_io::{Bytes, Memory};
 use rtt_ring::{Channel, DownEnd, RingFault, Settled, UpEnd};
 use rzcobs_core::canonical_size;
@@ -56,7 +56,7 @@ fn frames_size(script: &Script) -> usize
     script.lawful();
     canonical_size();
     let mut count = 0;
-    for writer in 0..8u8 {
+    for writer in 0..WRITERS {
         count += script.count(writer);
     }
     count as usize * FRAME_SIZE

@@ -2,6 +2,7 @@
 ghost use Rattle.std.specs.Prelude.{◌≡◌, ◌≤◌, ◌<◌};
 
 use crate::gate::Gate;
+use defmt_script::WRITERS;
 use rtt_modes::Relief;
 use shared_work::{Books, Eight, HasBook, Named, Names, Pen, Pens, Quota, Shared, Work};
 use std::sync::Wait;
@@ -9,9 +10,6 @@ use std::sync::atomic::{AtomicU64, Ordering};
 use std::sync::ledger::Ledger;
 use std::thread;
 use std::thread::{Scope, Threads};
-
-// How many writers there are.
-const WRITERS: u64 = 8;
 
 /// Waits until other threads had their turn.
 #[derive(Clone, Copy)]
@@ -178,7 +176,7 @@ pub fn ease_on<R: Relief, W: Wait>(rt: &W, ended: &AtomicU64, eases: bool, mut r
     ensures { R.kept result }
 {
     for _ in rt.forever() {
-        if !eases || ended.load(Ordering::SeqCst) >= WRITERS {
+        if !eases || ended.load(Ordering::SeqCst) >= u64::from(WRITERS) {
             break;
         }
         relief.ease();

@@ -29,4 +29,4 @@ pub use sayable::is_sayable;
 pub use saying::Saying;
 pub use screens::Screens;
 pub use speaking::speak;
-pub use speech::Speech;
+pub use speech::{Speech, WRITERS};

@@ -9,8 +9,8 @@ use dl_io::Memory;
 use std::alloc::Global;
 use std::marker::Model;
 
-// How many writers there are.
-const WRITERS: usize = 8;
+/// How many writers there are.
+pub const WRITERS: u8 = 8;
 
 /// What each of eight writers has to say, seen as a list of sayings for each: at most 4,096 together.
 #[derive(Drop)]
@@ -105,7 +105,7 @@ impl Speech {
     {
         self.lawful();
         let mut count = 0;
-        for writer in 0..8u8 {
+        for writer in 0..WRITERS {
             count += self.count(writer);
         }
         count
