@@ -9,7 +9,7 @@ use Rattle.byte_images.proofs.FieldLaws.{number_behind, number_front, number_bac
 use Rattle.elf_section.specs.Bytes.{to_zero, text_at}
 use Rattle.elf_section.specs.Written.{half, word, section_bytes, symbol_bytes}
 use Rattle.elf_section.specs.File.{section_in, symbol_in}
-use Rattle.elf_section.specs.declared.file.Class.TheVariants.{Elf32}
+use Rattle.byte_images.specs.declared.elf.Class.TheVariants.{Elf32}
 
 pub length_word : (x : ℕ) → length (word x) ≡ 4
 unfolding word

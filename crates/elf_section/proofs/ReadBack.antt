@@ -3,10 +3,11 @@ use Rattle.std.proofs.Common.{◌≡◌, ◌≤◌, ◌<◌, ◌+◌, ◌*◌, �
 use Rattle.std.proofs.lemmas.List.{length-replicate, append-nil}
 use Rattle.byte_images.specs.Fields.{number}
 use Rattle.byte_images.proofs.FieldLaws.{number_behind, number_front}
-use Rattle.elf_section.specs.File.{section_len, class_of, header_in, header, section, section_in}
+use Rattle.byte_images.specs.Elf.{class_of}
+use Rattle.elf_section.specs.File.{section_len, header_in, header, section, section_in}
 use Rattle.elf_section.specs.Written.{half, word, header_bytes, symbol_bytes, section_bytes, entries, symbol_table, string_table, section_names, padding_len, table_len, strings_len, names_at, sections_at, section_headers, written_rows, Row}
-use Rattle.elf_section.specs.declared.file.Class.{Class}
-use Rattle.elf_section.specs.declared.file.Class.TheVariants.{Elf32}
+use Rattle.byte_images.specs.declared.elf.Class.{Class}
+use Rattle.byte_images.specs.declared.elf.Class.TheVariants.{Elf32}
 use Rattle.elf_section.specs.declared.file.Header.{Header}
 use Rattle.elf_section.proofs.WritingLaws.{regroup4}
 use Rattle.elf_section.proofs.Rows.{AreWritable}

@@ -4,14 +4,15 @@ use Rattle.std.specs.Prelude.{IsSome, is_some, slice_get}
 use Rattle.std.specs.List.{All, filter}
 use Rattle.std.proofs.lemmas.List.Elements.{All-weaker, All-head, All-tail}
 use Rattle.elf_section.specs.Bytes.{text_at, to_zero, IsUnquoted}
-use Rattle.elf_section.specs.File.{class_of, header, section, Fits, contents, section_name, strings, count, symbol, symbol_in, symbol_name, symbol_len, section_len, header_len, IsDefmt, IsSymbols, HasSymbols, HasDefmtName, IsPlain}
+use Rattle.byte_images.specs.Elf.{class_of, header_len}
+use Rattle.elf_section.specs.File.{header, section, Fits, contents, section_name, strings, count, symbol, symbol_in, symbol_name, symbol_len, section_len, IsDefmt, IsSymbols, HasSymbols, HasDefmtName, IsPlain}
 use Rattle.defmt_intern.specs.declared.table.Profile.{Profile}
 use Rattle.defmt_intern.specs.declared.table.Profile.TheVariants as profiles
 use Rattle.elf_section.specs.Checks.{is_elf, has_class, is_little, has_header, has_sections, has_entry_size, has_section_headers, has_names, has_section_name, has_defmt, has_symbols, has_table, has_plain_strings, has_strings, has_symbol_name, has_version, has_encoding, has_profile, Passes, IsTable, Says, SaysOnly, SaysTwo, HasMarker, ProfileIs, version_front, encoding_front, profile_front, profile_word}
 use Rattle.elf_section.specs.Listed.{Lists, Carries, is_braced, numbers, is_listed, symbol_of}
 use Rattle.elf_section.specs.Written.{Row, listed, listed_all, marked, rows, symbol_bytes, entries, names, ended, version_name, encoding_name, profile_name, symbol_table, string_table, section_names, table_len, strings_len, names_at, sections_at, section_headers, written, IsWritable, AreBraced, braced, KeepsMarker, KeepsMarkers}
-use Rattle.elf_section.specs.declared.file.Class.{Class}
-use Rattle.elf_section.specs.declared.file.Class.TheVariants.{Elf32}
+use Rattle.byte_images.specs.declared.elf.Class.{Class}
+use Rattle.byte_images.specs.declared.elf.Class.TheVariants.{Elf32}
 use Rattle.elf_section.specs.declared.file.Header.{Header}
 use Rattle.elf_section.specs.declared.file.Section.{Section}
 use Rattle.elf_section.specs.declared.file.RawSymbol.{RawSymbol}

@@ -3,11 +3,12 @@ use Rattle.std.proofs.Common.{inl, inr, ◌≡◌, ◌≤◌, ◌<◌, ◌+◌, 
 use Rattle.std.specs.Prelude.{IsSome, is_some}
 use Rattle.std.specs.Option.{option_copied}
 use Rattle.std.proofs.lemmas.Bool.{cases_lt}
-use Rattle.elf_section.specs.File.{header, section, section_len, class_of, Fits, IsPlain, IsFirst, IsSymbols, HasSymbols, strings}
+use Rattle.byte_images.specs.Elf.{class_of}
+use Rattle.elf_section.specs.File.{header, section, section_len, Fits, IsPlain, IsFirst, IsSymbols, HasSymbols, strings}
 use Rattle.elf_section.specs.Checks.{refusal, Refused, Passed, IsTable}
 use Rattle.elf_section.specs.Checks as check
-use Rattle.elf_section.specs.declared.file.Class.{Class}
-use Rattle.elf_section.specs.declared.file.Class.TheVariants.{Elf32, Elf64}
+use Rattle.byte_images.specs.declared.elf.Class.{Class}
+use Rattle.byte_images.specs.declared.elf.Class.TheVariants.{Elf32, Elf64}
 use Rattle.elf_section.specs.declared.file.Header.{Header}
 use Rattle.elf_section.specs.declared.file.Section.{Section}
 use Rattle.elf_section.proofs.Stages.{passed_more, refuse_at}

@@ -6,13 +6,14 @@ use Rattle.std.proofs.lemmas.Bool.{cases_lt}
 use Rattle.std.proofs.lemmas.List.{append_cancel_left}
 use Rattle.std.proofs.lemmas.Slice.Eq.{bytes_eq-Decides}
 use Rattle.elf_section.specs.Bytes.{IsUnquoted, IsBehind}
-use Rattle.elf_section.specs.File.{header, section, symbol_len, class_of, Fits, IsSymbols, HasSymbols, strings, count, symbol, symbol_name}
+use Rattle.byte_images.specs.Elf.{class_of}
+use Rattle.elf_section.specs.File.{header, section, symbol_len, Fits, IsSymbols, HasSymbols, strings, count, symbol, symbol_name}
 use Rattle.defmt_intern.specs.declared.table.Profile.{Profile}
 use Rattle.defmt_intern.specs.declared.table.Profile.TheVariants as profiles
 use Rattle.elf_section.specs.Checks.{refusal, Refused, Passed, IsTable, Says, SaysIn, SaysAny, IsSaid, SaysOnly, HasMarker, SayProfile, SaysTwo, ProfileIs, profile_front, profile_word, SaysSome, Seen}
 use Rattle.elf_section.specs.Checks as check
-use Rattle.elf_section.specs.declared.file.Class.{Class}
-use Rattle.elf_section.specs.declared.file.Class.TheVariants.{Elf32, Elf64}
+use Rattle.byte_images.specs.declared.elf.Class.{Class}
+use Rattle.byte_images.specs.declared.elf.Class.TheVariants.{Elf32, Elf64}
 use Rattle.elf_section.specs.declared.file.Section.{Section}
 use Rattle.elf_section.specs.Table.{IsOpen}
 use Rattle.elf_section.specs.declared.table.SymbolTable.{SymbolTable}

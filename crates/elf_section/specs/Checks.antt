@@ -7,7 +7,8 @@ use Rattle.byte_images.specs.First.{Place, FirstToFail}
 use Rattle.defmt_intern.specs.declared.table.Profile.{Profile}
 use Rattle.defmt_intern.specs.declared.table.Profile.TheVariants as profiles
 use Rattle.elf_section.specs.Bytes.{IsUnquoted}
-use Rattle.elf_section.specs.File.{header_len, section_len, symbol_len, class_of, header, section, Fits, section_name, IsPlain, IsDefmt, IsSymbols, strings, count, symbol_name}
+use Rattle.byte_images.specs.Elf.{header_len, class_of}
+use Rattle.elf_section.specs.File.{section_len, symbol_len, header, section, Fits, section_name, IsPlain, IsDefmt, IsSymbols, strings, count, symbol_name}
 use Rattle.elf_section.specs.declared.fault.Part.{Part}
 use Rattle.elf_section.specs.declared.fault.Part.TheVariants as parts
 use Rattle.elf_section.specs.declared.fault.Fault.{Fault}

@@ -1,18 +1,15 @@
 -- The fields of an ELF file, as numbers at places (ELF gABI, "ELF Header", "Sections", "String Table", "Symbol Table").
-use Rattle.std.specs.Prelude.{◌≡◌, ◌≤◌, ◌<◌, ◌+◌, ◌*◌, ◌/◌, ℕ, List, ◌==◌, length, take, drop, slice_index, Option, Some, if◌then◌else◌, codes, bit_and}
+use Rattle.std.specs.Prelude.{◌≡◌, ◌≤◌, ◌<◌, ◌+◌, ◌*◌, ◌/◌, ℕ, List, length, take, drop, Option, Some, codes, bit_and}
+use Rattle.byte_images.specs.Elf.{class_of}
 use Rattle.byte_images.specs.Fields.{number}
 use Rattle.elf_section.specs.Bytes.{text_at}
-use Rattle.elf_section.specs.declared.file.Class.{Class}
-use Rattle.elf_section.specs.declared.file.Class.TheVariants.{Elf32, Elf64}
+use Rattle.byte_images.specs.declared.elf.Class.{Class}
+use Rattle.byte_images.specs.declared.elf.Class.TheVariants.{Elf32, Elf64}
 use Rattle.elf_section.specs.declared.file.Header.{Header}
 use Rattle.elf_section.specs.declared.file.Section.{Section}
 use Rattle.elf_section.specs.declared.file.RawSymbol.{RawSymbol}
 
 -- ---- the two tables of places
-
-abbrev pub header_len : Class → ℕ
-header_len Elf32 = 52
-header_len Elf64 = 64
 
 abbrev pub section_len : Class → ℕ
 section_len Elf32 = 40
@@ -69,9 +66,6 @@ symbol_in Elf64 at file = record {
 }
 
 -- ---- of a file
-
-unfoldable pub class_of : List ℕ → Class
-class_of file = if slice_index file 4 == 1 then Elf32 else Elf64
 
 abbrev pub header : List ℕ → Header
 header file = header_in (class_of file) file

@@ -1,6 +1,7 @@
 -- A symbol table that was found and checked.
 use Rattle.std.specs.Prelude.{◌≡◌, ◌<◌, ◌^◌, ℕ, List, length}
-use Rattle.elf_section.specs.File.{class_of, section, contents, IsSymbols, strings, count}
+use Rattle.byte_images.specs.Elf.{class_of}
+use Rattle.elf_section.specs.File.{section, contents, IsSymbols, strings, count}
 use Rattle.elf_section.specs.Checks.{Passed}
 use Rattle.elf_section.specs.declared.table.SymbolTable.{SymbolTable}
 

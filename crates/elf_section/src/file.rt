@@ -1,9 +1,10 @@
 //! The fields of a file, at the places of the ELF gABI.
 
 ghost use Rattle.std.specs.Prelude.{◌≡◌, ◌≤◌, ◌<◌, ◌+◌, ◌^◌, length};
-ghost use Rattle.elf_section.specs.File.{class_of, header_len, section_len, symbol_len, header_in, section_in, symbol_in};
+ghost use Rattle.byte_images.specs.Elf.{class_of, header_len};
+ghost use Rattle.elf_section.specs.File.{section_len, symbol_len, header_in, section_in, symbol_in};
 
-use byte_images::{half_at, long_at, word_at};
+use byte_images::{Class, half_at, long_at, word_at};
 
 /// The type of a symbol table.
 pub const SHT_SYMTAB: u64 = 2;
@@ -11,13 +12,6 @@ pub const SHT_SYMTAB: u64 = 2;
 pub const SHT_STRTAB: u64 = 3;
 /// The flag of a section whose bytes are compressed.
 pub const SHF_COMPRESSED: u64 = 0x800;
-
-/// The width of a file's fields.
-#[derive(Clone, Copy, Debug, Drop, PartialEq, Eq)]
-pub enum Class {
-    Elf32,
-    Elf64,
-}
 
 /// What the ELF header says of the sections.
 #[derive(Clone, Copy, Debug, Drop)]
@@ -48,44 +42,23 @@ pub struct RawSymbol {
     pub section: u64,
 }
 
-impl Class {
-    pub fn header_len(self) -> u64
-        ensures { result ≡ header_len self }
-    {
-        match self {
-            Class::Elf32 => 52,
-            Class::Elf64 => 64,
-        }
-    }
-
-    pub fn section_len(self) -> u64
-        ensures { result ≡ section_len self }
-    {
-        match self {
-            Class::Elf32 => 40,
-            Class::Elf64 => 64,
-        }
-    }
-
-    pub fn symbol_len(self) -> u64
-        ensures { result ≡ symbol_len self }
-    {
-        match self {
-            Class::Elf32 => 16,
-            Class::Elf64 => 24,
-        }
+/// The size of a section header.
+pub fn section_len(class: Class) -> u64
+    ensures { result ≡ section_len class }
+{
+    match class {
+        Class::Elf32 => 40,
+        Class::Elf64 => 64,
     }
 }
 
-#[tactic(auto, unfolding(crate::specs::File::class_of))]
-pub fn class_of(file: &[u8]) -> Class
-    requires { 16 ≤ length file.now }
-    ensures { result ≡ class_of file.now }
+/// The size of an entry of the symbol table.
+pub fn symbol_len(class: Class) -> u64
+    ensures { result ≡ symbol_len class }
 {
-    if file[4] == 1 {
-        Class::Elf32
-    } else {
-        Class::Elf64
+    match class {
+        Class::Elf32 => 16,
+        Class::Elf64 => 24,
     }
 }
 

@@ -6,7 +6,8 @@ ghost use Rattle.elf_section.specs.Checks.{Holds, Passed, Goes};
 ghost use Rattle.elf_section.specs.Checks as check;
 
 use crate::fault::{Cause, Fault, Part};
-use crate::file::{Header, class_of, header_in};
+use crate::file::{Header, header_in, section_len};
+use byte_images::class_of;
 
 fn is_elf(file: &[u8]) -> bool
     ensures { MatchBool result (Holds file.now check.is_elf) (Holds file.now check.is_elf → ⊥) }
@@ -61,7 +62,7 @@ fn has_entry_size(file: &[u8]) -> bool
     ensures { MatchBool result (Holds file.now check.has_entry_size)
         (Holds file.now check.has_entry_size → ⊥) }
 {
-    header_of(file).shentsize == class_of(file).section_len()
+    header_of(file).shentsize == section_len(class_of(file))
 }
 
 fn has_section_headers(file: &[u8]) -> bool
@@ -70,7 +71,7 @@ fn has_section_headers(file: &[u8]) -> bool
         (Holds file.now check.has_section_headers → ⊥) }
 {
     let header = header_of(file);
-    let size = header.shnum * class_of(file).section_len();
+    let size = header.shnum * section_len(class_of(file));
     let len = file.len() as u64;
     size <= len && header.shoff <= len - size
 }

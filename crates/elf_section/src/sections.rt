@@ -7,9 +7,10 @@ ghost use Rattle.elf_section.specs.Checks.{Holds, Passed, Goes, Finds};
 ghost use Rattle.elf_section.specs.Checks as check;
 
 use crate::fault::{Cause, Fault, Part};
-use crate::file::{SHF_COMPRESSED, SHT_SYMTAB, Section, class_of, section_in};
+use crate::file::{SHF_COMPRESSED, SHT_SYMTAB, Section, section_in, section_len};
 use crate::front::header_of;
 use crate::strings::StringTable;
+use byte_images::class_of;
 use std::alloc::{AllocError, Global};
 
 /// Section number `i`.
@@ -20,7 +21,7 @@ pub fn section(file: &[u8], i: u64) -> Section
     ensures link { result.link < 2 ^ 32 }
 {
     let class = class_of(file);
-    let at = header_of(file).shoff + i * class.section_len();
+    let at = header_of(file).shoff + i * section_len(class);
     section_in(file, class, at as usize)
 }
 

@@ -7,10 +7,11 @@ ghost use Rattle.elf_section.specs.Checks.{Passed, Goes, IsTable};
 ghost use Rattle.elf_section.specs.Table.{IsOpen};
 
 use crate::fault::{Cause, Fault, Part};
-use crate::file::{Class, RawSymbol, SHF_COMPRESSED, SHT_STRTAB, class_of, symbol_in};
+use crate::file::{RawSymbol, SHF_COMPRESSED, SHT_STRTAB, symbol_in, symbol_len};
 use crate::front::header_of;
 use crate::sections::{contents, fits, section};
 use crate::strings::StringTable;
+use byte_images::{Class, class_of};
 use std::alloc::{AllocError, Global};
 
 /// The symbol table of a file.
@@ -33,7 +34,7 @@ fn is_table(file: &[u8], i: u64) -> bool
     ensures { MatchBool result (IsTable file.now i) (IsTable file.now i → ⊥) }
 {
     let table = section(file, i);
-    let len = class_of(file).symbol_len();
+    let len = symbol_len(class_of(file));
     table.entry_size == len
         && table.size % len == 0
         && fits(file, &table)
@@ -68,7 +69,7 @@ fn count(file: &[u8], i: u64) -> u64
     requires symbols { IsSymbols file.now i }
     ensures value { result ≡ count file.now i }
 {
-    section(file, i).size / class_of(file).symbol_len()
+    section(file, i).size / symbol_len(class_of(file))
 }
 
 /// The symbol table in section number `i`.
@@ -95,7 +96,7 @@ pub fn symbol(file: &[u8], table: &SymbolTable<'_>, k: u64) -> RawSymbol
     requires below { k < table.now.count }
     ensures { result ≡ symbol file.now table.now.number k }
 {
-    let at = table.offset + k * table.class.symbol_len();
+    let at = table.offset + k * symbol_len(table.class);
     symbol_in(file, table.class, at as usize)
 }
 

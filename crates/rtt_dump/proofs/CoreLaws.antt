@@ -7,7 +7,8 @@ use Rattle.std.proofs.lemmas.Bool.{cases_Bool, cases_lt, both_ways, or_cases, eq
 use Rattle.byte_images.specs.First.{Before, FirstToFail}
 use Rattle.rtt_dump.specs.Checks.{CoreCheck, CoreHolds, HasAddresses, HasBytes, core_place, has_class, is_little, has_header, is_core, has_entry_len, has_program_headers, has_bytes, has_addresses}
 use Rattle.rtt_dump.specs.Checks as checks
-use Rattle.rtt_dump.specs.Elf.{class_of, entry_len, header, header_len, loaded}
+use Rattle.byte_images.specs.Elf.{class_of, header_len}
+use Rattle.rtt_dump.specs.Elf.{entry_len, header, loaded}
 use Rattle.rtt_dump.specs.Flaws.{Test, first_flaw, header_tests, holds, segment_tests, tests}
 use Rattle.rtt_dump.specs.Flaws as test
 use Rattle.rtt_dump.specs.declared.elf.ProgramHeader.{ProgramHeader}

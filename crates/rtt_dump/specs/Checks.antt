@@ -5,7 +5,8 @@ use Rattle.rtt_control.specs.Checks.{HasBlock, HasId, read_subject}
 use Rattle.rtt_control.specs.Checks as control
 use Rattle.rtt_control.specs.Layout.{block_of}
 use Rattle.rtt_dump.specs.Dump.{first_id, holder}
-use Rattle.rtt_dump.specs.Elf.{class_of, entry_len, header, header_len, is_elf, loaded}
+use Rattle.byte_images.specs.Elf.{class_of, header_len}
+use Rattle.rtt_dump.specs.Elf.{entry_len, header, is_elf, loaded}
 use Rattle.rtt_dump.specs.Faults.{flawed, of_block, refused}
 use Rattle.rtt_dump.specs.Ids.{ids, second_segment}
 use Rattle.rtt_dump.specs.Segments.{Region, regions}

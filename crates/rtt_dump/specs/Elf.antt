@@ -1,9 +1,10 @@
 -- The fields of an ELF file, as numbers at places (ELF gABI, "ELF Header" and "Program Header").
-use Rattle.std.specs.Prelude.{◌≡◌, ◌≤◌, ℕ, Bool, List, [], ◌∷◌, ◌+◌, ◌*◌, ◌==◌, ◌&&◌, length, map, nat_eq, nat_lt, slice_index, if◌then◌else◌}
+use Rattle.std.specs.Prelude.{◌≡◌, ◌≤◌, ℕ, Bool, List, [], ◌∷◌, ◌+◌, ◌*◌, ◌==◌, ◌&&◌, length, map, nat_eq, nat_lt}
 use Rattle.std.specs.List.{filter, range_with_len, starts_with}
+use Rattle.byte_images.specs.Elf.{class_of}
 use Rattle.byte_images.specs.Fields.{number}
-use Rattle.rtt_dump.specs.declared.elf.Class.{Class}
-use Rattle.rtt_dump.specs.declared.elf.Class.TheVariants.{Elf32, Elf64}
+use Rattle.byte_images.specs.declared.elf.Class.{Class}
+use Rattle.byte_images.specs.declared.elf.Class.TheVariants.{Elf32, Elf64}
 use Rattle.rtt_dump.specs.declared.elf.Header.{Header}
 use Rattle.rtt_dump.specs.declared.elf.ProgramHeader.{ProgramHeader}
 use Rattle.rtt_dump.specs.declared.elf.Table.{Table}
@@ -14,11 +15,7 @@ is_elf file = starts_with nat_eq file (0x7f ∷ 0x45 ∷ 0x4c ∷ 0x46 ∷ [])
 
 -- ---- the two tables of places
 
--- the length of the ELF header, and of a program header
-abbrev pub header_len : Class → ℕ
-header_len Elf32 = 52
-header_len Elf64 = 64
-
+-- the length of a program header
 abbrev pub entry_len : Class → ℕ
 entry_len Elf32 = 32
 entry_len Elf64 = 56
@@ -36,10 +33,6 @@ program_header_in Elf64 at file =
     record { kind = number at 4 file; offset = number (at + 8) 8 file; address = number (at + 16) 8 file; size = number (at + 32) 8 file }
 
 -- ---- of a file
-
--- EI_CLASS
-unfoldable pub class_of : List ℕ → Class
-class_of file = if slice_index file 4 == 1 then Elf32 else Elf64
 
 abbrev pub header : List ℕ → Header
 header file = header_in (class_of file) file

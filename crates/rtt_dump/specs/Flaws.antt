@@ -1,7 +1,8 @@
 -- What a file is refused for, as a function of the file: its checks one after the other, and the first that doesn't hold.
 use Rattle.std.specs.Prelude.{ℕ, Bool, not, List, [], ◌∷◌, ◌++◌, ◌+◌, ◌*◌, ◌==◌, ◌||◌, length, nat_le, slice_index, Option, Some, None, option_map, if◌then◌else◌}
 use Rattle.std.specs.List.{find, flat_map}
-use Rattle.rtt_dump.specs.Elf.{class_of, entry_len, header, header_len, is_elf, loaded}
+use Rattle.byte_images.specs.Elf.{class_of, header_len}
+use Rattle.rtt_dump.specs.Elf.{entry_len, header, is_elf, loaded}
 use Rattle.rtt_dump.specs.Faults.{flawed, refused}
 use Rattle.rtt_dump.specs.declared.elf.ProgramHeader.{ProgramHeader}
 use Rattle.rtt_dump.specs.declared.fault.Cause.TheVariants.{Base}

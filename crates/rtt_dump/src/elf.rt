@@ -1,21 +1,15 @@
 //! The fields of a file, at the places of the ELF gABI.
 
 ghost use Rattle.std.specs.Prelude.{◌≡◌, ◌≤◌, ◌<◌, ◌+◌, ◌*◌, ◌^◌, length};
-ghost use Rattle.rtt_dump.specs.Elf.{IsTable, class_of, entry_len, header_in, header_len, is_elf, is_loaded, program_header, program_header_in};
+ghost use Rattle.byte_images.specs.Elf.{class_of, header_len};
+ghost use Rattle.rtt_dump.specs.Elf.{IsTable, entry_len, header_in, is_elf, is_loaded, program_header, program_header_in};
 
-use byte_images::{half_at, long_at, word_at};
+use byte_images::{Class, half_at, long_at, word_at};
 
 /// The type of a core file, `ET_CORE`.
 pub const ET_CORE: u64 = 4;
 /// The type of a segment to load, `PT_LOAD`.
 pub const PT_LOAD: u64 = 1;
-
-/// The width of a file's fields.
-#[derive(Clone, Copy, Debug, PartialEq, Eq)]
-pub enum Class {
-    Elf32,
-    Elf64,
-}
 
 /// What the ELF header says of the program headers: `e_type`, `e_phoff`, `e_phentsize` and `e_phnum`.
 #[derive(Clone, Copy, Debug)]
@@ -51,37 +45,13 @@ pub fn is_elf(file: &[u8]) -> bool
     file.starts_with(b"\x7fELF")
 }
 
-#[tactic(auto, unfolding(crate::specs::Elf::class_of))]
-pub fn class_of(file: &[u8]) -> Class
-    requires { 4 < length file.now }
-    ensures { result ≡ class_of file.now }
+/// The size of a program header.
+pub fn entry_len(class: Class) -> u64
+    ensures { result ≡ entry_len class }
 {
-    if file[4] == 1 {
-        Class::Elf32
-    } else {
-        Class::Elf64
-    }
-}
-
-impl Class {
-    /// The size of the ELF header.
-    pub fn header_len(self) -> u64
-        ensures { result ≡ header_len self }
-    {
-        match self {
-            Class::Elf32 => 52,
-            Class::Elf64 => 64,
-        }
-    }
-
-    /// The size of a program header.
-    pub fn entry_len(self) -> u64
-        ensures { result ≡ entry_len self }
-    {
-        match self {
-            Class::Elf32 => 32,
-            Class::Elf64 => 56,
-        }
+    match class {
+        Class::Elf32 => 32,
+        Class::Elf64 => 56,
     }
 }
 
@@ -135,7 +105,7 @@ impl Table {
         requires below { k < self.now.count }
         ensures { result ≡ program_header file.now k }
     {
-        let at = self.offset + k * self.class.entry_len();
+        let at = self.offset + k * entry_len(self.class);
         program_header_in(file, self.class, at as usize)
     }
 }

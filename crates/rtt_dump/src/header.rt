@@ -1,12 +1,14 @@
 //! The checks of a core file's header.
 
 ghost use Rattle.std.specs.Prelude.{◌≡◌, ◌≤◌, ◌<◌, ◌+◌, ◌^◌, length, None, Some, IfOk, IfErr, OnOk, IsTrue};
-ghost use Rattle.rtt_dump.specs.Elf.{IsTable, class_of, header};
+ghost use Rattle.byte_images.specs.Elf.{class_of};
+ghost use Rattle.rtt_dump.specs.Elf.{IsTable, header};
 ghost use Rattle.rtt_dump.specs.Flaws.{first_flaw, header_tests, holds};
 ghost use Rattle.rtt_dump.specs.Flaws as check;
 
-use crate::elf::{Class, ET_CORE, Header, Table, class_of, header_in};
+use crate::elf::{ET_CORE, Header, Table, entry_len, header_in};
 use crate::fault::Flaw;
+use byte_images::{Class, class_of};
 
 fn has_class(file: &[u8]) -> bool
     ensures holds { result ≡ holds file.now check.has_class }
@@ -28,7 +30,7 @@ fn has_program_headers(file: &[u8], class: Class, elf_header: &Header) -> bool
     requires few { elf_header.now.count < 2 ^ 16 }
     ensures { result ≡ holds file.now check.has_program_headers }
 {
-    let size = elf_header.count * class.entry_len();
+    let size = elf_header.count * entry_len(class);
     let len = file.len() as u64;
     size <= len && elf_header.offset <= len - size
 }
@@ -54,7 +56,7 @@ pub fn table_of(file: &[u8]) -> Result<Table, Flaw>
     if header.kind != ET_CORE {
         return Err(Flaw::Kind);
     }
-    if header.entry_len != class.entry_len() {
+    if header.entry_len != entry_len(class) {
         return Err(Flaw::EntrySize);
     }
     if !has_program_headers(file, class, &header) {

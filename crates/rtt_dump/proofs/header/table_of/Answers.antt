@@ -1,8 +1,9 @@
 use Rattle.std.proofs.Common.{◌≡◌, ◌∙◌, [], length, sym, ap, arith}
 use Rattle.std.proofs.lemmas.Bool.{eq-eqb, le-leb, lt-leb, ne_eqb}
-use Rattle.rtt_dump.specs.Elf.{class_of, entry_len, header, header_in, header_len}
+use Rattle.byte_images.specs.Elf.{class_of, header_len}
+use Rattle.rtt_dump.specs.Elf.{entry_len, header, header_in}
 use Rattle.rtt_dump.specs.Flaws.{has_class, is_little, has_header, is_core, has_entry_len, has_program_headers}
-use Rattle.rtt_dump.specs.declared.elf.Class.{Class}
+use Rattle.byte_images.specs.declared.elf.Class.{Class}
 use Rattle.rtt_dump.specs.declared.elf.Header.{Header}
 use Rattle.rtt_dump.proofs.HeaderLemmas.{behind_class, behind_entry_len, behind_header, behind_kind, behind_order, flaw_stop, past_all, past_class, past_entry_len, past_header, past_kind, past_order}
 use Rattle.rtt_dump.proofs.header.table_of.Goals as goal
