@@ -51,24 +51,24 @@ module _ (options : DumpOptions) (image : List ℕ) (table : Catalog) where
 
 -- ---- a fault is what some inputs as told come to
 
-module _ (name : List ℕ) (options : DumpOptions) (only : Option Rules) (input : Input) (shelf : Files) where
+module _ (options : DumpOptions) (input : Input) (shelf : Files) where
   abbrev pub MayDump : Fault → Type 0
-  MayDump fault = (inputs : Inputs) × AreAsTold input.left shelf.files inputs × DumpingComesTo options (inputs.files name) inputs.text fault
+  MayDump fault = (inputs : Inputs) × AreAsTold input.left shelf.files inputs × DumpingComesTo options inputs fault
 
-  of_image : (table : Table) (image : List ℕ) (fault : Fault) → Loaded shelf name table → IsRest input.left image → fault ≡ fault_of_image options image table → MayDump fault
-  of_image table image fault loaded rest is = of_table (fault_of_image options) name input shelf table image fault loaded rest is
+  of_image : (table : Table) (image : List ℕ) (fault : Fault) → Loaded shelf options.table table → IsRest input.left image → fault ≡ fault_of_image options image table → MayDump fault
+  of_image table image fault loaded rest is = of_table (fault_of_image options) options.table input shelf table image fault loaded rest is
 
   given : (image : List ℕ) → GaveWithin recording_limit input image → IsRest input.left image
   given image whole = all_taken input.left input.left_after image whole.taken whole.at_end
 
-  of_bytes : (table : Table) (bytes : List ℕ) (n : ℕ) (fault : Fault) → Loaded shelf name table → Gives options input bytes → n ≡ faults (reports table) (events_of table bytes)
+  of_bytes : (table : Table) (bytes : List ℕ) (n : ℕ) (fault : Fault) → Loaded shelf options.table table → Gives options input bytes → n ≡ faults (reports table) (events_of table bytes)
       → fault_of_count n ≡ fault → MayDump fault
   of_bytes table bytes n fault loaded gives counted is =
       let all = counted ∙ ap (λ (l : List ℕ). faults (reports table) (events_of table l)) gives.is in
       of_image table gives.image fault loaded (given gives.image gives.whole)
       (sym (counted_image options gives.image table n gives.whole.within gives.passes all ∙ is))
 
-  prints_may : {S : Type 0} (r : Reports S Event) (table : Table) (output : Output) (bytes : List ℕ) (fault : Fault) → CountsAs r table → Loaded shelf name table → Gives options input bytes
+  prints_may : {S : Type 0} (r : Reports S Event) (table : Table) (output : Output) (bytes : List ℕ) (fault : Fault) → CountsAs r table → Loaded shelf options.table table → Gives options input bytes
       → Prints r bytes output fault → OrFailing (Unit {0}) (Unit {0}) input shelf output MayDump fault
   prints_may r table output bytes Fine same loaded gives prints = of_bytes table bytes 0 Fine loaded gives (prints.counted ∙ same bytes) refl
   prints_may r table output bytes (Events bad) same loaded gives prints = of_bytes table bytes bad (Events bad) loaded gives (prints.0.counted ∙ same bytes) (count_some bad prints.1)
@@ -76,13 +76,13 @@ module _ (name : List ℕ) (options : DumpOptions) (only : Option Rules) (input 
   prints_may r table output bytes Sink same loaded gives prints = prints.1
   prints_may r table output bytes fault same loaded gives prints = absurd prints
 
-  by_rules_may : (rules : Option Rules) (table : Table) (output : Output) (bytes : List ℕ) (fault : Fault) → Loaded shelf name table → Gives options input bytes
+  by_rules_may : (rules : Option Rules) (table : Table) (output : Output) (bytes : List ℕ) (fault : Fault) → Loaded shelf options.table table → Gives options input bytes
       → PrintsBy rules table bytes output fault → OrFailing (Unit {0}) (Unit {0}) input shelf output MayDump fault
   by_rules_may None table output bytes fault loaded gives prints = prints_may (reports table) table output bytes fault (λ recording. refl) loaded gives prints
   by_rules_may (Some rules) table output bytes fault loaded gives prints =
       prints_may (shown_reports rules table) table output bytes fault (λ recording. refl) loaded gives prints
 
-  none_may : (table : Table) (output : Output) (fault : Fault) → Loaded shelf name table → GivesNone options input fault → OrFailing (Unit {0}) (Unit {0}) input shelf output MayDump fault
+  none_may : (table : Table) (output : Output) (fault : Fault) → Loaded shelf options.table table → GivesNone options input fault → OrFailing (Unit {0}) (Unit {0}) input shelf output MayDump fault
   none_may table output Memory loaded none = tt
   none_may table output Source loaded none = (tt, none.0)
   none_may table output Long loaded none =
@@ -93,12 +93,12 @@ module _ (name : List ℕ) (options : DumpOptions) (only : Option Rules) (input 
       (sym (refused_image options none.image table cause place none.whole.within none.refused))
   none_may table output fault loaded none = absurd none
 
-  pub dump_may : (output : Output) (fault : Fault) → Dumps name options only input shelf output fault
+  pub dump_may : (output : Output) (fault : Fault) → Dumps options input shelf output fault
       → OrFailing (Unit {0}) (Unit {0}) input shelf output MayDump fault
-  dump_may output fault (inl refused) = refused_may (fault_of_image options) name input shelf output fault refused.0
+  dump_may output fault (inl refused) = refused_may (fault_of_image options) options.table input shelf output fault refused.0
   dump_may output fault (inr shown) = elim shown.2 [
     | inl none ↦ none_may shown.0 output fault shown.1 none.0
-    | inr some ↦ by_rules_may only shown.0 output some.0 fault shown.1 some.1 some.2
+    | inr some ↦ by_rules_may options.only shown.0 output some.0 fault shown.1 some.1 some.2
   ]
 
 -- no decoding of an image comes to wrong words
@@ -106,6 +106,6 @@ never_words : (only : Option Rules) (table : Catalog) (bytes : List ℕ) (output
 never_words None table bytes output prints = prints
 never_words (Some rules) table bytes output prints = prints
 
-pub dump_words : (name : List ℕ) (options : DumpOptions) (only : Option Rules) (input : Input) (shelf : Files) (output : Output) → Dumps name options only input shelf output Words → ⊥
-dump_words name options only input shelf output (inl refused) = elim refused.0 [ inl no_file ↦ no_file | inr no_table ↦ no_table.3 ]
-dump_words name options only input shelf output (inr shown) = elim shown.2 [ inl none ↦ none.0 | inr some ↦ never_words only shown.0 some.0 output some.2 ]
+pub dump_words : (options : DumpOptions) (input : Input) (shelf : Files) (output : Output) → Dumps options input shelf output Words → ⊥
+dump_words options input shelf output (inl refused) = elim refused.0 [ inl no_file ↦ no_file | inr no_table ↦ no_table.3 ]
+dump_words options input shelf output (inr shown) = elim shown.2 [ inl none ↦ none.0 | inr some ↦ never_words options.only shown.0 some.0 output some.2 ]

@@ -13,10 +13,12 @@ use Rattle.defmt_decode.specs.Event.{events_of}
 use Rattle.defmt_decode.specs.declared.event.Event.{Event}
 use Rattle.defmt_hooks.specs.declared.rules.Rules.{Rules}
 use Rattle.defmt_recording.specs.Calls.{IsUnread, IsUnwritten, Files}
+use Rattle.defmt_recording.specs.Inputs.{Inputs}
 use Rattle.defmt_recording.specs.Output.{reports}
 use Rattle.defmt_recording.specs.Shown.{shown_reports}
 use Rattle.defmt_recording.specs.declared.fault.Fault.{Fault}
 use Rattle.defmt_recording.specs.declared.fault.Fault.TheVariants.{Fine, Memory, Source, Sink, Elf, Names, Shelf, Long, Events}
+use Rattle.defmt_words.specs.declared.job.DecodeOptions.{DecodeOptions}
 
 -- the most bytes of the file of a table
 abbrev pub table_limit : ℕ
@@ -70,10 +72,10 @@ HearsBy None table input output fault = Hears (reports table) input output fault
 HearsBy (Some rules) table input output fault = Hears (shown_reports rules table) input output fault
 
 -- What stands at each fault: nothing was touched but the shelf, or the table was loaded, and this became of the recording.
-abbrev pub Decodes : List ℕ → Option Rules → Input → Files → Output → Fault → Type 0
-Decodes name only input files output fault =
-    (RefusesTable files name fault × IsUnread input × IsUnwritten output)
-    ⊎ ((table : Table) × Loaded files name table × HearsBy only table input output fault)
+abbrev pub Decodes : DecodeOptions → Input → Files → Output → Fault → Type 0
+Decodes options input files output fault =
+    (RefusesTable files options.table fault × IsUnread input × IsUnwritten output)
+    ⊎ ((table : Table) × Loaded files options.table table × HearsBy options.only table input output fault)
 
 -- ---- what told inputs come to, where nothing fails and memory is there
 
@@ -100,6 +102,7 @@ LoadingComesTo last (Some file) fault =
     ((table_limit < length file) × (fault ≡ Long))
     ⊎ ((length file ≤ table_limit) × ((read : Result Table LoadFault) × ReadsTable file read × ReadingComesTo last read fault))
 
--- a recording
-abbrev pub DecodingComesTo : Option (List ℕ) → List ℕ → Fault → Type 0
-DecodingComesTo file recording fault = LoadingComesTo (fault_of_recording recording) file fault
+-- a recording, by the options of `decode`
+abbrev pub DecodingComesTo : DecodeOptions → Inputs → Fault → Type 0
+DecodingComesTo options inputs fault =
+    LoadingComesTo (fault_of_recording inputs.text) (inputs.files options.table) fault

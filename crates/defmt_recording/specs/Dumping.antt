@@ -13,6 +13,7 @@ use Rattle.defmt_recording.specs.Output.{reports}
 use Rattle.defmt_recording.specs.Shown.{shown_reports}
 use Rattle.defmt_recording.specs.Calls.{Files, GaveWithin, IsUnread, IsUnwritten, TookMore, TookWithin}
 use Rattle.defmt_recording.specs.Decoding.{Loaded, LoadingComesTo, RefusesTable, fault_of_count}
+use Rattle.defmt_recording.specs.Inputs.{Inputs}
 use Rattle.defmt_recording.specs.declared.fault.Fault.{Fault}
 use Rattle.defmt_recording.specs.declared.fault.Fault.TheVariants.{Fine, Memory, Source, Sink, Long, Events, Control}
 use Rattle.defmt_words.specs.declared.job.DumpOptions.{DumpOptions}
@@ -70,16 +71,16 @@ PrintsBy None table bytes output fault = Prints (reports table) bytes output fau
 PrintsBy (Some rules) table bytes output fault = Prints (shown_reports rules table) bytes output fault
 
 -- by a table: the source gave no bytes, and nothing was written, or it did, and this became of their lines
-abbrev pub Shows : Option Rules → Catalog → DumpOptions → Input → Output → Fault → Type 0
-Shows only table options input output fault =
+abbrev pub Shows : DumpOptions → Catalog → Input → Output → Fault → Type 0
+Shows options table input output fault =
     (GivesNone options input fault × IsUnwritten output)
-    ⊎ ((bytes : List ℕ) × Gives options input bytes × PrintsBy only table bytes output fault)
+    ⊎ ((bytes : List ℕ) × Gives options input bytes × PrintsBy options.only table bytes output fault)
 
 -- Nothing was touched but the shelf, or the table was loaded, and then this.
-abbrev pub Dumps : List ℕ → DumpOptions → Option Rules → Input → Files → Output → Fault → Type 0
-Dumps name options only input files output fault =
-    (RefusesTable files name fault × IsUnread input × IsUnwritten output)
-    ⊎ ((table : Table) × Loaded files name table × Shows only table options input output fault)
+abbrev pub Dumps : DumpOptions → Input → Files → Output → Fault → Type 0
+Dumps options input files output fault =
+    (RefusesTable files options.table fault × IsUnread input × IsUnwritten output)
+    ⊎ ((table : Table) × Loaded files options.table table × Shows options table input output fault)
 
 -- ---- what told inputs come to, where nothing fails and memory is there
 
@@ -95,9 +96,10 @@ fault_of_image options image table =
     if nat_lt recording_limit (length image) then Long
     else or_refused (refused_for options image) (fault_of_count (faults (reports table) (events_of table (asked_bytes options image))))
 
--- an image, and the table's file if there is one
-abbrev pub DumpingComesTo : DumpOptions → Option (List ℕ) → List ℕ → Fault → Type 0
-DumpingComesTo options file image fault = LoadingComesTo (fault_of_image options image) file fault
+-- an image, by the options of `dump`
+abbrev pub DumpingComesTo : DumpOptions → Inputs → Fault → Type 0
+DumpingComesTo options inputs fault =
+    LoadingComesTo (fault_of_image options inputs.text) (inputs.files options.table) fault
 
 -- ---- for private clauses
 

@@ -16,23 +16,22 @@ use defmt_decode::Host;
 use defmt_hooks::Rules;
 use defmt_intern::Table;
 use defmt_listen::{ListenFault, Reporter, listen};
+use defmt_words::DecodeOptions;
 use dl_io::{Bytes, ReadFault, Shelf, Sink, Source, fetch_all};
 use elf_table::{LoadFault, read_table};
 use std::alloc::Global;
 
 const TABLE_LIMIT: usize = 67_108_864;
 
-/// Prints the events of the recording that the source gives, by the table that the file of this name names, and by rules where
-/// there are some.
+/// Prints the events of the recording that the source gives, by the table that the options name, and by rules where they have some.
 pub fn decode<S: Source, F: Shelf, K: Sink>(
     alloc: Global,
-    name: &str,
-    only: &Option<Rules>,
+    options: &DecodeOptions,
     src: &mut S,
     shelf: &mut F,
     out: &mut K,
 ) -> Fault
-    ensures decodes { Decodes name.now only.now
+    ensures decodes { Decodes options.now
         (input_of S.left S.faults src.old src.new) (files_of F.files F.faults shelf.old shelf.new)
         (output_of K.held K.faults out.old out.new) result }
     ensures source_count { S.faults src.old ≤ S.faults src.new }
@@ -40,8 +39,8 @@ pub fn decode<S: Source, F: Shelf, K: Sink>(
     ensures shelf_count { F.faults shelf.old ≤ F.faults shelf.new }
     ensures files { F.files shelf.new ≡ F.files shelf.old }
 {
-    match load(alloc, name, shelf) {
-        Ok(host) => print_recording(alloc, only, src, out, host),
+    match load(alloc, options.table.as_str(), shelf) {
+        Ok(host) => print_recording(alloc, &options.only, src, out, host),
         Err(fault) => fault,
     }
 }

@@ -23,18 +23,16 @@ use std::alloc::Global;
 
 const IMAGE_LIMIT: usize = 268_435_456;
 
-/// Prints the events of an up-buffer in the image that the source gives, by the table that the file of this name names, and by
-/// rules where there are some.
+/// Prints the events of an up-buffer in the image that the source gives, by the table that the options name, and by rules where
+/// they have some.
 pub fn dump<S: Source, F: Shelf, K: Sink>(
     alloc: Global,
-    name: &str,
     options: &DumpOptions,
-    only: &Option<Rules>,
     src: &mut S,
     shelf: &mut F,
     out: &mut K,
 ) -> Fault
-    ensures dumps { Dumps name.now options.now only.now
+    ensures dumps { Dumps options.now
         (input_of S.left S.faults src.old src.new) (files_of F.files F.faults shelf.old shelf.new)
         (output_of K.held K.faults out.old out.new) result }
     ensures source_count { S.faults src.old ≤ S.faults src.new }
@@ -42,8 +40,8 @@ pub fn dump<S: Source, F: Shelf, K: Sink>(
     ensures shelf_count { F.faults shelf.old ≤ F.faults shelf.new }
     ensures files { F.files shelf.new ≡ F.files shelf.old }
 {
-    match load(alloc, name, shelf) {
-        Ok(host) => show(alloc, options, only, src, out, host),
+    match load(alloc, options.table.as_str(), shelf) {
+        Ok(host) => show(alloc, options, src, out, host),
         Err(fault) => fault,
     }
 }
@@ -52,20 +50,19 @@ pub fn dump<S: Source, F: Shelf, K: Sink>(
 fn show<S: Source, K: Sink>(
     alloc: Global,
     options: &DumpOptions,
-    only: &Option<Rules>,
     src: &mut S,
     out: &mut K,
     host: Host,
 ) -> Fault
     requires { Stands host.framing [] }
-    ensures shows { Shows only.now host.table options.now
+    ensures shows { Shows options.now host.table
         (input_of S.left S.faults src.old src.new)
         (output_of K.held K.faults out.old out.new) result }
     ensures source_count { S.faults src.old ≤ S.faults src.new }
     ensures sink_count { K.faults out.old ≤ K.faults out.new }
 {
     match given_bytes(alloc, options, src) {
-        Ok(bytes) => print_bytes(alloc, only, bytes.as_slice(), out, host),
+        Ok(bytes) => print_bytes(alloc, &options.only, bytes.as_slice(), out, host),
         Err(fault) => fault,
     }
 }

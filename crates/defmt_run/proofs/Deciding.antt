@@ -150,8 +150,8 @@ module _ (input : Input) (shelf : Files) where
   pub may_come : (job : Job) (output : Output) (fault : Fault) (told : Told) → Answers (Some job) input shelf output fault told
       → OrFails job input shelf output (MayComeTo job input.left shelf.files) fault
   may_come (jobs.Script job) output fault told answers = script_may job output fault told answers.0
-  may_come (jobs.Decode name only) output fault told answers = decode_may name only input shelf output fault answers.0
-  may_come (jobs.Dump name options only) output fault told answers = dump_may name options only input shelf output fault answers.0
+  may_come (jobs.Decode options) output fault told answers = decode_may options input shelf output fault answers.0
+  may_come (jobs.Dump options) output fault told answers = dump_may options input shelf output fault answers.0
 
 -- ---- inputs come to one fault
 
@@ -195,8 +195,8 @@ one_fault : OneReading → (job : Job) (inputs : Inputs) (fault other : Fault) �
 one_fault one (jobs.Script (Generate count)) inputs fault other a b = b ∙ sym a
 one_fault one (jobs.Script Steer) inputs fault other a b = steer_one one inputs.text fault other a b
 one_fault one (jobs.Script job) inputs fault other a b = run_one one inputs.text fault other a b
-one_fault one (jobs.Decode name only) inputs fault other a b = load_one (fault_of_recording inputs.text) (inputs.files name) fault other a b
-one_fault one (jobs.Dump name options only) inputs fault other a b = load_one (fault_of_image options inputs.text) (inputs.files name) fault other a b
+one_fault one (jobs.Decode options) inputs fault other a b = load_one (fault_of_recording inputs.text) (inputs.files options.table) fault other a b
+one_fault one (jobs.Dump options) inputs fault other a b = load_one (fault_of_image options inputs.text) (inputs.files options.table) fault other a b
 
 pub must_come : OneReading → (job : Job) (input : Input) (shelf : Files) (output : Output) (fault wanted : Fault)
     → MustComeTo job input.left shelf.files wanted → OrFails job input shelf output (MayComeTo job input.left shelf.files) fault
@@ -221,8 +221,8 @@ never_words job input comes_not = comes_not
 none_asked : (asked : Option Job) (input : Input) (shelf : Files) (output : Output) (told : Told) → Answers asked input shelf output Words told → asked ≡ None
 none_asked None input shelf output told answers = refl
 none_asked (Some (jobs.Script job)) input shelf output told answers = absurd (never_words job input answers.0.0)
-none_asked (Some (jobs.Decode name only)) input shelf output told answers = absurd (decode_words name only input shelf output answers.0)
-none_asked (Some (jobs.Dump name options only)) input shelf output told answers = absurd (dump_words name options only input shelf output answers.0)
+none_asked (Some (jobs.Decode options)) input shelf output told answers = absurd (decode_words options input shelf output answers.0)
+none_asked (Some (jobs.Dump options)) input shelf output told answers = absurd (dump_words options input shelf output answers.0)
 
 pub no_job : (asked : Option Job) (input : Input) (shelf : Files) (output : Output) (fault : Fault) (told : Told) → Answers asked input shelf output fault told
     → status_of fault ≡ 2 → asked ≡ None
@@ -246,8 +246,8 @@ wanting_from : (asked : Option Job) (input : Input) (shelf : Files) (output : Ou
     → Answers asked input shelf output Memory told
 wanting_from None input shelf output told took unread untouched unwritten untold = (inr refl, unread, untouched, unwritten, untold)
 wanting_from (Some (jobs.Script job)) input shelf output told took unread untouched unwritten untold = ((no_memory job input took unread, unwritten, untold), untouched)
-wanting_from (Some (jobs.Decode name only)) input shelf output told took unread untouched unwritten untold = (inl (inl tt, unread, unwritten), untold)
-wanting_from (Some (jobs.Dump name options only)) input shelf output told took unread untouched unwritten untold = (inl (inl tt, unread, unwritten), untold)
+wanting_from (Some (jobs.Decode options)) input shelf output told took unread untouched unwritten untold = (inl (inl tt, unread, unwritten), untold)
+wanting_from (Some (jobs.Dump options)) input shelf output told took unread untouched unwritten untold = (inl (inl tt, unread, unwritten), untold)
 
 -- nothing was touched
 pub wanting_all : (asked : Option Job) (left held : Option (List ℕ)) (files : Option (List ℕ → Option (List ℕ))) (source shelf sink : ℕ) (fault : Fault) (told : Told) → fault ≡ Memory → IsUntold told

@@ -23,10 +23,10 @@ abbrev pub Answers : Option Job → Input → Files → Output → Fault → Tol
 Answers None input shelf output fault told =
     IsRefused fault × IsUnread input × IsUntouched shelf × IsUnwritten output × IsUntold told
 Answers (Some (Script job)) input shelf output fault told = Runs job input output fault told × IsUntouched shelf
-Answers (Some (Decode table only)) input shelf output fault told =
-    Decodes table only input shelf output fault × IsUntold told
-Answers (Some (Dump table options only)) input shelf output fault told =
-    Dumps table options only input shelf output fault × IsUntold told
+Answers (Some (Decode options)) input shelf output fault told =
+    Decodes options input shelf output fault × IsUntold told
+Answers (Some (Dump options)) input shelf output fault told =
+    Dumps options input shelf output fault × IsUntold told
 
 -- ---- what inputs come to, where nothing fails and memory is there
 
@@ -35,8 +35,8 @@ abbrev pub ComesTo : Job → Inputs → Fault → Type 0
 ComesTo (Script (Generate count)) inputs fault = fault ≡ Fine
 ComesTo (Script Steer) inputs fault = SteeringComesTo inputs.text fault
 ComesTo (Script job) inputs fault = RunningComesTo inputs.text fault
-ComesTo (Decode table only) inputs fault = DecodingComesTo (inputs.files table) inputs.text fault
-ComesTo (Dump table options only) inputs fault = DumpingComesTo options (inputs.files table) inputs.text fault
+ComesTo (Decode options) inputs fault = DecodingComesTo options inputs fault
+ComesTo (Dump options) inputs fault = DumpingComesTo options inputs fault
 
 -- some inputs that are as told come to this
 abbrev pub MayComeTo : Job → Option (List ℕ) → Option (List ℕ → Option (List ℕ)) → Fault → Type 0

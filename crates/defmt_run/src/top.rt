@@ -130,16 +130,12 @@ fn work_on<S: Source, F: Shelf, K: Sink, G: Gate + Sync, R: Threads + Wait + Syn
 {
     match job {
         Job::Script(job) => script_outcome(rt, alloc, job, src, out, gate),
-        Job::Decode { table, only } => {
-            let fault = decode(alloc, table.as_str(), only, src, shelf, out);
+        Job::Decode(options) => {
+            let fault = decode(alloc, options, src, shelf, out);
             Outcome::silent(alloc, fault)
         }
-        Job::Dump {
-            table,
-            options,
-            only,
-        } => {
-            let fault = dump(alloc, table.as_str(), options, only, src, shelf, out);
+        Job::Dump(options) => {
+            let fault = dump(alloc, options, src, shelf, out);
             Outcome::silent(alloc, fault)
         }
     }

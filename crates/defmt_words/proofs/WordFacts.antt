@@ -17,6 +17,10 @@ use Rattle.defmt_words.specs.Words.{job, no_options, refusals, rows}
 abbrev running : Bool → Job
 running group = Script (Run (record no_options { group = group }))
 
+-- the lines of a recording, and all of them
+abbrev decoding : Text → Job
+decoding file = Decode (record { table = file; only = None })
+
 module _ (name : Text) where
   plain : job (name ∷ codes "run" ∷ []) ≡ Some (Script (Run no_options))
   unfolding clap_on_literals refusals rows
@@ -30,11 +34,11 @@ module _ (name : Text) where
   unfolding clap_on_literals refusals rows
   group_first = refl
 
-  decodes : job (name ∷ codes "decode" ∷ codes "--table=t.elf" ∷ []) ≡ Some (Decode (codes "t.elf") None)
+  decodes : job (name ∷ codes "decode" ∷ codes "--table=t.elf" ∷ []) ≡ Some (decoding (codes "t.elf"))
   unfolding clap_on_literals refusals rows
   decodes = refl
 
-  decodes_apart : job (name ∷ codes "decode" ∷ codes "--table" ∷ codes "t.elf" ∷ []) ≡ Some (Decode (codes "t.elf") None)
+  decodes_apart : job (name ∷ codes "decode" ∷ codes "--table" ∷ codes "t.elf" ∷ []) ≡ Some (decoding (codes "t.elf"))
   unfolding clap_on_literals refusals rows
   decodes_apart = refl
 
@@ -94,7 +98,7 @@ module _ (name : Text) where
   unfolding clap_on_literals refusals rows
   no_value = refl
 
-  empty_value : job (name ∷ codes "decode" ∷ codes "--table=" ∷ []) ≡ Some (Decode [] None)
+  empty_value : job (name ∷ codes "decode" ∷ codes "--table=" ∷ []) ≡ Some (decoding [])
   unfolding clap_on_literals refusals rows
   empty_value = refl
 
@@ -146,12 +150,12 @@ module _ (name : Text) where
   unfolding clap_on_literals refusals rows
   no_table = refl
 
-  dumps : job (name ∷ codes "dump" ∷ codes "--table=t.elf" ∷ []) ≡ Some (Dump (codes "t.elf") (record { base = 536870912; up = 0; old = false }) None)
+  dumps : job (name ∷ codes "dump" ∷ codes "--table=t.elf" ∷ []) ≡ Some (Dump (record { table = codes "t.elf"; base = 536870912; up = 0; old = false; only = None }))
   unfolding clap_on_literals refusals rows
   dumps = refl
 
   dumps_all : job (name ∷ codes "--old" ∷ codes "dump" ∷ codes "--table=t.elf" ∷ codes "--up=3" ∷ codes "--base=0x1fFf" ∷ [])
-      ≡ Some (Dump (codes "t.elf") (record { base = 8191; up = 3; old = true }) None)
+      ≡ Some (Dump (record { table = codes "t.elf"; base = 8191; up = 3; old = true; only = None }))
   unfolding clap_on_literals refusals rows strip
   dumps_all = refl
 
@@ -184,7 +188,7 @@ module _ (name : Text) where
   stray_only = refl
 
   -- the table may have any name
-  any_table : (file : Text) → job (name ∷ codes "decode" ∷ (codes "--table=" ++ file) ∷ []) ≡ Some (Decode file None)
+  any_table : (file : Text) → job (name ∷ codes "decode" ∷ (codes "--table=" ++ file) ∷ []) ≡ Some (decoding file)
   unfolding clap_on_literals refusals rows
   any_table file = refl
 

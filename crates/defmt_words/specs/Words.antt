@@ -10,7 +10,6 @@ use Rattle.defmt_words.specs.declared.job.Job.{Job}
 use Rattle.defmt_words.specs.declared.job.Job.TheVariants.{Script, Decode, Dump}
 use Rattle.defmt_words.specs.declared.job.ScriptJob.TheVariants.{Run, Record, Terminals, Steer, Table, Print, Generate}
 use Rattle.defmt_words.specs.declared.job.RunOptions.{RunOptions}
-use Rattle.defmt_words.specs.declared.job.DumpOptions.{DumpOptions}
 use Rattle.defmt_words.specs.declared.job.Kind.{Kind}
 use Rattle.defmt_words.specs.declared.job.Kind.TheVariants.{Place, Value, Flag}
 use Rattle.defmt_hooks.specs.declared.rules.Rules.{Rules}
@@ -103,7 +102,8 @@ run_by rows = option_map (λ only. Script (Run (record { group = is_set (codes "
 
 abbrev pub decode_by : List Row → Option Job
 decode_by rows =
-    option_and_then (λ table. option_map (λ only. Decode table only) (only_by rows)) (first_of (codes "table") rows)
+    option_and_then (λ table. option_map (λ only. Decode (record { table = table; only = only })) (only_by rows))
+    (first_of (codes "table") rows)
 
 -- the address that `--base` spells, or 20000000
 abbrev pub base_in : List Row → Option ℕ
@@ -113,15 +113,11 @@ base_in rows = option_map_or hexadecimal_in (first_of (codes "base") rows) (Some
 abbrev pub up_in : List Row → Option ℕ
 up_in rows = option_map_or (decimal_in 0 15) (first_of (codes "up") rows) (Some 0)
 
-abbrev pub dump_options : List Row → Option DumpOptions
-dump_options rows = option_and_then
-    (λ base. option_map (λ up. record { base = base; up = up; old = is_set (codes "old") rows }) (up_in rows))
-    (base_in rows)
-
 abbrev pub dump_by : List Row → Option Job
-dump_by rows = option_and_then
-    (λ table. option_and_then (λ options. option_map (λ only. Dump table options only) (only_by rows)) (dump_options rows))
-    (first_of (codes "table") rows)
+dump_by rows =
+    option_and_then (λ table. option_and_then (λ base. option_and_then (λ up. option_map (λ only.
+    Dump (record { table = table; base = base; up = up; old = is_set (codes "old") rows; only = only }))
+    (only_by rows)) (up_in rows)) (base_in rows)) (first_of (codes "table") rows)
 
 abbrev pub generate_by : List Row → Option Job
 generate_by rows =

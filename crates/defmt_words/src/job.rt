@@ -14,21 +14,9 @@ pub enum Job {
     /// A command on a script.
     Script(ScriptJob),
     /// `decode --table FILE [--only RULES]`: the lines of a recording.
-    Decode {
-        /// The name of the file that holds the table.
-        table: Text,
-        /// `--only RULES`: which lines are printed, or else all.
-        only: Option<Rules>,
-    },
+    Decode(DecodeOptions),
     /// `dump --table FILE [--base 0xHEX] [--up N] [--old] [--only RULES]`: the lines of an up-buffer in an image of memory.
-    Dump {
-        /// The name of the file that holds the table.
-        table: Text,
-        /// Which bytes of the image are decoded.
-        options: DumpOptions,
-        /// `--only RULES`: which lines are printed, or else all.
-        only: Option<Rules>,
-    },
+    Dump(DumpOptions),
 }
 
 /// What is done with a script.
@@ -71,15 +59,28 @@ impl RunOptions {
     }
 }
 
+/// The options of `decode`.
+#[derive(Drop)]
+pub struct DecodeOptions {
+    /// `--table FILE`: the name of the file that holds the table.
+    pub table: Text,
+    /// `--only RULES`: which lines are printed, or else all.
+    pub only: Option<Rules>,
+}
+
 /// The options of `dump`.
-#[derive(Clone, Copy, Drop)]
+#[derive(Drop)]
 pub struct DumpOptions {
+    /// `--table FILE`: the name of the file that holds the table.
+    pub table: Text,
     /// `--base 0xHEX`: the address of the first byte of an image that isn't a core file, or else 0x20000000.
     pub base: u32,
     /// `--up N`: the number of the up-buffer, or else 0.
     pub up: u32,
     /// `--old`: whether all bytes of the buffer are decoded, and not those alone that wait.
     pub old: bool,
+    /// `--only RULES`: which lines are printed, or else all.
+    pub only: Option<Rules>,
 }
 
 /// How a parameter stands in the words.

@@ -11,6 +11,6 @@ mod only;
 mod parameters;
 mod reading;
 
-pub use job::{DumpOptions, Job, RunOptions, ScriptJob};
+pub use job::{DecodeOptions, DumpOptions, Job, RunOptions, ScriptJob};
 pub use number::{Count, Within};
 pub use reading::job_of;

@@ -1,10 +1,10 @@
 //! The job by what was found in the words.
 ghost use Rattle.std.specs.Prelude.{◌≡◌, map, IfOk, string_bytes};
 ghost use Rattle.clap.specs.Words.{found_of, rows_of};
-ghost use Rattle.defmt_words.specs.Words.{chosen, job, choice, base_in, decode_by, dump_by, dump_options, generate_by, only_by, run_by, up_in};
+ghost use Rattle.defmt_words.specs.Words.{chosen, job, choice, base_in, decode_by, dump_by, generate_by, only_by, run_by, up_in};
 
 use crate::command_line::matches_of;
-use crate::job::{DumpOptions, Job, RunOptions, ScriptJob, parameters};
+use crate::job::{DecodeOptions, DumpOptions, Job, RunOptions, ScriptJob, parameters};
 use crate::number::{Up, decimal_of, hexadecimal_of};
 use crate::only::only_of;
 use crate::parameters::{all_go, is_set, value_of};
@@ -47,10 +47,10 @@ fn decode_job(alloc: Global, matches: &ArgMatches<'_>) -> Result<Option<Job>, Me
         return Ok(None);
     };
     let table = text_of(alloc, name)?;
-    match only_by(alloc, matches)? {
-        Some(only) => Ok(Some(Job::Decode { table, only })),
-        None => Ok(None),
-    }
+    let Some(only) = only_by(alloc, matches)? else {
+        return Ok(None);
+    };
+    Ok(Some(Job::Decode(DecodeOptions { table, only })))
 }
 
 // Where the memory of a Cortex-M begins.
@@ -75,33 +75,30 @@ fn up_of(matches: &ArgMatches<'_>) -> Option<u32>
     Some(up.number())
 }
 
-fn dump_options(matches: &ArgMatches<'_>) -> Option<DumpOptions>
-    ensures { result ≡ dump_options (rows_of (found_of matches.now)) }
-{
-    let base = base_of(matches)?;
-    let up = up_of(matches)?;
-    let old = is_set(matches, "old");
-    Some(DumpOptions { base, up, old })
-}
-
 fn dump_job(alloc: Global, matches: &ArgMatches<'_>) -> Result<Option<Job>, Memory>
     ensures { IfOk result (λ job. job ≡ dump_by (rows_of (found_of matches.now))) }
 {
     let Some(name) = value_of(matches, "table") else {
         return Ok(None);
     };
-    let Some(options) = dump_options(matches) else {
+    let Some(base) = base_of(matches) else {
+        return Ok(None);
+    };
+    let Some(up) = up_of(matches) else {
         return Ok(None);
     };
     let table = text_of(alloc, name)?;
-    match only_by(alloc, matches)? {
-        Some(only) => Ok(Some(Job::Dump {
-            table,
-            options,
-            only,
-        })),
-        None => Ok(None),
-    }
+    let Some(only) = only_by(alloc, matches)? else {
+        return Ok(None);
+    };
+    let old = is_set(matches, "old");
+    Ok(Some(Job::Dump(DumpOptions {
+        table,
+        base,
+        up,
+        old,
+        only,
+    })))
 }
 
 fn generate_job(matches: &ArgMatches<'_>) -> Option<Job>

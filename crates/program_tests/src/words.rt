@@ -1,6 +1,6 @@
 //! What words ask for. A row is the words, which single spaces part, and the job.
 use crate::rows::{Kind, each_line};
-use defmt_words::{DumpOptions, Job, RunOptions, ScriptJob, job_of};
+use defmt_words::{DecodeOptions, DumpOptions, Job, RunOptions, ScriptJob, job_of};
 use std::alloc::Global;
 use std::test::Fail;
 use test_rows::{put, put_hexadecimal, put_number, words_of};
@@ -102,7 +102,13 @@ fn put_script_job(job: &ScriptJob, out: &mut String) {
     }
 }
 
-fn put_dump(table: &str, options: &DumpOptions, out: &mut String) {
+fn put_decode(options: &DecodeOptions, out: &mut String) {
+    put(out, "decode by ");
+    put(out, options.table.as_str());
+    put_rules(options.only.is_some(), out);
+}
+
+fn put_dump(options: &DumpOptions, out: &mut String) {
     let what = if options.old {
         "all of"
     } else {
@@ -114,27 +120,15 @@ fn put_dump(table: &str, options: &DumpOptions, out: &mut String) {
     put(out, " from ");
     put_hexadecimal(out, u64::from(options.base));
     put(out, " by ");
-    put(out, table);
+    put(out, options.table.as_str());
+    put_rules(options.only.is_some(), out);
 }
 
 fn put_job(job: &Option<Job>, out: &mut String) {
     match job {
         Some(Job::Script(job)) => put_script_job(job, out),
-        Some(Job::Decode { table, only }) => {
-            put(out, "decode by ");
-            put(out, table.as_str());
-            put_rules(only.is_some(), out);
-        }
-        Some(
-            Job::Dump {
-                table,
-                options,
-                only,
-            },
-        ) => {
-            put_dump(table.as_str(), options, out);
-            put_rules(only.is_some(), out);
-        }
+        Some(Job::Decode(options)) => put_decode(options, out),
+        Some(Job::Dump(options)) => put_dump(options, out),
         None => put(out, "nothing"),
     }
 }

@@ -1,5 +1,17 @@
-use Rattle.std.proofs.Common.{inr}
+use Rattle.std.proofs.Common.{inl, inr, List, refl, subst, ℕ}
+use Rattle.defmt_recording.proofs.ToldInputs.{keeps}
+use Rattle.defmt_recording.specs.Calls.{files_of}
+use Rattle.defmt_recording.specs.Decoding.{Loaded, RefusesTable}
 use Rattle.defmt_recording.proofs.dumping.dump.Goals as goal
 
 pub returns-in-Ok-clause-dumps : goal.returns-in-Ok-clause-dumps
-returns-in-Ok-clause-dumps g c = inr (c.in-Ok.host.table, c.in-Ok.ensures.loaded, c.show.ensures.shows)
+returns-in-Ok-clause-dumps g c =
+    let shelf = files_of g.F.Shelf.files g.F.Shelf.faults c.args.shelf.now c.load.new.shelf in
+    let loaded = subst (λ (name : List ℕ). Loaded shelf name c.in-Ok.host.table) c.as_str.ensures.text c.in-Ok.ensures.loaded in
+    inr (c.in-Ok.host.table, loaded, c.show.ensures.shows)
+
+pub returns-in-Err-clause-dumps : goal.returns-in-Err-clause-dumps
+returns-in-Err-clause-dumps g c =
+    let shelf = files_of g.F.Shelf.files g.F.Shelf.faults c.args.shelf.now c.load.new.shelf in
+    let refused = subst (λ (name : List ℕ). RefusesTable shelf name c.in-Err.fault) c.as_str.ensures.text c.in-Err.ensures.refused in
+    inl (refused, record { left = keeps (g.S.Source.left c.args.src.now); faults = refl }, record { held = keeps (g.K.Sink.held c.args.out.now); faults = refl })

@@ -11,7 +11,7 @@ returns-in-Ok-clause-shows g c =
     inr (
       c.in-Ok.bytes.items,
       c.in-Ok.ensures.gives,
-      subst (λ (bytes : List ℕ). PrintsBy c.args.only.now c.args.host.table bytes output c.print_bytes.result) c.as_slice.ensures c.print_bytes.ensures.prints,
+      subst (λ (bytes : List ℕ). PrintsBy c.args.options.now.only c.args.host.table bytes output c.print_bytes.result) c.as_slice.ensures c.print_bytes.ensures.prints,
     )
 
 pub returns-in-Err-clause-shows : goal.returns-in-Err-clause-shows

@@ -1,4 +1,4 @@
-use Rattle.std.proofs.Common.{List, refl, subst, sym, ℕ}
+use Rattle.std.proofs.Common.{refl, subst, sym}
 use Rattle.std.specs.Prelude.{Some}
 use Rattle.defmt_listen.specs.Streams.{Input, Output, input_of, output_of}
 use Rattle.defmt_recording.specs.Calls.{Files, files_of}
@@ -24,8 +24,7 @@ returns-in-Decode-clause-answer g c =
     let shelf : Files = files_of g.F.Shelf.files g.F.Shelf.faults c.args.shelf.now c.decode-fault.new.shelf in
     let output : Output = output_of g.K.Sink.held g.K.Sink.faults c.args.out.now c.decode-fault.new.out in
     subst (λ (job : Job). Answers (Some job) input shelf output c.silent.result.fault (told c.silent.result)) (sym c.in-Decode.is) (
-      subst (λ (f : Fault). Decodes c.in-Decode.table c.in-Decode.only input shelf output f) (sym c.silent.ensures.fault)
-          (subst (λ (name : List ℕ). Decodes name c.in-Decode.only input shelf output c.decode-fault.result) c.as_str.ensures.text c.decode-fault.ensures.decodes),
+      subst (λ (f : Fault). Decodes c.in-Decode.options input shelf output f) (sym c.silent.ensures.fault) c.decode-fault.ensures.decodes,
       c.silent.ensures.untold,
     )
 
@@ -35,7 +34,6 @@ returns-in-Dump-clause-answer g c =
     let shelf : Files = files_of g.F.Shelf.files g.F.Shelf.faults c.args.shelf.now c.dump-fault.new.shelf in
     let output : Output = output_of g.K.Sink.held g.K.Sink.faults c.args.out.now c.dump-fault.new.out in
     subst (λ (job : Job). Answers (Some job) input shelf output c.silent-in-Dump.result.fault (told c.silent-in-Dump.result)) (sym c.in-Dump.is) (
-      subst (λ (f : Fault). Dumps c.in-Dump.table c.in-Dump.options c.in-Dump.only input shelf output f) (sym c.silent-in-Dump.ensures.fault)
-          (subst (λ (name : List ℕ). Dumps name c.in-Dump.options c.in-Dump.only input shelf output c.dump-fault.result) c.as_str-in-Dump.ensures.text c.dump-fault.ensures.dumps),
+      subst (λ (f : Fault). Dumps c.in-Dump.options input shelf output f) (sym c.silent-in-Dump.ensures.fault) c.dump-fault.ensures.dumps,
       c.silent-in-Dump.ensures.untold,
     )
