@@ -5,7 +5,7 @@ use Rattle.std.proofs.Math.ListN.{drop_of_length-le}
 use Rattle.std.specs.Io.KnownBytes.{Appends}
 use Rattle.dl_io.specs.Outside.{Rose}
 use Rattle.defmt_framing.specs.Told.{events}
-use Rattle.defmt_listen.specs.Streams.{Input, Output, WroteFront}
+use Rattle.defmt_listen.specs.Streams.{Input, Output, WroteFront, input_of}
 use Rattle.defmt_listen.specs.Heard.{Reports, lines, faults, recording_limit, HeardAll, HeardFront, Breaks, ToldAll, ToldFront}
 use Rattle.defmt_listen.specs.declared.fault.ListenFault.{ListenFault}
 use Rattle.defmt_listen.specs.declared.fault.ListenFault.TheVariants.{Source, Sink, Long, Memory}
@@ -27,7 +27,7 @@ never_rose rose = absurd (omega (arith, rose))
 -- ---- a recording that is these bytes
 
 abbrev pub given : List ℕ → List ℕ → Input
-given bytes after = record { left = Some bytes; left_after = Some after; faults = 0; faults_after = 0 }
+given bytes after = input_of Some (λ left. 0) bytes after
 
 module _ {S E : Type 0} (r : Reports S E) (bytes after : List ℕ) (output : Output) where
   pub told_all : (count : ℕ) → HeardAll r (given bytes after) output count → ToldAll r bytes output count

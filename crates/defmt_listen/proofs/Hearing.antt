@@ -6,6 +6,7 @@ use Rattle.dl_io.proofs.Streams.{appends_then, appends_none}
 use Rattle.defmt_framing.specs.Told.{Tells, begun}
 use Rattle.defmt_framing.specs.Framing.{Framing, Stands, Hears}
 use Rattle.defmt_framing.proofs.Standing.{HearsSo, hears_start, hears_more, hears_all}
+use Rattle.defmt_listen.specs.Streams.{Output}
 use Rattle.defmt_listen.specs.Heard.{Reporting, lines_from, state_behind, faults_among, HeardPart, HeardSome}
 use Rattle.defmt_listen.proofs.Fronts.{Front, then_front, lines-append, behind-append, faults-append}
 
@@ -82,11 +83,12 @@ module _ {S E : Type 0} (t : Tells E) (r : Reporting S E) (state : S) (first : F
     fits = so.fits;
   }
 
+module _ {S E : Type 0} (t : Tells E) (r : Reporting S E) (state : S) (first : Framing) (bytes : List ℕ) (output : Output) (count : ℕ) where
   -- a front of what is gathered is written
-  pub stops : (state_now : S) (now : Framing) (rest : List ℕ) (held_now held_after : Option (List ℕ)) (gathered : List ℕ) (count_now faults_before faults_after : ℕ)
-      → Hearing t r state state_now first now bytes rest held held_now gathered count count_now → Front held_now held_after gathered
-      → (stream : List ℕ) → Stands first stream → HeardSome t r state (record { held = held; held_after = held_after; faults = faults_before; faults_after = faults_after }) stream bytes
-  stops state_now now rest held_now held_after gathered count_now faults_before faults_after so front_ stream st =
+  pub stops : (state_now : S) (now : Framing) (rest : List ℕ) (held_now : Option (List ℕ)) (gathered : List ℕ) (count_now : ℕ)
+      → Hearing t r state state_now first now bytes rest output.held held_now gathered count count_now → Front held_now output.held_after gathered
+      → (stream : List ℕ) → Stands first stream → HeardSome t r state output stream bytes
+  stops state_now now rest held_now gathered count_now so front_ stream st =
       let heard = so.hears.heard stream st in
       record {
         front = so.hears.taken;
@@ -94,22 +96,21 @@ module _ {S E : Type 0} (t : Tells E) (r : Reporting S E) (state : S) (first : F
         told = so.told;
         is = so.hears.bytes_are;
         tells_all = heard.as_told.tells_all ∙ ap (λ (l : List E). begun t stream ++ l) (sym heard.appended);
-        written = subst (Front held held_after) so.lines_are (then_front held held_now held_after so.written gathered so.appended front_);
+        written = subst (Front output.held output.held_after) so.lines_are (then_front output.held held_now output.held_after so.written gathered so.appended front_);
       }
 
   -- nothing more is written
-  pub stands_still : (state_now : S) (now : Framing) (rest : List ℕ) (held_now : Option (List ℕ)) (gathered : List ℕ) (count_now faults_before faults_after : ℕ)
-      → Hearing t r state state_now first now bytes rest held held_now gathered count count_now
-      → (stream : List ℕ) → Stands first stream → HeardSome t r state (record { held = held; held_after = held_now; faults = faults_before; faults_after = faults_after }) stream bytes
-  stands_still state_now now rest held_now gathered count_now faults_before faults_after so stream st =
-      stops state_now now rest held_now held_now gathered count_now faults_before faults_after so (0, omega arith, appends_none held_now) stream st
+  pub stands_still : (state_now : S) (now : Framing) (rest gathered : List ℕ) (count_now : ℕ)
+      → Hearing t r state state_now first now bytes rest output.held output.held_after gathered count count_now
+      → (stream : List ℕ) → Stands first stream → HeardSome t r state output stream bytes
+  stands_still state_now now rest gathered count_now so stream st =
+      stops state_now now rest output.held_after gathered count_now so (0, omega arith, appends_none output.held_after) stream st
 
   -- all is heard, and all is written
-  pub ends : (state_now : S) (now : Framing) (rest : List ℕ) (held_now held_after : Option (List ℕ)) (gathered : List ℕ) (count_now faults_before faults_after : ℕ)
-      → Hearing t r state state_now first now bytes rest held held_now gathered count count_now → length rest ≡ 0 → Appends held_now held_after gathered
-      → (stream : List ℕ) → Stands first stream
-      → HeardPart t r now state state_now (record { held = held; held_after = held_after; faults = faults_before; faults_after = faults_after }) stream bytes count count_now
-  ends state_now now rest held_now held_after gathered count_now faults_before faults_after so none all_ stream st =
+  pub ends : (state_now : S) (now : Framing) (rest : List ℕ) (held_now : Option (List ℕ)) (gathered : List ℕ) (count_now : ℕ)
+      → Hearing t r state state_now first now bytes rest output.held held_now gathered count count_now → length rest ≡ 0 → Appends held_now output.held_after gathered
+      → (stream : List ℕ) → Stands first stream → HeardPart t r now state state_now output stream bytes count count_now
+  ends state_now now rest held_now gathered count_now so none all_ stream st =
       let heard = hears_all t first now bytes rest [] so.told so.hears none stream st in
       record {
         told = so.told;
@@ -118,6 +119,6 @@ module _ {S E : Type 0} (t : Tells E) (r : Reporting S E) (state : S) (first : F
           tells_all = heard.as_told.tells_all ∙ ap (λ (l : List E). begun t stream ++ l) (sym heard.appended);
         };
         moved = so.moved;
-        written = subst (Appends held held_after) so.lines_are (appends_then held held_now held_after so.written gathered so.appended all_);
+        written = subst (Appends output.held output.held_after) so.lines_are (appends_then output.held held_now output.held_after so.written gathered so.appended all_);
         counted = so.counted;
       }

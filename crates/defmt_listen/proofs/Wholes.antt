@@ -51,13 +51,13 @@ module _ {S E : Type 0} (r : Reports S E) (left held : Option (List ℕ)) where
   }
 
   -- one part more
-  pub more : (state_now state_after : S) (now after : Framing) (left_now left_after held_now held_after : Option (List ℕ)) (taken count count_after faults_before faults_after : ℕ) (part : List ℕ)
-      → Listening r state_now now left left_now held held_now taken count → Consumes left_now left_after part → taken + length part ≤ recording_limit
+  pub more : (state_now state_after : S) (now after : Framing) (left_now left_after : Option (List ℕ)) (output : Output) (taken count count_after : ℕ) (part : List ℕ)
+      → Listening r state_now now left left_now held output.held taken count → Consumes left_now left_after part → taken + length part ≤ recording_limit
       → ((stream : List ℕ) → Stands now stream
-      → HeardPart r.tells r.reporting after state_now state_after (record { held = held_now; held_after = held_after; faults = faults_before; faults_after = faults_after }) stream part count count_after)
+      → HeardPart r.tells r.reporting after state_now state_after output stream part count count_after)
       → count_after ≤ count + length part
-      → Listening r state_after after left left_after held held_after (taken + length part) count_after
-  more state_now state_after now after left_now left_after held_now held_after taken count count_after faults_before faults_after part so took fits heard few =
+      → Listening r state_after after left left_after held output.held_after (taken + length part) count_after
+  more state_now state_after now after left_now left_after output taken count count_after part so took fits heard few =
       let one = heard so.bytes so.stands in
       record {
         bytes = so.bytes ++ part;
@@ -65,8 +65,8 @@ module _ {S E : Type 0} (r : Reports S E) (left held : Option (List ℕ)) where
         within = fits;
         took = consumes_then left left_now left_after so.bytes part so.took took;
         stands = one.as_told.stands;
-        written = subst (Appends held held_after) (join state_now (begun r.tells so.bytes) one.told (begun r.tells (so.bytes ++ part)) so.moved one.as_told.tells_all)
-            (appends_then held held_now held_after (lines r (begun r.tells so.bytes)) (lines_from r.reporting state_now one.told) so.written one.written);
+        written = subst (Appends held output.held_after) (join state_now (begun r.tells so.bytes) one.told (begun r.tells (so.bytes ++ part)) so.moved one.as_told.tells_all)
+            (appends_then held output.held output.held_after (lines r (begun r.tells so.bytes)) (lines_from r.reporting state_now one.told) so.written one.written);
         moved = one.moved ∙ ap (λ (s : S). state_behind r.reporting s one.told) so.moved ∙ sym (behind-append r.reporting r.start (begun r.tells so.bytes) one.told)
             ∙ ap (state_behind r.reporting r.start) (sym one.as_told.tells_all);
         counted = one.counted ∙ ap (λ (n : ℕ). n + faults r one.told) so.counted ∙ sym (faults-append r.reporting (begun r.tells so.bytes) one.told) ∙ ap (faults r) (sym one.as_told.tells_all);
@@ -88,30 +88,29 @@ module _ {S E : Type 0} (r : Reports S E) (left held : Option (List ℕ)) where
     few = so.few;
   }
 
-  module _ (state_now : S) (now : Framing) (left_now held_now : Option (List ℕ)) (taken count : ℕ) (so : Listening r state_now now left left_now held held_now taken count)
-      (left_after : Option (List ℕ)) (source_before source_after sink_before sink_after : ℕ) where
-    -- the source fails
-    pub source : Keeps left_now left_after
-        → HeardBegun r (record { left = left; left_after = left_after; faults = source_before; faults_after = source_after }) (record { held = held; held_after = held_now; faults = sink_before; faults_after = sink_after })
-    source same = record { bytes = so.bytes; taken = keeps_none left left_now left_after so.bytes so.took same; within = omega (arith, so.size, so.within); written = so.written }
+module _ {S E : Type 0} (r : Reports S E) (input : Input) (output : Output) (state_now : S) (now : Framing) (left_now : Option (List ℕ)) (taken count : ℕ) where
+  -- the source fails
+  pub source : Listening r state_now now input.left left_now output.held output.held_after taken count → Keeps left_now input.left_after → HeardBegun r input output
+  source so same = record { bytes = so.bytes; taken = keeps_none input.left left_now input.left_after so.bytes so.took same; within = omega (arith, so.size, so.within); written = so.written }
 
-    -- one byte more than the limit
-    pub long : taken ≡ recording_limit → Took left_now left_after (λ (l : List ℕ). length l ≡ 1)
-        → HeardTooMuch r (record { left = left; left_after = left_after; faults = source_before; faults_after = source_after }) (record { held = held; held_after = held_now; faults = sink_before; faults_after = sink_after })
-    long full one = record {
-      bytes = so.bytes ++ one.0;
-      taken = consumes_then left left_now left_after so.bytes one.0 so.took one.2;
-      size = omega (arith, length-append so.bytes one.0, so.size, one.1, full);
-      written = subst (λ (l : List ℕ). Appends held held_now (lines r (begun r.tells l))) (sym (take_at so.bytes one.0 recording_limit (so.size ∙ full))) so.written;
-    }
+  -- one byte more than the limit
+  pub long : Listening r state_now now input.left left_now output.held output.held_after taken count → taken ≡ recording_limit
+      → Took left_now input.left_after (λ (l : List ℕ). length l ≡ 1) → HeardTooMuch r input output
+  long so full one = record {
+    bytes = so.bytes ++ one.0;
+    taken = consumes_then input.left left_now input.left_after so.bytes one.0 so.took one.2;
+    size = omega (arith, length-append so.bytes one.0, so.size, one.1, full);
+    written = subst (λ (l : List ℕ). Appends output.held output.held_after (lines r (begun r.tells l))) (sym (take_at so.bytes one.0 recording_limit (so.size ∙ full))) so.written;
+  }
 
+  module _ (held_now : Option (List ℕ)) (so : Listening r state_now now input.left left_now output.held held_now taken count) where
     -- a front of a part is heard, and a front of its lines is written
-    pub part : (held_after : Option (List ℕ)) (bytes : List ℕ) (before after : ℕ) → Consumes left_now left_after bytes → taken + length bytes ≤ recording_limit
-        → ((stream : List ℕ) → Stands now stream → HeardSome r.tells r.reporting state_now (record { held = held_now; held_after = held_after; faults = before; faults_after = after }) stream bytes)
-        → HeardFront r (record { left = left; left_after = left_after; faults = source_before; faults_after = source_after }) (record { held = held; held_after = held_after; faults = sink_before; faults_after = sink_after })
-    part held_after bytes before after took fits heard =
+    pub part : (before : ℕ) (bytes : List ℕ) → Consumes left_now input.left_after bytes → taken + length bytes ≤ recording_limit
+        → ((stream : List ℕ) → Stands now stream → HeardSome r.tells r.reporting state_now (record output { held = held_now; faults = before }) stream bytes)
+        → HeardFront r input output
+    part before bytes took fits heard =
         let some = heard so.bytes so.stands in
-        let rest = rest_of left_after in
+        let rest = rest_of input.left_after in
         let whole = (so.bytes ++ bytes) ++ rest.0 in
         let on = events_go r.tells (so.bytes ++ some.front) (some.rest ++ rest.0) in
         let whole_is : whole ≡ (so.bytes ++ some.front) ++ (some.rest ++ rest.0) =
@@ -122,64 +121,64 @@ module _ {S E : Type 0} (r : Reports S E) (left held : Option (List ℕ)) where
         let more_lines = lines_from r.reporting (state_behind r.reporting r.start (begun r.tells so.bytes ++ some.told)) on.more in
         let text : lines r (events r.tells whole) ≡ heard_lines ++ more_lines =
         ap (lines r) told ∙ lines-append r.reporting r.start (begun r.tells so.bytes ++ some.told) on.more
-        ∙ ap (λ (l : List ℕ). l ++ more_lines) (sym (join state_now (begun r.tells so.bytes) some.told (begun r.tells so.bytes ++ some.told) so.moved refl)) in
+        ∙ ap (λ (l : List ℕ). l ++ more_lines) (sym (join r input.left output.held state_now (begun r.tells so.bytes) some.told (begun r.tells so.bytes ++ some.told) so.moved refl)) in
         record {
           bytes = so.bytes ++ bytes;
           rest = rest.0;
-          taken = consumes_then left left_now left_after so.bytes bytes so.took took;
+          taken = consumes_then input.left left_now input.left_after so.bytes bytes so.took took;
           within = omega (arith, length-append so.bytes bytes, so.size, fits);
           is_rest = rest.1;
-          written = longer_front held held_after heard_lines more_lines (lines r (events r.tells whole)) text
-              (then_front held held_now held_after (lines r (begun r.tells so.bytes)) (lines_from r.reporting state_now some.told) so.written some.written);
+          written = longer_front output.held output.held_after heard_lines more_lines (lines r (events r.tells whole)) text
+              (then_front output.held held_now output.held_after (lines r (begun r.tells so.bytes)) (lines_from r.reporting state_now some.told) so.written some.written);
         }
 
-  module _ (state_now : S) (now : Framing) (left_now held_now : Option (List ℕ)) (taken count : ℕ) (so : Listening r state_now now left left_now held held_now taken count) (end : IsAtEnd left_now)
-      (last : Option E) (finishes : (stream : List ℕ) → Stands now stream → events r.tells stream ≡ begun r.tells stream ++ option_to_list last) (source_before source_after sink_before sink_after : ℕ) where
+module _ {S E : Type 0} (r : Reports S E) (input : Input) (output : Output) (state_now : S) (now : Framing) (taken count : ℕ) (end : IsAtEnd input.left_after)
+    (last : Option E) (finishes : (stream : List ℕ) → Stands now stream → events r.tells stream ≡ begun r.tells stream ++ option_to_list last) where
+  module _ (held_now : Option (List ℕ)) (so : Listening r state_now now input.left input.left_after output.held held_now taken count) where
     all_lines : lines r (events r.tells so.bytes) ≡ lines r (begun r.tells so.bytes) ++ lines_from r.reporting state_now (option_to_list last)
-    all_lines = sym (join state_now (begun r.tells so.bytes) (option_to_list last) (events r.tells so.bytes) so.moved (finishes so.bytes so.stands))
+    all_lines = sym (join r input.left output.held state_now (begun r.tells so.bytes) (option_to_list last) (events r.tells so.bytes) so.moved (finishes so.bytes so.stands))
 
     -- all is heard and written
-    pub whole : (held_after : Option (List ℕ)) (text : List ℕ) (count_after : ℕ) → text ≡ lines_from r.reporting state_now (option_to_list last) → count_after ≡ count + faults_among r.reporting (option_to_list last) → Appends held_now held_after text
-        → HeardAll r (record { left = left; left_after = left_now; faults = source_before; faults_after = source_after }) (record { held = held; held_after = held_after; faults = sink_before; faults_after = sink_after }) count_after
-    whole held_after text count_after text_is count_is all_ = record {
+    pub whole : (text : List ℕ) (count_after : ℕ) → text ≡ lines_from r.reporting state_now (option_to_list last) → count_after ≡ count + faults_among r.reporting (option_to_list last) → Appends held_now output.held_after text
+        → HeardAll r input output count_after
+    whole text count_after text_is count_is all_ = record {
       recording = so.bytes;
       taken = so.took;
       at_end = end;
       within = omega (arith, so.size, so.within);
-      written = subst (Appends held held_after) (sym all_lines)
-          (appends_then held held_now held_after (lines r (begun r.tells so.bytes)) (lines_from r.reporting state_now (option_to_list last)) so.written (subst (Appends held_now held_after) text_is all_));
+      written = subst (Appends output.held output.held_after) (sym all_lines)
+          (appends_then output.held held_now output.held_after (lines r (begun r.tells so.bytes)) (lines_from r.reporting state_now (option_to_list last)) so.written (subst (Appends held_now output.held_after) text_is all_));
       counted = count_is ∙ ap (λ (n : ℕ). n + faults_among r.reporting (option_to_list last)) so.counted ∙ sym (faults-append r.reporting (begun r.tells so.bytes) (option_to_list last)) ∙ ap (faults r) (sym (finishes so.bytes so.stands));
     }
 
     -- a front of the last line is written
-    pub last_front : (held_after : Option (List ℕ)) (text : List ℕ) → text ≡ lines_from r.reporting state_now (option_to_list last) → Front held_now held_after text
-        → HeardFront r (record { left = left; left_after = left_now; faults = source_before; faults_after = source_after }) (record { held = held; held_after = held_after; faults = sink_before; faults_after = sink_after })
-    last_front held_after text text_is front_ = record {
+    pub last_front : (text : List ℕ) → text ≡ lines_from r.reporting state_now (option_to_list last) → Front held_now output.held_after text
+        → HeardFront r input output
+    last_front text text_is front_ = record {
       bytes = so.bytes;
       rest = [];
       taken = so.took;
       within = omega (arith, so.size, so.within);
-      is_rest = no_rest left_now end;
-      written = subst (λ (l : List ℕ). Front held held_after (lines r (events r.tells l))) (sym (append-nil so.bytes))
-          (subst (Front held held_after) (sym all_lines) (then_front held held_now held_after (lines r (begun r.tells so.bytes)) (lines_from r.reporting state_now (option_to_list last)) so.written (subst (Front held_now held_after) text_is front_)));
+      is_rest = no_rest input.left_after end;
+      written = subst (λ (l : List ℕ). Front output.held output.held_after (lines r (events r.tells l))) (sym (append-nil so.bytes))
+          (subst (Front output.held output.held_after) (sym all_lines) (then_front output.held held_now output.held_after (lines r (begun r.tells so.bytes)) (lines_from r.reporting state_now (option_to_list last)) so.written (subst (Front held_now output.held_after) text_is front_)));
     }
 
-    -- nothing of the last line is written
-    pub no_last : HeardFront r (record { left = left; left_after = left_now; faults = source_before; faults_after = source_after }) (record { held = held; held_after = held_now; faults = sink_before; faults_after = sink_after })
-    no_last = last_front held_now (lines_from r.reporting state_now (option_to_list last)) refl (0, omega arith, appends_none held_now)
+  -- nothing of the last line is written
+  pub no_last : Listening r state_now now input.left input.left_after output.held output.held_after taken count → HeardFront r input output
+  no_last so = last_front output.held_after so (lines_from r.reporting state_now (option_to_list last)) refl (0, omega arith, appends_none output.held_after)
 
 -- nothing was read
-pub untouched : {S E : Type 0} (r : Reports S E) (left held : Option (List ℕ)) (source_before source_after sink_before sink_after : ℕ)
-    → HeardFront r (record { left = left; left_after = left; faults = source_before; faults_after = source_after }) (record { held = held; held_after = held; faults = sink_before; faults_after = sink_after })
-untouched r left held source_before source_after sink_before sink_after =
-    let rest = rest_of left in
+pub untouched : {S E : Type 0} (r : Reports S E) (input : Input) (output : Output) → HeardFront r (record input { left_after = input.left }) (record output { held_after = output.held })
+untouched r input output =
+    let rest = rest_of input.left in
     record {
       bytes = [];
       rest = rest.0;
-      taken = consumes_none left;
+      taken = consumes_none input.left;
       within = omega arith;
       is_rest = rest.1;
-      written = (0, omega arith, appends_none held);
+      written = (0, omega arith, appends_none output.held);
     }
 
 -- the faults that are handed on
@@ -201,13 +200,11 @@ breaks_part r input output middle Memory why front later = front
 breaks_part r input output middle Source why front later = absurd why
 breaks_part r input output middle Long why front later = absurd why
 
-pub breaks_read : {S E : Type 0} (r : Reports S E) (left left_now left_after held held_now : Option (List ℕ)) (source_before source_middle source_after sink_before sink_after taken count : ℕ) (state_now : S) (now : Framing) (fault : ListenFault)
-    → Listening r state_now now left left_now held held_now taken count → source_before ≤ source_middle
-    → ReadsNo (record { left = left_now; left_after = left_after; faults = source_middle; faults_after = source_after }) taken fault
-    → Breaks r (record { left = left; left_after = left_after; faults = source_before; faults_after = source_after }) (record { held = held; held_after = held_now; faults = sink_before; faults_after = sink_after }) fault
-breaks_read r left left_now left_after held held_now source_before source_middle source_after sink_before sink_after taken count state_now now Source so later why =
-    (source r left held state_now now left_now held_now taken count so left_after source_before source_after sink_before sink_after why.1, rose_later source_before source_middle source_after later why.0)
-breaks_read r left left_now left_after held held_now source_before source_middle source_after sink_before sink_after taken count state_now now Long so later why =
-    long r left held state_now now left_now held_now taken count so left_after source_before source_after sink_before sink_after why.0 why.1
-breaks_read r left left_now left_after held held_now source_before source_middle source_after sink_before sink_after taken count state_now now Sink so later why = absurd why
-breaks_read r left left_now left_after held held_now source_before source_middle source_after sink_before sink_after taken count state_now now Memory so later why = absurd why
+pub breaks_read : {S E : Type 0} (r : Reports S E) (input : Input) (output : Output) (state_now : S) (now : Framing) (left_now : Option (List ℕ)) (middle taken count : ℕ) (fault : ListenFault)
+    → Listening r state_now now input.left left_now output.held output.held_after taken count → input.faults ≤ middle
+    → ReadsNo (record input { left = left_now; faults = middle }) taken fault → Breaks r input output fault
+breaks_read r input output state_now now left_now middle taken count Source so later why =
+    (source r input output state_now now left_now taken count so why.1, rose_later input.faults middle input.faults_after later why.0)
+breaks_read r input output state_now now left_now middle taken count Long so later why = long r input output state_now now left_now taken count so why.0 why.1
+breaks_read r input output state_now now left_now middle taken count Sink so later why = absurd why
+breaks_read r input output state_now now left_now middle taken count Memory so later why = absurd why

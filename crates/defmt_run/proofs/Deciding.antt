@@ -5,8 +5,8 @@ use Rattle.std.specs.Io.KnownBytes.{Consumes}
 use Rattle.std.specs.Str.Lines.{lines}
 use Rattle.std.proofs.lemmas.Bool.{true≢false}
 use Rattle.std.proofs.lemmas.Option.{same_Some}
-use Rattle.defmt_listen.specs.Streams.{Input, IsRest, Output}
-use Rattle.defmt_recording.specs.Calls.{Files, IsUnread, IsUntouched, IsUnwritten}
+use Rattle.defmt_listen.specs.Streams.{Input, IsRest, Output, input_of, output_of}
+use Rattle.defmt_recording.specs.Calls.{Files, IsUnread, IsUntouched, IsUnwritten, files_of}
 use Rattle.defmt_recording.specs.Decoding.{fault_of_recording}
 use Rattle.defmt_recording.specs.Dumping.{fault_of_image}
 use Rattle.defmt_run.specs.Running.{BlockingComesTo, Comes, ComesNot, GaveWhole, IsFaultOf, Made, MayNotSteer, ReadingComesTo, RefusesMode, Runs, RunningComesTo, SteeringComesTo, TookShort, Withholds, Writes, fault_of_read, script_limit}
@@ -250,12 +250,12 @@ wanting_from (Some (jobs.Decode options)) input shelf output told took unread un
 wanting_from (Some (jobs.Dump options)) input shelf output told took unread untouched unwritten untold = (inl (inl tt, unread, unwritten), untold)
 
 -- nothing was touched
-pub wanting_all : (asked : Option Job) (left held : Option (List ℕ)) (files : Option (List ℕ → Option (List ℕ))) (source shelf sink : ℕ) (fault : Fault) (told : Told) → fault ≡ Memory → IsUntold told
-    → Answers asked (record { left = left; left_after = left; faults = source; faults_after = source }) (record { files = files; faults = shelf; faults_after = shelf })
-    (record { held = held; held_after = held; faults = sink; faults_after = sink }) fault told
-wanting_all asked left held files source shelf sink fault told is untold =
-    let input : Input = record { left = left; left_after = left; faults = source; faults_after = source } in
-    let shelf_files : Files = record { files = files; faults = shelf; faults_after = shelf } in
-    let output : Output = record { held = held; held_after = held; faults = sink; faults_after = sink } in
+pub wanting_all : {S F K : Type 0} (asked : Option Job) (left : S → Option (List ℕ)) (source_faults : S → ℕ) (files : F → Option (List ℕ → Option (List ℕ))) (shelf_faults : F → ℕ)
+    (held : K → Option (List ℕ)) (sink_faults : K → ℕ) (source : S) (shelf : F) (sink : K) (fault : Fault) (told : Told) → fault ≡ Memory → IsUntold told
+    → Answers asked (input_of left source_faults source source) (files_of files shelf_faults shelf shelf) (output_of held sink_faults sink sink) fault told
+wanting_all asked left source_faults files shelf_faults held sink_faults source shelf sink fault told is untold =
+    let input : Input = input_of left source_faults source source in
+    let shelf_files : Files = files_of files shelf_faults shelf shelf in
+    let output : Output = output_of held sink_faults sink sink in
     subst (λ (f : Fault). Answers asked input shelf_files output f told) (sym is)
-    (wanting_from asked input shelf_files output told ([], lit≤ tt, consumes left) (record { left = keeps left; faults = refl }) refl (record { held = keeps held; faults = refl }) untold)
+    (wanting_from asked input shelf_files output told ([], lit≤ tt, consumes (left source)) (record { left = keeps (left source); faults = refl }) refl (record { held = keeps (held sink); faults = refl }) untold)

@@ -4,6 +4,7 @@ use Rattle.std.specs.Prelude.{option_to_list}
 use Rattle.defmt_framing.specs.Told.{events, begun}
 use Rattle.defmt_framing.specs.Framing.{Stands}
 use Rattle.defmt_listen.specs.Gathered.{gathered}
+use Rattle.defmt_listen.specs.Streams.{Input, Output, input_of, output_of}
 use Rattle.defmt_listen.specs.Heard.{Reports, HeardPart, HeardSome, HeardFront, Breaks, lines_from}
 use Rattle.defmt_listen.specs.declared.fault.ListenFault.TheVariants.{Memory}
 use Rattle.defmt_listen.proofs.Fronts.{if_err}
@@ -13,10 +14,11 @@ use Rattle.defmt_listen.proofs.listening.listen.Goals as goal
 pub returns-in_err-buf-clause-breaks : goal.returns-in_err-buf-clause-breaks
 returns-in_err-buf-clause-breaks g c =
     let r : Reports g.row.R.Denot g.row.L-Event.Denot = record { tells = g.L.Listener.tells c.args.listener; reporting = g.R.Reporter.reporting; start = c.args.reporter } in
-    if_err (Breaks r (record { left = g.S.Source.left c.args.src.now; left_after = g.S.Source.left c.args.src.now; faults = g.S.Source.faults c.args.src.now; faults_after = g.S.Source.faults c.args.src.now })
-    (record { held = g.K.Sink.held c.args.out.now; held_after = g.K.Sink.held c.args.out.now; faults = g.K.Sink.faults c.args.out.now; faults_after = g.K.Sink.faults c.args.out.now }))
+    let input : Input = input_of g.S.Source.left g.S.Source.faults c.args.src.now c.args.src.now in
+    let output : Output = output_of g.K.Sink.held g.K.Sink.faults c.args.out.now c.args.out.now in
+    if_err (Breaks r input output)
     c.from_residual.result Memory c.from_residual.ensures.1
-    (untouched r (g.S.Source.left c.args.src.now) (g.K.Sink.held c.args.out.now) (g.S.Source.faults c.args.src.now) (g.S.Source.faults c.args.src.now) (g.K.Sink.faults c.args.out.now) (g.K.Sink.faults c.args.out.now))
+    (untouched r input output)
 
 pub parts-init : goal.parts-init
 parts-init g c = record {
@@ -36,36 +38,38 @@ parts-init g c = record {
 pub returns-in_err-count-clause-breaks : goal.returns-in_err-count-clause-breaks
 returns-in_err-count-clause-breaks g c =
     let r : Reports g.row.R.Denot g.row.L-Event.Denot = record { tells = g.L.Listener.tells c.args.listener; reporting = g.R.Reporter.reporting; start = c.args.reporter } in
-    if_err (Breaks r (record { left = g.S.Source.left c.args.src.now; left_after = g.S.Source.left c.next_part.new.src; faults = g.S.Source.faults c.args.src.now; faults_after = g.S.Source.faults c.next_part.new.src }) (record { held = g.K.Sink.held c.args.out.now; held_after = g.K.Sink.held c.parts.out; faults = g.K.Sink.faults c.args.out.now; faults_after = g.K.Sink.faults c.parts.out }))
+    let input : Input = input_of g.S.Source.left g.S.Source.faults c.args.src.now c.next_part.new.src in
+    let output : Output = output_of g.K.Sink.held g.K.Sink.faults c.args.out.now c.parts.out in
+    if_err (Breaks r input output)
     c.from_residual-in_err-count.result c.in_err-count.field-0.0 c.from_residual-in_err-count.ensures.1
-    (breaks_read r (g.S.Source.left c.args.src.now) (g.S.Source.left c.parts.src) (g.S.Source.left c.next_part.new.src) (g.K.Sink.held c.args.out.now) (g.K.Sink.held c.parts.out)
-    (g.S.Source.faults c.args.src.now) (g.S.Source.faults c.parts.src) (g.S.Source.faults c.next_part.new.src) (g.K.Sink.faults c.args.out.now) (g.K.Sink.faults c.parts.out)
-    c.parts.taken c.parts.report.faults c.parts.reporter (g.L.Listener.framing c.parts.listener) c.in_err-count.field-0.0 c.parts.invariant.listening c.parts.invariant.source_later c.in_err-count.ensures.refused)
+    (breaks_read r input output c.parts.reporter (g.L.Listener.framing c.parts.listener) (g.S.Source.left c.parts.src) (g.S.Source.faults c.parts.src)
+    c.parts.taken c.parts.report.faults c.in_err-count.field-0.0 c.parts.invariant.listening c.parts.invariant.source_later c.in_err-count.ensures.refused)
 
 pub returns-in_err-hear_part-clause-breaks : goal.returns-in_err-hear_part-clause-breaks
 returns-in_err-hear_part-clause-breaks g c =
     let r : Reports g.row.R.Denot g.row.L-Event.Denot = record { tells = g.L.Listener.tells c.args.listener; reporting = g.R.Reporter.reporting; start = c.args.reporter } in
+    let input : Input = input_of g.S.Source.left g.S.Source.faults c.args.src.now c.next_part.new.src in
+    let output : Output = output_of g.K.Sink.held g.K.Sink.faults c.args.out.now c.hear_part.new.out in
+    let between : Output = output_of g.K.Sink.held g.K.Sink.faults c.parts.out c.hear_part.new.out in
     let bytes : List ℕ = take c.in_ok-count.count c.next_part.new.buf in
     let len : length c.next_part.new.buf ≡ c.parts.buf.len = omega (arith, c.next_part.auto.buf, c.deref_mut.ensures.len) in
     let whole_is : c.deref.result.now ≡ c.next_part.new.buf = c.deref.ensures.value ∙ take_at c.next_part.new.buf (drop (length c.next_part.new.buf) c.parts.buf.items) c.parts.buf.len len in
     let part_is : take c.in_ok-count.count c.deref.result.now ≡ bytes = ap (take c.in_ok-count.count) whole_is in
     let fits : c.parts.taken + length bytes ≤ 268435456 = omega (arith, length-take c.in_ok-count.count c.next_part.new.buf, c.in_ok-count.ensures.within.0, c.in_ok-count.ensures.within.1) in
-    let front : HeardFront r (record { left = g.S.Source.left c.args.src.now; left_after = g.S.Source.left c.next_part.new.src; faults = g.S.Source.faults c.args.src.now; faults_after = g.S.Source.faults c.next_part.new.src }) (record { held = g.K.Sink.held c.args.out.now; held_after = g.K.Sink.held c.hear_part.new.out; faults = g.K.Sink.faults c.args.out.now; faults_after = g.K.Sink.faults c.hear_part.new.out }) =
-    part r (g.S.Source.left c.args.src.now) (g.K.Sink.held c.args.out.now) c.parts.reporter (g.L.Listener.framing c.parts.listener) (g.S.Source.left c.parts.src) (g.K.Sink.held c.parts.out) c.parts.taken c.parts.report.faults c.parts.invariant.listening
-    (g.S.Source.left c.next_part.new.src) (g.S.Source.faults c.args.src.now) (g.S.Source.faults c.next_part.new.src) (g.K.Sink.faults c.args.out.now) (g.K.Sink.faults c.hear_part.new.out)
-    (g.K.Sink.held c.hear_part.new.out) bytes (g.K.Sink.faults c.parts.out) (g.K.Sink.faults c.hear_part.new.out) c.in_ok-count.ensures.bytes fits
-    (λ stream st. subst (λ tells. HeardSome tells g.R.Reporter.reporting c.parts.reporter
-    (record { held = g.K.Sink.held c.parts.out; held_after = g.K.Sink.held c.hear_part.new.out; faults = g.K.Sink.faults c.parts.out; faults_after = g.K.Sink.faults c.hear_part.new.out }) stream bytes)
-    c.parts.invariant.same (subst (λ (l : List ℕ). HeardSome (g.L.Listener.tells c.parts.listener) g.R.Reporter.reporting c.parts.reporter
-    (record { held = g.K.Sink.held c.parts.out; held_after = g.K.Sink.held c.hear_part.new.out; faults = g.K.Sink.faults c.parts.out; faults_after = g.K.Sink.faults c.hear_part.new.out }) stream l) part_is (c.in_err-hear_part.ensures.some stream st))) in
-    if_err (Breaks r (record { left = g.S.Source.left c.args.src.now; left_after = g.S.Source.left c.next_part.new.src; faults = g.S.Source.faults c.args.src.now; faults_after = g.S.Source.faults c.next_part.new.src }) (record { held = g.K.Sink.held c.args.out.now; held_after = g.K.Sink.held c.hear_part.new.out; faults = g.K.Sink.faults c.args.out.now; faults_after = g.K.Sink.faults c.hear_part.new.out }))
+    let front : HeardFront r input output =
+    part r input output c.parts.reporter (g.L.Listener.framing c.parts.listener) (g.S.Source.left c.parts.src) c.parts.taken c.parts.report.faults
+    (g.K.Sink.held c.parts.out) c.parts.invariant.listening (g.K.Sink.faults c.parts.out) bytes c.in_ok-count.ensures.bytes fits
+    (λ stream st. subst (λ tells. HeardSome tells g.R.Reporter.reporting c.parts.reporter between stream bytes)
+    c.parts.invariant.same (subst (λ (l : List ℕ). HeardSome (g.L.Listener.tells c.parts.listener) g.R.Reporter.reporting c.parts.reporter between stream l) part_is (c.in_err-hear_part.ensures.some stream st))) in
+    if_err (Breaks r input output)
     c.from_residual-in_err-hear_part.result c.in_err-hear_part.field-0.0 c.from_residual-in_err-hear_part.ensures.1
-    (breaks_part r (record { left = g.S.Source.left c.args.src.now; left_after = g.S.Source.left c.next_part.new.src; faults = g.S.Source.faults c.args.src.now; faults_after = g.S.Source.faults c.next_part.new.src }) (record { held = g.K.Sink.held c.args.out.now; held_after = g.K.Sink.held c.hear_part.new.out; faults = g.K.Sink.faults c.args.out.now; faults_after = g.K.Sink.faults c.hear_part.new.out })
+    (breaks_part r input output
     (g.K.Sink.faults c.parts.out) c.in_err-hear_part.field-0.0 c.in_err-hear_part.ensures.fault front c.parts.invariant.sink_later)
 
 pub parts-preserved : goal.parts-preserved
 parts-preserved g c =
     let r : Reports g.row.R.Denot g.row.L-Event.Denot = record { tells = g.L.Listener.tells c.args.listener; reporting = g.R.Reporter.reporting; start = c.args.reporter } in
+    let between : Output = output_of g.K.Sink.held g.K.Sink.faults c.parts.out c.hear_part.new.out in
     let bytes : List ℕ = take c.in_ok-count.count c.next_part.new.buf in
     let len : length c.next_part.new.buf ≡ c.parts.buf.len = omega (arith, c.next_part.auto.buf, c.deref_mut.ensures.len) in
     let whole_is : c.deref.result.now ≡ c.next_part.new.buf = c.deref.ensures.value ∙ take_at c.next_part.new.buf (drop (length c.next_part.new.buf) c.parts.buf.items) c.parts.buf.len len in
@@ -74,17 +78,14 @@ parts-preserved g c =
     let size : length bytes ≡ c.in_ok-count.count = omega (arith, length-take c.in_ok-count.count c.next_part.new.buf, c.in_ok-count.ensures.within.0) in
     let few : c.hear_part.new.report.faults ≤ c.parts.report.faults + length bytes = omega (arith, c.in_ok-hear_part.ensures.few, ap length part_is) in
     let heard : (stream : List ℕ) → Stands (g.L.Listener.framing c.parts.listener) stream → HeardPart r.tells r.reporting (g.L.Listener.framing c.hear_part.new.listener) c.parts.reporter c.hear_part.new.reporter
-    (record { held = g.K.Sink.held c.parts.out; held_after = g.K.Sink.held c.hear_part.new.out; faults = g.K.Sink.faults c.parts.out; faults_after = g.K.Sink.faults c.hear_part.new.out })
-    stream bytes c.parts.report.faults c.hear_part.new.report.faults = λ stream st.
+    between stream bytes c.parts.report.faults c.hear_part.new.report.faults = λ stream st.
     subst (λ tells. HeardPart tells g.R.Reporter.reporting (g.L.Listener.framing c.hear_part.new.listener) c.parts.reporter c.hear_part.new.reporter
-    (record { held = g.K.Sink.held c.parts.out; held_after = g.K.Sink.held c.hear_part.new.out; faults = g.K.Sink.faults c.parts.out; faults_after = g.K.Sink.faults c.hear_part.new.out })
-    stream bytes c.parts.report.faults c.hear_part.new.report.faults) c.parts.invariant.same
+    between stream bytes c.parts.report.faults c.hear_part.new.report.faults) c.parts.invariant.same
     (subst (λ (l : List ℕ). HeardPart (g.L.Listener.tells c.parts.listener) g.R.Reporter.reporting (g.L.Listener.framing c.hear_part.new.listener) c.parts.reporter c.hear_part.new.reporter
-    (record { held = g.K.Sink.held c.parts.out; held_after = g.K.Sink.held c.hear_part.new.out; faults = g.K.Sink.faults c.parts.out; faults_after = g.K.Sink.faults c.hear_part.new.out })
-    stream l c.parts.report.faults c.hear_part.new.report.faults) part_is (c.in_ok-hear_part.ensures.heard stream st)) in
+    between stream l c.parts.report.faults c.hear_part.new.report.faults) part_is (c.in_ok-hear_part.ensures.heard stream st)) in
     let one = more r (g.S.Source.left c.args.src.now) (g.K.Sink.held c.args.out.now) c.parts.reporter c.hear_part.new.reporter (g.L.Listener.framing c.parts.listener) (g.L.Listener.framing c.hear_part.new.listener)
-    (g.S.Source.left c.parts.src) (g.S.Source.left c.next_part.new.src) (g.K.Sink.held c.parts.out) (g.K.Sink.held c.hear_part.new.out) c.parts.taken c.parts.report.faults c.hear_part.new.report.faults
-    (g.K.Sink.faults c.parts.out) (g.K.Sink.faults c.hear_part.new.out) bytes c.parts.invariant.listening c.in_ok-count.ensures.bytes fits heard few in
+    (g.S.Source.left c.parts.src) (g.S.Source.left c.next_part.new.src) between c.parts.taken c.parts.report.faults c.hear_part.new.report.faults
+    bytes c.parts.invariant.listening c.in_ok-count.ensures.bytes fits heard few in
     record {
       listening = subst (λ (n : ℕ). Listening r c.hear_part.new.reporter (g.L.Listener.framing c.hear_part.new.listener) (g.S.Source.left c.args.src.now) (g.S.Source.left c.next_part.new.src) (g.K.Sink.held c.args.out.now) (g.K.Sink.held c.hear_part.new.out)
           (c.parts.taken + n) c.hear_part.new.report.faults) size one;
@@ -101,37 +102,46 @@ parts-preserved g c =
 pub returns-in_err-add_told-clause-breaks : goal.returns-in_err-add_told-clause-breaks
 returns-in_err-add_told-clause-breaks g c =
     let r : Reports g.row.R.Denot g.row.L-Event.Denot = record { tells = g.L.Listener.tells c.args.listener; reporting = g.R.Reporter.reporting; start = c.args.reporter } in
+    let input : Input = input_of g.S.Source.left g.S.Source.faults c.args.src.now c.next_part.new.src in
+    let output : Output = output_of g.K.Sink.held g.K.Sink.faults c.args.out.now c.parts.out in
     let end = c.in_ok-count.ensures.end c.if-count-eq0.true in
     let finishes : (stream : List ℕ) → Stands (g.L.Listener.framing c.parts.listener) stream → events r.tells stream ≡ begun r.tells stream ++ option_to_list c.finish.result =
     λ stream st. subst (λ tells. events tells stream ≡ begun tells stream ++ option_to_list c.finish.result) c.parts.invariant.same (c.finish.ensures stream st) in
     let so : Listening r c.parts.reporter (g.L.Listener.framing c.parts.listener) (g.S.Source.left c.args.src.now) (g.S.Source.left c.next_part.new.src) (g.K.Sink.held c.args.out.now) (g.K.Sink.held c.parts.out) c.parts.taken c.parts.report.faults =
     no_more r (g.S.Source.left c.args.src.now) (g.K.Sink.held c.args.out.now) c.parts.reporter (g.L.Listener.framing c.parts.listener) (g.S.Source.left c.parts.src) (g.S.Source.left c.next_part.new.src) (g.K.Sink.held c.parts.out) c.parts.taken c.parts.report.faults (take c.in_ok-count.count c.next_part.new.buf) c.parts.invariant.listening c.in_ok-count.ensures.bytes (omega (arith, length-take c.in_ok-count.count c.next_part.new.buf, c.if-count-eq0.true)) in
-    if_err (Breaks r (record { left = g.S.Source.left c.args.src.now; left_after = g.S.Source.left c.next_part.new.src; faults = g.S.Source.faults c.args.src.now; faults_after = g.S.Source.faults c.next_part.new.src }) (record { held = g.K.Sink.held c.args.out.now; held_after = g.K.Sink.held c.parts.out; faults = g.K.Sink.faults c.args.out.now; faults_after = g.K.Sink.faults c.parts.out }))
+    if_err (Breaks r input output)
     c.from_residual-in_err-add_told.result c.in_err-add_told.field-0.0 c.from_residual-in_err-add_told.ensures.1
-    (breaks_memory r (record { left = g.S.Source.left c.args.src.now; left_after = g.S.Source.left c.next_part.new.src; faults = g.S.Source.faults c.args.src.now; faults_after = g.S.Source.faults c.next_part.new.src }) (record { held = g.K.Sink.held c.args.out.now; held_after = g.K.Sink.held c.parts.out; faults = g.K.Sink.faults c.args.out.now; faults_after = g.K.Sink.faults c.parts.out }) c.in_err-add_told.field-0.0 c.in_err-add_told.ensures.memory
-    (no_last r (g.S.Source.left c.args.src.now) (g.K.Sink.held c.args.out.now) c.parts.reporter (g.L.Listener.framing c.parts.listener) (g.S.Source.left c.next_part.new.src) (g.K.Sink.held c.parts.out) c.parts.taken c.parts.report.faults so end c.finish.result finishes (g.S.Source.faults c.args.src.now) (g.S.Source.faults c.next_part.new.src) (g.K.Sink.faults c.args.out.now) (g.K.Sink.faults c.parts.out)))
+    (breaks_memory r input output c.in_err-add_told.field-0.0 c.in_err-add_told.ensures.memory
+    (no_last r input output c.parts.reporter (g.L.Listener.framing c.parts.listener) c.parts.taken c.parts.report.faults end c.finish.result finishes so))
 
 pub returns-in_err-write_lines-clause-breaks : goal.returns-in_err-write_lines-clause-breaks
 returns-in_err-write_lines-clause-breaks g c =
     let r : Reports g.row.R.Denot g.row.L-Event.Denot = record { tells = g.L.Listener.tells c.args.listener; reporting = g.R.Reporter.reporting; start = c.args.reporter } in
+    let input : Input = input_of g.S.Source.left g.S.Source.faults c.args.src.now c.next_part.new.src in
+    let output : Output = output_of g.K.Sink.held g.K.Sink.faults c.args.out.now c.write_lines.new.out in
     let end = c.in_ok-count.ensures.end c.if-count-eq0.true in
     let finishes : (stream : List ℕ) → Stands (g.L.Listener.framing c.parts.listener) stream → events r.tells stream ≡ begun r.tells stream ++ option_to_list c.finish.result =
     λ stream st. subst (λ tells. events tells stream ≡ begun tells stream ++ option_to_list c.finish.result) c.parts.invariant.same (c.finish.ensures stream st) in
     let so : Listening r c.parts.reporter (g.L.Listener.framing c.parts.listener) (g.S.Source.left c.args.src.now) (g.S.Source.left c.next_part.new.src) (g.K.Sink.held c.args.out.now) (g.K.Sink.held c.parts.out) c.parts.taken c.parts.report.faults =
     no_more r (g.S.Source.left c.args.src.now) (g.K.Sink.held c.args.out.now) c.parts.reporter (g.L.Listener.framing c.parts.listener) (g.S.Source.left c.parts.src) (g.S.Source.left c.next_part.new.src) (g.K.Sink.held c.parts.out) c.parts.taken c.parts.report.faults (take c.in_ok-count.count c.next_part.new.buf) c.parts.invariant.listening c.in_ok-count.ensures.bytes (omega (arith, length-take c.in_ok-count.count c.next_part.new.buf, c.if-count-eq0.true)) in
     let text_is : (gathered c.add_told.new.report) ≡ lines_from r.reporting c.parts.reporter (option_to_list c.finish.result) = ◌∙◌ {a = (gathered c.add_told.new.report)} {b = gathered c.parts.report ++ lines_from r.reporting c.parts.reporter (option_to_list c.finish.result)} c.in_ok-add_told.ensures.lines (ap (λ (l : List ℕ). l ++ lines_from r.reporting c.parts.reporter (option_to_list c.finish.result)) c.parts.invariant.empty) in
-    let front : HeardFront r (record { left = g.S.Source.left c.args.src.now; left_after = g.S.Source.left c.next_part.new.src; faults = g.S.Source.faults c.args.src.now; faults_after = g.S.Source.faults c.next_part.new.src }) (record { held = g.K.Sink.held c.args.out.now; held_after = g.K.Sink.held c.write_lines.new.out; faults = g.K.Sink.faults c.args.out.now; faults_after = g.K.Sink.faults c.write_lines.new.out }) = last_front r (g.S.Source.left c.args.src.now) (g.K.Sink.held c.args.out.now) c.parts.reporter (g.L.Listener.framing c.parts.listener) (g.S.Source.left c.next_part.new.src) (g.K.Sink.held c.parts.out) c.parts.taken c.parts.report.faults so end c.finish.result finishes (g.S.Source.faults c.args.src.now) (g.S.Source.faults c.next_part.new.src) (g.K.Sink.faults c.args.out.now) (g.K.Sink.faults c.write_lines.new.out) (g.K.Sink.held c.write_lines.new.out) (gathered c.add_told.new.report) text_is c.in_err-write_lines.ensures.front in
-    if_err (Breaks r (record { left = g.S.Source.left c.args.src.now; left_after = g.S.Source.left c.next_part.new.src; faults = g.S.Source.faults c.args.src.now; faults_after = g.S.Source.faults c.next_part.new.src }) (record { held = g.K.Sink.held c.args.out.now; held_after = g.K.Sink.held c.write_lines.new.out; faults = g.K.Sink.faults c.args.out.now; faults_after = g.K.Sink.faults c.write_lines.new.out }))
+    let front : HeardFront r input output =
+    last_front r input output c.parts.reporter (g.L.Listener.framing c.parts.listener) c.parts.taken c.parts.report.faults end c.finish.result finishes
+    (g.K.Sink.held c.parts.out) so (gathered c.add_told.new.report) text_is c.in_err-write_lines.ensures.front in
+    if_err (Breaks r input output)
     c.from_residual-in_err-write_lines.result c.in_err-write_lines.field-0.0 c.from_residual-in_err-write_lines.ensures.1
-    (breaks_sink r (record { left = g.S.Source.left c.args.src.now; left_after = g.S.Source.left c.next_part.new.src; faults = g.S.Source.faults c.args.src.now; faults_after = g.S.Source.faults c.next_part.new.src }) (record { held = g.K.Sink.held c.args.out.now; held_after = g.K.Sink.held c.write_lines.new.out; faults = g.K.Sink.faults c.args.out.now; faults_after = g.K.Sink.faults c.write_lines.new.out }) (g.K.Sink.faults c.parts.out) c.in_err-write_lines.field-0.0 c.in_err-write_lines.ensures.sink.0 front c.parts.invariant.sink_later c.in_err-write_lines.ensures.sink.1)
+    (breaks_sink r input output (g.K.Sink.faults c.parts.out) c.in_err-write_lines.field-0.0 c.in_err-write_lines.ensures.sink.0 front c.parts.invariant.sink_later c.in_err-write_lines.ensures.sink.1)
 
 pub returns-clause-heard : goal.returns-clause-heard
 returns-clause-heard g c =
     let r : Reports g.row.R.Denot g.row.L-Event.Denot = record { tells = g.L.Listener.tells c.args.listener; reporting = g.R.Reporter.reporting; start = c.args.reporter } in
+    let input : Input = input_of g.S.Source.left g.S.Source.faults c.args.src.now c.next_part.new.src in
+    let output : Output = output_of g.K.Sink.held g.K.Sink.faults c.args.out.now c.write_lines.new.out in
     let end = c.in_ok-count.ensures.end c.if-count-eq0.true in
     let finishes : (stream : List ℕ) → Stands (g.L.Listener.framing c.parts.listener) stream → events r.tells stream ≡ begun r.tells stream ++ option_to_list c.finish.result =
     λ stream st. subst (λ tells. events tells stream ≡ begun tells stream ++ option_to_list c.finish.result) c.parts.invariant.same (c.finish.ensures stream st) in
     let so : Listening r c.parts.reporter (g.L.Listener.framing c.parts.listener) (g.S.Source.left c.args.src.now) (g.S.Source.left c.next_part.new.src) (g.K.Sink.held c.args.out.now) (g.K.Sink.held c.parts.out) c.parts.taken c.parts.report.faults =
     no_more r (g.S.Source.left c.args.src.now) (g.K.Sink.held c.args.out.now) c.parts.reporter (g.L.Listener.framing c.parts.listener) (g.S.Source.left c.parts.src) (g.S.Source.left c.next_part.new.src) (g.K.Sink.held c.parts.out) c.parts.taken c.parts.report.faults (take c.in_ok-count.count c.next_part.new.buf) c.parts.invariant.listening c.in_ok-count.ensures.bytes (omega (arith, length-take c.in_ok-count.count c.next_part.new.buf, c.if-count-eq0.true)) in
     let text_is : (gathered c.add_told.new.report) ≡ lines_from r.reporting c.parts.reporter (option_to_list c.finish.result) = ◌∙◌ {a = (gathered c.add_told.new.report)} {b = gathered c.parts.report ++ lines_from r.reporting c.parts.reporter (option_to_list c.finish.result)} c.in_ok-add_told.ensures.lines (ap (λ (l : List ℕ). l ++ lines_from r.reporting c.parts.reporter (option_to_list c.finish.result)) c.parts.invariant.empty) in
-    rw c.write_lines.ensures.faults (whole r (g.S.Source.left c.args.src.now) (g.K.Sink.held c.args.out.now) c.parts.reporter (g.L.Listener.framing c.parts.listener) (g.S.Source.left c.next_part.new.src) (g.K.Sink.held c.parts.out) c.parts.taken c.parts.report.faults so end c.finish.result finishes (g.S.Source.faults c.args.src.now) (g.S.Source.faults c.next_part.new.src) (g.K.Sink.faults c.args.out.now) (g.K.Sink.faults c.write_lines.new.out) (g.K.Sink.held c.write_lines.new.out) (gathered c.add_told.new.report) c.add_told.new.report.faults text_is c.in_ok-add_told.ensures.faults c.in_ok-write_lines.ensures.ok)
+    rw c.write_lines.ensures.faults (whole r input output c.parts.reporter (g.L.Listener.framing c.parts.listener) c.parts.taken c.parts.report.faults end c.finish.result finishes
+    (g.K.Sink.held c.parts.out) so (gathered c.add_told.new.report) c.add_told.new.report.faults text_is c.in_ok-add_told.ensures.faults c.in_ok-write_lines.ensures.ok)

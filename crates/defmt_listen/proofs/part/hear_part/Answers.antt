@@ -5,6 +5,7 @@ use Rattle.defmt_framing.specs.Framing.{Hears}
 use Rattle.defmt_framing.specs.Notices.{told_by}
 use Rattle.defmt_listen.specs.Gathered.{gathered}
 use Rattle.defmt_listen.specs.Heard.{lines_from}
+use Rattle.defmt_listen.specs.Streams.{output_of}
 use Rattle.defmt_listen.proofs.Fronts.{on_err}
 use Rattle.defmt_listen.proofs.Gathering.{long_front}
 use Rattle.defmt_listen.proofs.Hearing.{start, more, writes, stops, stands_still, ends, one_event, some_left}
@@ -23,13 +24,15 @@ add_noticed-requires-clause-within g c = long_front c.parts.report.text.items c.
 
 pub returns-in-Err-clause-some : goal.returns-in-Err-clause-some
 returns-in-Err-clause-some g c =
-    (stands_still (g.L.Listener.tells c.args.listener.now) g.R.Reporter.reporting c.args.reporter.now (g.L.Listener.framing c.args.listener.now) c.args.bytes.now (g.K.Sink.held c.args.out.now) c.args.report.now.faults
-    c.parts.reporter (g.L.Listener.framing c.parts.listener) c.parts.rest.now (g.K.Sink.held c.parts.out) (gathered c.parts.report) c.parts.report.faults (g.K.Sink.faults c.args.out.now) (g.K.Sink.faults c.parts.out) c.parts.invariant.hearing)
+    (stands_still (g.L.Listener.tells c.args.listener.now) g.R.Reporter.reporting c.args.reporter.now (g.L.Listener.framing c.args.listener.now) c.args.bytes.now
+    (output_of g.K.Sink.held g.K.Sink.faults c.args.out.now c.parts.out) c.args.report.now.faults
+    c.parts.reporter (g.L.Listener.framing c.parts.listener) c.parts.rest.now (gathered c.parts.report) c.parts.report.faults c.parts.invariant.hearing)
 
 pub returns-in_err-add_noticed-in-Ok-clause-some : goal.returns-in_err-add_noticed-in-Ok-clause-some
 returns-in_err-add_noticed-in-Ok-clause-some g c =
-    on_err c.from_residual.result (stands_still (g.L.Listener.tells c.args.listener.now) g.R.Reporter.reporting c.args.reporter.now (g.L.Listener.framing c.args.listener.now) c.args.bytes.now (g.K.Sink.held c.args.out.now) c.args.report.now.faults
-    c.parts.reporter (g.L.Listener.framing c.parts.listener) c.parts.rest.now (g.K.Sink.held c.parts.out) (gathered c.parts.report) c.parts.report.faults (g.K.Sink.faults c.args.out.now) (g.K.Sink.faults c.parts.out) c.parts.invariant.hearing)
+    on_err c.from_residual.result (stands_still (g.L.Listener.tells c.args.listener.now) g.R.Reporter.reporting c.args.reporter.now (g.L.Listener.framing c.args.listener.now) c.args.bytes.now
+    (output_of g.K.Sink.held g.K.Sink.faults c.args.out.now c.parts.out) c.args.report.now.faults
+    c.parts.reporter (g.L.Listener.framing c.parts.listener) c.parts.rest.now (gathered c.parts.report) c.parts.report.faults c.parts.invariant.hearing)
 
 pub parts-preserved : goal.parts-preserved
 parts-preserved g c =
@@ -56,18 +59,20 @@ returns-in_err-write_gathered-in-Ok-clause-some g c =
     (λ stream st. subst (λ tells. Hears tells (g.L.Listener.framing c.hear.new.self) stream (take c.in-Ok.taken c.parts.rest.now) (told_by g.L.Listener.line (drop c.parts.report.end c.hear.new.text.items) c.in-Ok.notice)) c.parts.invariant.same (c.in-Ok.ensures.hears stream st))
     c.split_at.ensures.back (c.in_ok-add_noticed-in-Ok.ensures.lines ∙ ap (λ (l : List ℕ). l ++ lines_from g.R.Reporter.reporting c.parts.reporter (option_to_list (told_by g.L.Listener.line (drop c.parts.report.end c.hear.new.text.items) c.in-Ok.notice))) (ap (λ (l : List ℕ). c.parts.report.lines.items ++ l) c.hear.ensures.front)) c.in_ok-add_noticed-in-Ok.ensures.moved c.in_ok-add_noticed-in-Ok.ensures.faults (one_event g.R.Reporter.reporting (told_by g.L.Listener.line (drop c.parts.report.end c.hear.new.text.items) c.in-Ok.notice))
     (c.in-Ok.ensures.some (some_left c.parts.rest.now _ c.is_empty.ensures c.parts-test.true)) (some_left c.parts.rest.now _ c.is_empty.ensures c.parts-test.true) in
-    on_err c.from_residual-in_err-write_gathered-in-Ok.result (stops (g.L.Listener.tells c.args.listener.now) g.R.Reporter.reporting c.args.reporter.now (g.L.Listener.framing c.args.listener.now) c.args.bytes.now (g.K.Sink.held c.args.out.now) c.args.report.now.faults
-    c.add_noticed.new.reporter (g.L.Listener.framing c.hear.new.self) c.split_at.result.1.now (g.K.Sink.held c.parts.out) (g.K.Sink.held c.write_gathered.new.out) (gathered c.add_noticed.new.report) c.add_noticed.new.report.faults
-    (g.K.Sink.faults c.args.out.now) (g.K.Sink.faults c.write_gathered.new.out) one c.in_err-write_gathered-in-Ok.ensures.front)
+    on_err c.from_residual-in_err-write_gathered-in-Ok.result (stops (g.L.Listener.tells c.args.listener.now) g.R.Reporter.reporting c.args.reporter.now (g.L.Listener.framing c.args.listener.now) c.args.bytes.now
+    (output_of g.K.Sink.held g.K.Sink.faults c.args.out.now c.write_gathered.new.out) c.args.report.now.faults
+    c.add_noticed.new.reporter (g.L.Listener.framing c.hear.new.self) c.split_at.result.1.now (g.K.Sink.held c.parts.out) (gathered c.add_noticed.new.report) c.add_noticed.new.report.faults one c.in_err-write_gathered-in-Ok.ensures.front)
 
 pub returns-in_err-write_lines-clause-some : goal.returns-in_err-write_lines-clause-some
 returns-in_err-write_lines-clause-some g c =
-    on_err c.from_residual-in_err-write_lines.result (stops (g.L.Listener.tells c.args.listener.now) g.R.Reporter.reporting c.args.reporter.now (g.L.Listener.framing c.args.listener.now) c.args.bytes.now (g.K.Sink.held c.args.out.now) c.args.report.now.faults
-    c.parts.reporter (g.L.Listener.framing c.parts.listener) c.parts.rest.now (g.K.Sink.held c.parts.out) (g.K.Sink.held c.write_lines.new.out) (gathered c.parts.report) c.parts.report.faults (g.K.Sink.faults c.args.out.now) (g.K.Sink.faults c.write_lines.new.out)
+    on_err c.from_residual-in_err-write_lines.result (stops (g.L.Listener.tells c.args.listener.now) g.R.Reporter.reporting c.args.reporter.now (g.L.Listener.framing c.args.listener.now) c.args.bytes.now
+    (output_of g.K.Sink.held g.K.Sink.faults c.args.out.now c.write_lines.new.out) c.args.report.now.faults
+    c.parts.reporter (g.L.Listener.framing c.parts.listener) c.parts.rest.now (g.K.Sink.held c.parts.out) (gathered c.parts.report) c.parts.report.faults
     c.parts.invariant.hearing c.in_err-write_lines.ensures.front)
 
 pub returns-clause-heard : goal.returns-clause-heard
 returns-clause-heard g c =
-    rw c.write_lines.ensures.faults (ends (g.L.Listener.tells c.args.listener.now) g.R.Reporter.reporting c.args.reporter.now (g.L.Listener.framing c.args.listener.now) c.args.bytes.now (g.K.Sink.held c.args.out.now) c.args.report.now.faults
-    c.parts.reporter (g.L.Listener.framing c.parts.listener) c.parts.rest.now (g.K.Sink.held c.parts.out) (g.K.Sink.held c.write_lines.new.out) (gathered c.parts.report) c.parts.report.faults (g.K.Sink.faults c.args.out.now) (g.K.Sink.faults c.write_lines.new.out)
+    rw c.write_lines.ensures.faults (ends (g.L.Listener.tells c.args.listener.now) g.R.Reporter.reporting c.args.reporter.now (g.L.Listener.framing c.args.listener.now) c.args.bytes.now
+    (output_of g.K.Sink.held g.K.Sink.faults c.args.out.now c.write_lines.new.out) c.args.report.now.faults
+    c.parts.reporter (g.L.Listener.framing c.parts.listener) c.parts.rest.now (g.K.Sink.held c.parts.out) (gathered c.parts.report) c.parts.report.faults
     c.parts.invariant.hearing (eqb-true _ 0 (sym c.is_empty.ensures ∙ c.parts-test.false)) c.in_ok-write_lines.ensures.ok)

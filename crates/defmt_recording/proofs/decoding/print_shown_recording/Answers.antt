@@ -17,5 +17,6 @@ returns-in-Ok-clause-hears g c =
 
 pub returns-in-Err-clause-hears : goal.returns-in-Err-clause-hears
 returns-in-Err-clause-hears g c =
-    untouched (shown_reports c.args.rules.now c.args.host.table) (g.S.Source.left c.args.src.now) (g.K.Sink.held c.args.out.now)
-    (g.S.Source.faults c.args.src.now) (g.S.Source.faults c.args.src.now) (g.K.Sink.faults c.args.out.now) (g.K.Sink.faults c.args.out.now)
+    untouched (shown_reports c.args.rules.now c.args.host.table)
+    (input_of g.S.Source.left g.S.Source.faults c.args.src.now c.args.src.now)
+    (output_of g.K.Sink.held g.K.Sink.faults c.args.out.now c.args.out.now)

@@ -4,6 +4,5 @@ use Rattle.defmt_run.proofs.top.perform.Goals as goal
 
 pub returns-in-Err-clause-answer : goal.returns-in-Err-clause-answer
 returns-in-Err-clause-answer g c = λ job is.
-    wanting_all job (g.S.Source.left c.args.src.now) (g.K.Sink.held c.args.out.now) (g.F.Shelf.files c.args.shelf.now)
-    (g.S.Source.faults c.args.src.now) (g.F.Shelf.faults c.args.shelf.now) (g.K.Sink.faults c.args.out.now) c.silent-in-Err.result.fault
-    (told c.silent-in-Err.result) c.silent-in-Err.ensures.fault c.silent-in-Err.ensures.untold
+    wanting_all job g.S.Source.left g.S.Source.faults g.F.Shelf.files g.F.Shelf.faults g.K.Sink.held g.K.Sink.faults
+    c.args.src.now c.args.shelf.now c.args.out.now c.silent-in-Err.result.fault (told c.silent-in-Err.result) c.silent-in-Err.ensures.fault c.silent-in-Err.ensures.untold
