@@ -21,7 +21,7 @@ use Rattle.defmt_hints.specs.Digits.{digits, zero_filled, number_text}
 use Rattle.defmt_hints.specs.Escapes.{escape_of, escaped, quoted_text, byte_escape_of, byte_escaped, byte_text}
 use Rattle.defmt_hints.specs.Printed.{prefix_text, base_number, is_upper, radix_text, decimal_text, fraction_text, signed_text, twos_complement, printed_uint, printed_int, printed_bool, printed_char, printed_str, printed_byte, printed_bytes, list_text, parted}
 use Rattle.defmt_eager.specs.Answers.{most_bytes}
-use Rattle.defmt_eager.specs.Line.{text_limit}
+use Rattle.defmt_eager.specs.Line.{printed_limit}
 use Rattle.defmt_eager.specs.Show.{int_text, bits_text}
 
 -- ---- digits
@@ -259,7 +259,7 @@ bytes_most Micros bytes small = as_list 300 (printed_byte Micros) byte_most byte
 bytes_most Millis bytes small = as_list 300 (printed_byte Millis) byte_most bytes small
 
 pub bytes_bound : (hint : Hint) (bytes : List ℕ) (each bound : ℕ) → AreBytes bytes → each ≡ most_bytes hint
-    → (bound ≤ text_limit → bound ≡ length bytes * (2 + each) + 3) → bound ≤ text_limit → length (printed_bytes bytes hint) ≤ bound
+    → (bound ≤ printed_limit → bound ≡ length bytes * (2 + each) + 3) → bound ≤ printed_limit → length (printed_bytes bytes hint) ≤ bound
 bytes_bound hint bytes each bound small e h few =
     let k : bound ≡ length bytes * (2 + most_bytes hint) + 3 = h few ∙ ap (λ (n : ℕ). length bytes * (2 + n) + 3) e in
     omega (arith, k, bytes_most hint bytes small)

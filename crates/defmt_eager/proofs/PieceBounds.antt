@@ -11,7 +11,7 @@ use Rattle.defmt_values.specs.Scan.{index_or}
 use Rattle.defmt_values.specs.View.{elems_of}
 use Rattle.defmt_values.specs.declared.value.Item.{Item}
 use Rattle.defmt_eager.specs.Answers.{comma}
-use Rattle.defmt_eager.specs.Line.{text_limit}
+use Rattle.defmt_eager.specs.Line.{printed_limit}
 use Rattle.defmt_eager.specs.Show.{Shown, acting, node_pieces, param_text, piece_text, pieces_text, show_val, show_elems, shows}
 use Rattle.defmt_eager.proofs.Appends.{param_none, param_some, pieces_step, joined, elems_step}
 use Rattle.defmt_eager.proofs.Bounds.{str_most}
@@ -59,7 +59,7 @@ list_few xs most h = omega (arith, parted_few xs, length-append (codes "[") (par
 
 -- ---- interned strings
 
-pub text_bound : (text : List ℕ) (hint : Hint) (bound : ℕ) → (bound ≤ text_limit → bound ≡ length text * 2 + 3) → bound ≤ text_limit → length (printed_str text hint) ≤ bound
+pub text_bound : (text : List ℕ) (hint : Hint) (bound : ℕ) → (bound ≤ printed_limit → bound ≡ length text * 2 + 3) → bound ≤ printed_limit → length (printed_str text hint) ≤ bound
 text_bound text hint bound h few = omega (arith, str_most text hint, h few)
 
 pub index_is : (o : Option ℕ) → unwrap_or o 0 ≡ index_or o

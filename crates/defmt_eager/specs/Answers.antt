@@ -1,6 +1,6 @@
 -- What the calls answer.
 use Rattle.std.specs.Prelude.{◌≡◌, ◌≤◌, ◌<◌, ℕ, ◌+◌, List, [], ◌++◌, Bool, codes, length, Option, Result, Ok, Err, if◌then◌else◌}
-use Rattle.defmt_eager.specs.Line.{text_limit, stamp_text, front_text, eager_line, IsLong, IsWide}
+use Rattle.defmt_eager.specs.Line.{printed_limit, stamp_text, front_text, eager_line, IsLong, IsWide}
 use Rattle.defmt_eager.specs.Show.{eager_text}
 use Rattle.defmt_eager.specs.declared.eager.EagerFault.{EagerFault}
 use Rattle.defmt_eager.specs.declared.eager.EagerFault.TheVariants.{Wide, Memory}
@@ -12,7 +12,7 @@ use Rattle.defmt_values.specs.Plain.{Vals}
 
 -- the text of a statement, which is within the limit; that it isn't; or want of memory
 abbrev pub GivesText : Result Text EagerFault → Map → ℕ → Vals → Type 0
-GivesText (Ok out) t index vs = (out ≡ eager_text t index vs) × (length out ≤ text_limit)
+GivesText (Ok out) t index vs = (out ≡ eager_text t index vs) × (length out ≤ printed_limit)
 GivesText (Err Wide) t index vs = IsLong (eager_text t index vs)
 GivesText (Err Memory) t index vs = Unit {0}
 
@@ -38,7 +38,7 @@ Shows limit old new (Err Memory) text = Unit {0}
 -- what stands in front of a statement's text, where the stamp's text is within the limit
 abbrev pub GivesFront : Result Text EagerFault → Map → Option ℕ → Vals → Option (List ℕ) → Type 0
 GivesFront (Ok out) t at stamp level = (out ≡ front_text t at stamp level)
-    × (length (stamp_text t at stamp) ≤ text_limit) × (length out ≤ text_limit + 7)
+    × (length (stamp_text t at stamp) ≤ printed_limit) × (length out ≤ printed_limit + 7)
 GivesFront (Err Wide) t at stamp level = IsLong (stamp_text t at stamp)
 GivesFront (Err Memory) t at stamp level = Unit {0}
 

@@ -10,8 +10,8 @@ use Rattle.defmt_values.specs.Entries.{look}
 use Rattle.defmt_values.specs.Plain.{Vals}
 
 -- the most bytes of the text of a statement, and of that of a stamp
-abbrev pub text_limit : ℕ
-text_limit = 65536
+abbrev pub printed_limit : ℕ
+printed_limit = 65536
 
 -- the name of a level, left in five places; what is no level has none
 abbrev pub level_text : Tag → Option (List ℕ)
@@ -49,7 +49,7 @@ eager_line t stamp index vs =
 
 -- the text has too many bytes
 abbrev pub IsLong : List ℕ → Type 0
-IsLong text = text_limit < length text
+IsLong text = printed_limit < length text
 
 -- the stamp's text or the statement's has too many bytes
 abbrev pub IsWide : Map → Vals → ℕ → Vals → Type 0

@@ -9,7 +9,7 @@ use defmt_values::Statement;
 use std::alloc::Global;
 
 /// The most bytes of the text of a statement, and of that of a stamp.
-pub const TEXT_LIMIT: usize = 65_536;
+pub const PRINTED_LIMIT: usize = 65_536;
 
 /// Why there is no text.
 #[derive(Clone, Copy, Debug, Drop, PartialEq, Eq)]
@@ -41,6 +41,6 @@ pub fn text_of(alloc: Global, table: &Table, stm: &Statement) -> Result<Text, Ea
     ensures { GivesText result table.now.entries stm.now.index stm.now.args }
 {
     let mut out = Text::new(alloc);
-    push_statement(table, &mut out, TEXT_LIMIT, stm.index, &stm.args)?;
+    push_statement(table, &mut out, PRINTED_LIMIT, stm.index, &stm.args)?;
     Ok(out)
 }

@@ -2,12 +2,12 @@
 ghost use Rattle.std.specs.Prelude.{◌≡◌, ◌≤◌, ◌++◌, [], length, IfOk, IfSome, OnOk};
 ghost use Rattle.std.specs.Option.{option_map, ForSome};
 ghost use Rattle.defmt_eager.specs.Answers.{Shows, GivesFront, GivesLine};
-ghost use Rattle.defmt_eager.specs.Line.{level_text, level_at, stamp_text, stamp_space, text_limit};
+ghost use Rattle.defmt_eager.specs.Line.{level_text, level_at, stamp_text, stamp_space, printed_limit};
 ghost use Rattle.defmt_eager.specs.Show.{own_pieces};
 ghost use Rattle.defmt_intern.specs.Stamp.{stamp_of};
 ghost use Rattle.defmt_values.specs.Fits.{Fits, FitsStamp, IsLogged};
 
-use crate::eager::{EagerFault, TEXT_LIMIT};
+use crate::eager::{EagerFault, PRINTED_LIMIT};
 use crate::pieces::pieces_of;
 use crate::values::{push_pieces, push_statement};
 use defmt_grammar::{Hint, Memory, Piece, Text};
@@ -49,12 +49,12 @@ fn push_stamp(
     at: Option<u16>,
     stamp: &Args,
 ) -> Result<(), EagerFault>
-    requires { length out.old ≤ text_limit }
-    ensures { Shows text_limit out.old out.new result (stamp_text table.now.entries at stamp.now) }
+    requires { length out.old ≤ printed_limit }
+    ensures { Shows printed_limit out.old out.new result (stamp_text table.now.entries at stamp.now) }
 {
     match at {
         None => Ok(()),
-        Some(index) => push_statement(table, out, TEXT_LIMIT, index, stamp),
+        Some(index) => push_statement(table, out, PRINTED_LIMIT, index, stamp),
     }
 }
 
@@ -116,7 +116,7 @@ pub fn line(alloc: Global, table: &Table, stamp: &Args, stm: &Statement) -> Resu
 {
     let (level, pieces) = parts_at(table, stm.index);
     let mut out = front_of(alloc, table, table.stamp(), stamp, level)?;
-    let limit = out.len() + TEXT_LIMIT;
+    let limit = out.len() + PRINTED_LIMIT;
     push_pieces(table, &mut out, limit, Hint::Plain, pieces, &stm.args)?;
     Ok(out)
 }

@@ -2,7 +2,7 @@
 ghost use Rattle.std.specs.Prelude.{◌≡◌, ◌≤◌, ◌+◌, ◌*◌, nat_lt, length, IfOk};
 ghost use Rattle.std.specs.Bool.{OnTrue};
 ghost use Rattle.defmt_eager.specs.Answers.{most_bytes};
-ghost use Rattle.defmt_eager.specs.Line.{text_limit};
+ghost use Rattle.defmt_eager.specs.Line.{printed_limit};
 ghost use Rattle.defmt_eager.specs.Show.{eager_text, interned_text, piece_text, pieces_text, show_elems, show_val, shows};
 ghost use Rattle.defmt_grammar.specs.declared.hint.Hint.{Hint as AnyHint};
 ghost use Rattle.defmt_grammar.specs.declared.kind.Kind.{Kind as AnyKind};
@@ -11,7 +11,7 @@ ghost use Rattle.defmt_values.specs.Entries.{look};
 ghost use Rattle.defmt_values.specs.Fits.{Fits};
 ghost use Rattle.defmt_values.specs.View.{plain};
 
-use crate::eager::{EagerFault, TEXT_LIMIT, text_of};
+use crate::eager::{EagerFault, PRINTED_LIMIT, text_of};
 use crate::pieces::{acting, interned_text, node_pieces, own_pieces};
 use defmt_grammar::{Hint, Memory, Piece};
 use defmt_intern::Table;
@@ -31,21 +31,21 @@ fn most_bytes(hint: Hint) -> usize
 // The bytes of so many parts, and three around them. Sums stay at the greatest number: a bound above the limit says
 // nothing.
 fn bytes_of(parts: usize, most: usize) -> usize
-    ensures { result ≤ text_limit → result ≡ parts * most + 3 }
+    ensures { result ≤ printed_limit → result ≡ parts * most + 3 }
 {
     parts.saturating_mul(most).saturating_add(3)
 }
 
 // No fewer bytes than the text of these bytes has.
 fn bytes_bound(bytes: &[u8], hint: Hint) -> usize
-    ensures { result ≤ text_limit → length (printed_bytes bytes.now hint) ≤ result }
+    ensures { result ≤ printed_limit → length (printed_bytes bytes.now hint) ≤ result }
 {
     bytes_of(bytes.len(), 2 + most_bytes(hint))
 }
 
 // No fewer bytes than an interned string has, under any hint.
 fn interned_bound(table: &Table, index: u16) -> usize
-    ensures { (hint : AnyHint) → result ≤ text_limit
+    ensures { (hint : AnyHint) → result ≤ printed_limit
         → length (printed_str (interned_text (look table.now.entries index)) hint) ≤ result }
 {
     bytes_of(interned_text(table, index).len(), 2)
@@ -55,7 +55,7 @@ fn interned_bound(table: &Table, index: u16) -> usize
 #[cycle(bound)]
 #[tactic(auto, unfolding(crate::specs::Show::show_val), using(crate::proofs::Bounds::leaves))]
 fn value_bound(table: &Table, hint: Hint, value: &Value) -> usize
-    ensures { (kind : AnyKind) → result ≤ text_limit
+    ensures { (kind : AnyKind) → result ≤ printed_limit
         → length (show_val table.now.entries (plain value.now) kind hint) ≤ result }
 {
     match value {
@@ -78,7 +78,7 @@ fn value_bound(table: &Table, hint: Hint, value: &Value) -> usize
 // No fewer bytes than the text of a piece has.
 #[cycle(bound)]
 fn piece_bound(table: &Table, outer: Hint, piece: &Piece, args: &Args) -> usize
-    ensures { result ≤ text_limit
+    ensures { result ≤ printed_limit
         → length (piece_text outer piece.now (shows table.now.entries args.now)) ≤ result }
 {
     match piece {
@@ -96,7 +96,7 @@ fn piece_bound(table: &Table, outer: Hint, piece: &Piece, args: &Args) -> usize
 // The same of pieces one after another.
 #[cycle(bound)]
 fn pieces_bound(table: &Table, outer: Hint, pieces: &[Piece], args: &Args) -> usize
-    ensures { result ≤ text_limit
+    ensures { result ≤ printed_limit
         → length (pieces_text outer pieces.now (shows table.now.entries args.now)) ≤ result }
 {
     let mut rest = pieces;
@@ -111,7 +111,7 @@ fn pieces_bound(table: &Table, outer: Hint, pieces: &[Piece], args: &Args) -> us
 // The same of a list, with its brackets and two bytes around each element.
 #[cycle(bound)]
 fn list_bound(table: &Table, hint: Hint, index: u16, items: &Items) -> usize
-    ensures { result ≤ text_limit
+    ensures { result ≤ printed_limit
         → length (list_text (show_elems table.now.entries index hint items.now)) ≤ result }
 {
     let mut rest = items.as_slice();
@@ -127,11 +127,11 @@ fn list_bound(table: &Table, hint: Hint, index: u16, items: &Items) -> usize
 
 // Whether the bounds of its pieces keep the text of a statement within the limit.
 fn is_short(table: &Table, index: u16, args: &Args) -> bool
-    ensures { OnTrue result (length (eager_text table.now.entries index args.now) ≤ text_limit) }
+    ensures { OnTrue result (length (eager_text table.now.entries index args.now) ≤ printed_limit) }
 {
     let pieces = own_pieces(table, index);
     let most = pieces_bound(table, Hint::Plain, pieces, args);
-    if most > TEXT_LIMIT {
+    if most > PRINTED_LIMIT {
         return false;
     }
     true
@@ -146,7 +146,7 @@ pub fn is_wide(alloc: Global, table: &Table, stm: &Statement) -> Result<bool, Me
     requires { Fits table.now.entries stm.now.index stm.now.args }
     ensures { IfOk result
         (λ wide. wide
-        ≡ nat_lt text_limit
+        ≡ nat_lt printed_limit
         (length (eager_text table.now.entries stm.now.index stm.now.args))) }
 {
     if is_short(table, stm.index, &stm.args) {

@@ -3,7 +3,7 @@ use Rattle.std.proofs.Common.{◌≡◌, ◌≤◌, ◌<◌, ◌+◌, ◌^◌, �
 use Rattle.std.specs.Fmt.{decimal}
 use Rattle.std.specs.FinMap as map
 use Rattle.std.proofs.lemmas.Fmt.{decimal_is_IsNumeral}
-use Rattle.defmt_eager.specs.Line.{text_limit}
+use Rattle.defmt_eager.specs.Line.{printed_limit}
 use Rattle.defmt_eager.specs.Show.{eager_text, own_pieces, pieces_in, pieces_text, shows}
 use Rattle.defmt_encode.proofs.Most.{none_most}
 use Rattle.defmt_encode.specs.Carry.{bytes_val, bytes_vals}
@@ -40,7 +40,7 @@ pub record Call (turn x : ℕ) : Type 0 where
   pub logged : is_message full_table index ≡ true
   pub reads : ReadsArguments all_names full_table index args (Ok vs)
   pub short : length (first_message full_table all_settings (record { index = index; args = vs })) ≤ message_limit
-  pub narrow : length (eager_text full_table index vs) ≤ text_limit
+  pub narrow : length (eager_text full_table index vs) ≤ printed_limit
 
 -- ---- an entry of the table
 
@@ -81,8 +81,8 @@ reads_known index ps text vs k g = record {
   meant = ap (λ (q : List Place). meant_vals all_names full_table q g.shapes) g.are ∙ g.meant;
 }
 
-pub narrow_known : (index : ℕ) (ps : List Piece) (vs : Vals) → Known index ps → length (pieces_text hints.Plain ps (shows full_table vs)) ≤ text_limit → length (eager_text full_table index vs) ≤ text_limit
-narrow_known index ps vs k h = subst (λ (q : List Piece). length (pieces_text hints.Plain q (shows full_table vs)) ≤ text_limit) (sym (own_known index ps k)) h
+pub narrow_known : (index : ℕ) (ps : List Piece) (vs : Vals) → Known index ps → length (pieces_text hints.Plain ps (shows full_table vs)) ≤ printed_limit → length (eager_text full_table index vs) ≤ printed_limit
+narrow_known index ps vs k h = subst (λ (q : List Piece). length (pieces_text hints.Plain q (shows full_table vs)) ≤ printed_limit) (sym (own_known index ps k)) h
 
 abbrev pub place : Kind → Place
 place kind = record { slot = slots.One kind; uses = 1 }

@@ -3,7 +3,7 @@ use Rattle.std.proofs.Common.{◌≡◌, ◌≤◌, ◌<◌, ◌+◌, ◌%◌, �
 use Rattle.std.specs.Prelude.{codes}
 use Rattle.std.specs.Fmt.{decimal}
 use Rattle.defmt_eager.proofs.Bounds.{uint_most as shown_uint}
-use Rattle.defmt_eager.specs.Line.{text_limit}
+use Rattle.defmt_eager.specs.Line.{printed_limit}
 use Rattle.defmt_eager.specs.Show.{pieces_text, show_val, shows}
 use Rattle.defmt_encode.proofs.Most.{message_short, uint_most}
 use Rattle.defmt_generate.specs.Generated.{boot, call, fail, tick}
@@ -62,7 +62,7 @@ boot_places : places_of boot_pieces ≡ place (kinds.Uint W8) ∷ []
 unfolding slots_of positions kinds_at slot_of
 boot_places = refl
 
-boot_narrow : (n : ℕ) → n < 2 ^ 64 → length (pieces_text hints.Plain boot_pieces (shows full_table (val (uint n) no_vals))) ≤ text_limit
+boot_narrow : (n : ℕ) → n < 2 ^ 64 → length (pieces_text hints.Plain boot_pieces (shows full_table (val (uint n) no_vals))) ≤ printed_limit
 unfolding pieces_text show_val shows
 boot_narrow n small = omega (arith, shown_uint n hints.Plain (omega arith), length-append (printed_uint n hints.Plain) [])
 
@@ -93,7 +93,7 @@ fail_places : places_of fail_pieces ≡ place (kinds.Uint W32) ∷ []
 unfolding slots_of positions kinds_at slot_of
 fail_places = refl
 
-fail_narrow : (n : ℕ) → n < 2 ^ 64 → length (pieces_text hints.Plain fail_pieces (shows full_table (val (uint n) no_vals))) ≤ text_limit
+fail_narrow : (n : ℕ) → n < 2 ^ 64 → length (pieces_text hints.Plain fail_pieces (shows full_table (val (uint n) no_vals))) ≤ printed_limit
 unfolding pieces_text show_val shows
 fail_narrow n small = omega (arith, shown_uint n (hints.Radix Hex true 10) (omega arith), length-append (printed_uint n (hints.Radix Hex true 10)) [])
 
@@ -124,7 +124,7 @@ tick_places : places_of tick_pieces ≡ place (kinds.Uint W64) ∷ []
 unfolding slots_of positions kinds_at slot_of
 tick_places = refl
 
-tick_narrow : (n : ℕ) → n < 2 ^ 64 → length (pieces_text hints.Plain tick_pieces (shows full_table (val (uint n) no_vals))) ≤ text_limit
+tick_narrow : (n : ℕ) → n < 2 ^ 64 → length (pieces_text hints.Plain tick_pieces (shows full_table (val (uint n) no_vals))) ≤ printed_limit
 unfolding pieces_text show_val shows
 tick_narrow n small = omega (arith, shown_uint n hints.Plain (omega arith), length-append (printed_uint n hints.Plain) [])
 

@@ -7,7 +7,7 @@ use Rattle.std.proofs.lemmas.Bool.Decides.{nat_tests}
 use Rattle.std.proofs.lemmas.Fmt.{decimal_digit}
 use Rattle.std.proofs.lemmas.Str.{encode_ascii}
 use Rattle.defmt_eager.proofs.Bounds.{AreBytes, bytes_most, flag_most as shown_flag, int_most as shown_int, str_most as shown_str}
-use Rattle.defmt_eager.specs.Line.{text_limit}
+use Rattle.defmt_eager.specs.Line.{printed_limit}
 use Rattle.defmt_eager.specs.Show.{int_text, pieces_text, show_val, shows}
 use Rattle.defmt_encode.proofs.Most.{bytes_most as carried_bytes, flag_most, int_most, message_short, str_most}
 use Rattle.defmt_generate.specs.Generated.{call, hex, less_thousand, link, temp}
@@ -59,7 +59,7 @@ three_bytes x (suc zero) = omega arith
 three_bytes x (suc (suc zero)) = omega arith
 three_bytes x (suc (suc (suc k))) = omega arith
 
-temp_narrow : (z : ℤ) (bs : List ℕ) → AreBytes bs → length bs ≤ 3 → length (pieces_text hints.Plain temp_pieces (shows full_table (val (int z) (val (bytes bs) no_vals)))) ≤ text_limit
+temp_narrow : (z : ℤ) (bs : List ℕ) → AreBytes bs → length bs ≤ 3 → length (pieces_text hints.Plain temp_pieces (shows full_table (val (int z) (val (bytes bs) no_vals)))) ≤ printed_limit
 unfolding pieces_text show_val shows
 temp_narrow z bs are few =
     let hint : Hint = hints.Radix Hex false 2 in
@@ -166,7 +166,7 @@ link_places : places_of link_pieces ≡ place kinds.Bool ∷ place kinds.Str ∷
 unfolding slots_of positions kinds_at slot_of
 link_places = refl
 
-link_narrow : (b : Bool) (s : List ℕ) → length s ≤ 5 → length (pieces_text hints.Plain link_pieces (shows full_table (val (flag b) (val (str s) no_vals)))) ≤ text_limit
+link_narrow : (b : Bool) (s : List ℕ) → length s ≤ 5 → length (pieces_text hints.Plain link_pieces (shows full_table (val (flag b) (val (str s) no_vals)))) ≤ printed_limit
 unfolding pieces_text show_val shows
 link_narrow b s few =
     let end : List ℕ = printed_str s hints.Debug ++ [] in

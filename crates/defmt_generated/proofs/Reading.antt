@@ -3,7 +3,7 @@ use Rattle.std.proofs.Common.{◌≡◌, ◌≤◌, ◌<◌, ◌+◌, ◌%◌, �
 use Rattle.std.specs.Prelude.{if◌then◌else◌, nat_lt, not}
 use Rattle.std.specs.FinMap as map
 use Rattle.std.proofs.lemmas.Bool.Decides.{nat_tests}
-use Rattle.defmt_eager.specs.Line.{text_limit}
+use Rattle.defmt_eager.specs.Line.{printed_limit}
 use Rattle.defmt_eager.specs.Show.{eager_text}
 use Rattle.defmt_generate.specs.Generated.{drawn, generated}
 use Rattle.defmt_generated.proofs.CallParts.{Call}
@@ -122,8 +122,8 @@ module _ (i x turn w : ℕ) (s : State) (f : Follows i s) (few : i < 4096) (c : 
       subst (λ (t : Map). length (first_message t (closed s).script.settings made) ≤ message_limit) (sym f.table)
       (subst (λ (u : Settings). length (first_message full_table u made) ≤ message_limit) (sym f.settings) c.short)
 
-  is_narrow : length (eager_text (closed s).script.table c.index c.vs) ≤ text_limit
-  is_narrow = subst (λ (t : Map). length (eager_text t c.index c.vs) ≤ text_limit) (sym f.table) c.narrow
+  is_narrow : length (eager_text (closed s).script.table c.index c.vs) ≤ printed_limit
+  is_narrow = subst (λ (t : Map). length (eager_text t c.index c.vs) ≤ printed_limit) (sym f.table) c.narrow
 
   abbrev following : State
   following = with_statement (closed s) w made
@@ -133,9 +133,9 @@ module _ (i x turn w : ℕ) (s : State) (f : Follows i s) (few : i < 4096) (c : 
       let taken : Taken = Ok following in
       let here : takes_arguments (closed s) (w, c.index) (Ok c.vs) ≡ taken =
       accepted (nat_lt message_limit (length (first_message (closed s).script.table (closed s).script.settings made)))
-      (nat_lt text_limit (length (eager_text (closed s).script.table c.index c.vs))) following
+      (nat_lt printed_limit (length (eager_text (closed s).script.table c.index c.vs))) following
       (not_below message_limit (length (first_message (closed s).script.table (closed s).script.settings made)) is_short)
-      (not_below text_limit (length (eager_text (closed s).script.table c.index c.vs)) is_narrow) in
+      (not_below printed_limit (length (eager_text (closed s).script.table c.index c.vs)) is_narrow) in
       subst (λ (p : Place). TakesStatement (closed s) c.args p taken) (sym is_admitted) (Ok c.vs, arguments_read, sym here)
 
 -- ---- all statements

@@ -18,4 +18,5 @@ pub use entry::{Entry, Tag};
 pub use map::Entries;
 pub use name::{NameFault, NameKey, read_name, symbol_name};
 pub use parsed::{Forms, Parsed, count_bars, cut_variant, pieces_are_spelled};
+pub use putting::TEXT_LIMIT;
 pub use table::{Profile, Table, TableFault, stamp_is_one};

@@ -12,8 +12,8 @@ use crate::map::EntryMap;
 use crate::parsed::Parsed;
 use crate::table::TableFault;
 
-// The most bytes of a text.
-const TEXT_LIMIT: usize = 4096;
+/// The most bytes of an entry's text.
+pub const TEXT_LIMIT: usize = 4096;
 
 enum Cause {
     Full,

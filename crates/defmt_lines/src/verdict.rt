@@ -8,11 +8,9 @@ ghost use Rattle.defmt_intern.specs.declared.entry.Tag.{Tag as AnyTag};
 ghost use Rattle.defmt_lines.specs.Verdict.{Judges, JudgesForms, JudgesVariants};
 
 use defmt_grammar::{GrammarFault, Mode, Pieces, one_answer, parse, strict_is_lenient};
-use defmt_intern::{Forms, Parsed, Tag, count_bars, cut_variant};
+use defmt_intern::{Forms, Parsed, TEXT_LIMIT, Tag, count_bars, cut_variant};
 use dl_io::Memory;
 use std::alloc::Global;
-
-const TEXT_LIMIT: usize = 4096;
 
 /// What is wrong with a text of this tag, `None` where it is taken.
 ///

@@ -4,7 +4,7 @@ use Rattle.std.specs.Prelude.{nat_lt, unwrap_or}
 use Rattle.std.specs.FinMap as map
 use Rattle.std.specs.Str.{IsUtf8}
 use Rattle.std.specs.Str.Lines.{lines}
-use Rattle.defmt_eager.specs.Line.{text_limit}
+use Rattle.defmt_eager.specs.Line.{printed_limit}
 use Rattle.defmt_eager.specs.Show.{eager_text}
 use Rattle.defmt_intern.specs.declared.entry.Tag.{Tag}
 use Rattle.defmt_lines.specs.Form.{StringsAreOver, StringsMayCome, in_order}
@@ -69,7 +69,7 @@ module _ (P : State → ℕ → Type 0) (keeps : Keeps P) where
   arguments_kept before after text p (Ok args) b a over reads is h =
       let stm : Statement = record { index = p.1; args = args } in
       let long : Bool = nat_lt message_limit (length (first_message before.script.table before.script.settings stm)) in
-      let wide : Bool = nat_lt text_limit (length (eager_text before.script.table stm.index stm.args)) in
+      let wide : Bool = nat_lt printed_limit (length (eager_text before.script.table stm.index stm.args)) in
       let taken : Answer = Ok (with_statement before p.0 stm) in
       let short = if_not long causes.Long (cond wide (Err causes.Wide) taken) after is in
       let narrow = if_not wide causes.Wide taken after short.1 in

@@ -36,7 +36,7 @@ use Rattle.defmt_values.specs.Fits.{Fits, FitsStamp, FitsVals}
 use Rattle.defmt_values.specs.Plain.{no_vals, uint, val}
 use Rattle.defmt_values.specs.Scan.{own_form, own_in}
 use Rattle.defmt_values.specs.declared.value.Statement.{Statement}
-use Rattle.defmt_eager.specs.Line.{IsWide, stamp_text, text_limit}
+use Rattle.defmt_eager.specs.Line.{IsWide, stamp_text, printed_limit}
 use Rattle.defmt_eager.specs.Show.{eager_text, own_pieces, pieces_in, pieces_text, show_val, shows}
 use Rattle.defmt_encode.proofs.Laws.{place_length, stamp_length}
 use Rattle.defmt_encode.specs.Carry.{message_of, stamp_args}
@@ -188,7 +188,7 @@ fits_stamp s n h small =
 pub never_wide : (s : Script) (n : ℕ) (stm : Statement) → IsLawful s → n < 2 ^ 64 → IsSound s.table s.settings stm
     → IsWide s.table (stamp_args (stamp_in s.settings.stamp n)) stm.index stm.args → ⊥
 never_wide s n stm h small sound (inl long) =
-    let own : text_limit < length (stamp_text s.table (at_in s.settings.stamp s.table h.stamp) (stamp_args (stamp_in s.settings.stamp n))) =
-    subst (λ (o : Option ℕ). text_limit < length (stamp_text s.table o (stamp_args (stamp_in s.settings.stamp n)))) (same_index s h) long in
+    let own : printed_limit < length (stamp_text s.table (at_in s.settings.stamp s.table h.stamp) (stamp_args (stamp_in s.settings.stamp n))) =
+    subst (λ (o : Option ℕ). printed_limit < length (stamp_text s.table o (stamp_args (stamp_in s.settings.stamp n)))) (same_index s h) long in
     absurd (omega (arith, own, at_narrow s.settings.stamp s.table n h.stamp h.table small))
 never_wide s n stm h small sound (inr long) = absurd (omega (arith, long, sound.narrow))

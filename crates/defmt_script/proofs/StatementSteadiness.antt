@@ -3,7 +3,7 @@ use Rattle.std.proofs.Common.{◌≡◌, ◌≤◌, ◌<◌, ◌+◌, ◌++◌, 
 use Rattle.std.specs.Prelude.{Ok, nat_lt, slice_index_or, slice_set}
 use Rattle.std.specs.List.{AllByRecursion}
 use Rattle.std.proofs.lemmas.Bool.Decides.{nat_tests}
-use Rattle.defmt_eager.specs.Line.{text_limit}
+use Rattle.defmt_eager.specs.Line.{printed_limit}
 use Rattle.defmt_eager.specs.Show.{eager_text}
 use Rattle.defmt_intern.specs.Table.{Map}
 use Rattle.defmt_intern.specs.declared.entry.Entry.{Entry}
@@ -96,14 +96,14 @@ logged_by table index None is logged = absurd (cc logged)
 logged_by table index (Some entry) is logged = record { entry = entry; there = is; tag = logged }
 
 pub sound_of : (table : Map) (s : Settings) (stm : Statement) → Fits table stm.index stm.args → is_message table stm.index ≡ true
-    → nat_lt message_limit (length (first_message table s stm)) ≡ false → nat_lt text_limit (length (eager_text table stm.index stm.args)) ≡ false → IsSound table s stm
+    → nat_lt message_limit (length (first_message table s stm)) ≡ false → nat_lt printed_limit (length (eager_text table stm.index stm.args)) ≡ false → IsSound table s stm
 sound_of table s stm fits logged short narrow = record {
   fits = fits;
   logged = logged_by table stm.index (look table stm.index) refl logged;
   short = short_with table s stm (below message_limit (length (first_message table s stm)) short);
-  narrow = below text_limit (length (eager_text table stm.index stm.args)) narrow;
+  narrow = below printed_limit (length (eager_text table stm.index stm.args)) narrow;
 }
 
 pub taken : (before : State) (writer : ℕ) (stm : Statement) → nat_lt message_limit (length (first_message before.script.table before.script.settings stm)) ≡ false
-    → nat_lt text_limit (length (eager_text before.script.table stm.index stm.args)) ≡ false → takes_statement before writer stm ≡ Ok (with_statement before writer stm)
+    → nat_lt printed_limit (length (eager_text before.script.table stm.index stm.args)) ≡ false → takes_statement before writer stm ≡ Ok (with_statement before writer stm)
 taken before writer stm short narrow = rw (short, narrow) refl

@@ -4,7 +4,7 @@ use Rattle.std.specs.Prelude.{is_some, nat_lt, unwrap_or}
 use Rattle.std.specs.FinMap as map
 use Rattle.std.specs.Str.{IsUtf8}
 use Rattle.std.proofs.lemmas.Bool.Decides.{nat_tests}
-use Rattle.defmt_eager.specs.Line.{text_limit}
+use Rattle.defmt_eager.specs.Line.{printed_limit}
 use Rattle.defmt_eager.specs.Show.{eager_text}
 use Rattle.defmt_intern.specs.declared.entry.Tag.{Tag}
 use Rattle.defmt_lines.specs.Form.{StringsAreOver, StringsMayCome, in_order, next}
@@ -93,7 +93,7 @@ pub record IsTaken (s : State) (writer : ℕ) (stm : Statement) : Type 0 where
   pub message : is_message s.script.table stm.index ≡ true
   pub fits : Fits s.script.table stm.index stm.args
   pub short : nat_lt message_limit (length (first_message s.script.table s.script.settings stm)) ≡ false
-  pub narrow : nat_lt text_limit (length (eager_text s.script.table stm.index stm.args)) ≡ false
+  pub narrow : nat_lt printed_limit (length (eager_text s.script.table stm.index stm.args)) ≡ false
 
 -- a text that is taken
 pub record IsSaid (s : State) (writer terminal : ℕ) (text : List ℕ) : Type 0 where

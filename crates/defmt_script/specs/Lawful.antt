@@ -2,7 +2,7 @@
 use Rattle.std.specs.Prelude.{◌≡◌, ◌≤◌, ℕ, List, codes, length, Option, Some, None, option_map}
 use Rattle.std.specs.FinMap as map
 use Rattle.std.specs.List.{AllByRecursion}
-use Rattle.defmt_eager.specs.Line.{text_limit}
+use Rattle.defmt_eager.specs.Line.{printed_limit}
 use Rattle.defmt_eager.specs.Show.{eager_text}
 use Rattle.defmt_encode.specs.Carry.{message_of, stamp_args}
 use Rattle.defmt_encode.specs.Placed.{place_in}
@@ -45,7 +45,7 @@ pub record IsSound (table : Map) (s : Settings) (stm : Statement) : Type 0 where
   pub fits : Fits table stm.index stm.args
   pub logged : IsLogged table stm.index
   pub short : (number n : ℕ) → length (message_with table s number n stm) ≤ message_limit
-  pub narrow : length (eager_text table stm.index stm.args) ≤ text_limit
+  pub narrow : length (eager_text table stm.index stm.args) ≤ printed_limit
 
 -- The values of all statements are what their types say.
 abbrev pub AllAreSound : List (List Statement) → Type 0

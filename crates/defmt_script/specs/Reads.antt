@@ -2,7 +2,7 @@
 use Rattle.std.specs.Prelude.{◌≡◌, ◌⊎◌, ◌+◌, ℕ, Bool, false, not, nat_lt, List, [], ◌∷◌, length, Option, Some, None, is_some, Result, Ok, Err, if◌then◌else◌}
 use Rattle.std.specs.FinMap as map
 use Rattle.std.specs.Str.Lines.{lines}
-use Rattle.defmt_eager.specs.Line.{text_limit}
+use Rattle.defmt_eager.specs.Line.{printed_limit}
 use Rattle.defmt_eager.specs.Show.{eager_text}
 use Rattle.defmt_intern.specs.Table.{Map}
 use Rattle.defmt_intern.specs.declared.entry.Entry.{Entry}
@@ -115,7 +115,7 @@ abbrev pub takes_statement : State → ℕ → Statement → Result State Cause
 takes_statement before writer stm =
     if nat_lt message_limit (length (first_message before.script.table before.script.settings stm))
     then Err causes.Long
-    else if nat_lt text_limit (length (eager_text before.script.table stm.index stm.args))
+    else if nat_lt printed_limit (length (eager_text before.script.table stm.index stm.args))
     then Err causes.Wide
     else Ok (with_statement before writer stm)
 

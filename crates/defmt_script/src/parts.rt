@@ -3,7 +3,7 @@
 ghost use Rattle.std.specs.Prelude.{◌≡◌, length, nat_lt, IfOk, OnErr, OnOk, ℕ};
 ghost use Rattle.std.specs.FinMap as map;
 ghost use Rattle.std.specs.Fmt.{decimal};
-ghost use Rattle.defmt_eager.specs.Line.{text_limit};
+ghost use Rattle.defmt_eager.specs.Line.{printed_limit};
 ghost use Rattle.defmt_eager.specs.Show.{eager_text};
 ghost use Rattle.defmt_encode.specs.Placed.{place_in};
 ghost use Rattle.defmt_intern.specs.Body.{body_of};
@@ -171,7 +171,7 @@ fn base_of(stamp: Option<(u64, u64)>) -> Option<u64>
 pub(crate) fn is_wide(alloc: Global, table: &Table, stm: &Statement) -> Result<bool, Memory>
     requires { Fits table.now.entries stm.now.index stm.now.args }
     ensures { IfOk result (λ wide. wide
-        ≡ nat_lt text_limit (length (eager_text table.now.entries stm.now.index stm.now.args))) }
+        ≡ nat_lt printed_limit (length (eager_text table.now.entries stm.now.index stm.now.args))) }
 {
     match defmt_eager::is_wide(alloc, table, stm) {
         Ok(wide) => Ok(wide),

@@ -3,7 +3,7 @@ use Rattle.std.proofs.Common.{◌≡◌, ◌+◌, inl, inr, ℕ, Bool, true, fal
 use Rattle.std.specs.Prelude.{◌==◌, nat_lt}
 use Rattle.std.specs.Str.Lines.{lines}
 use Rattle.std.proofs.lemmas.Bool.Decides.{nat_tests}
-use Rattle.defmt_eager.specs.Line.{text_limit}
+use Rattle.defmt_eager.specs.Line.{printed_limit}
 use Rattle.defmt_eager.specs.Show.{eager_text}
 use Rattle.defmt_intern.specs.declared.entry.Tag.{Tag}
 use Rattle.defmt_lines.proofs.LineLaws.{one_line}
@@ -112,7 +112,7 @@ arguments_by : (before after : State) (p : ℕ × ℕ) (args : Result Vals ℕ) 
 arguments_by before after p (Err inner) is = absurd (cc is)
 arguments_by before after p (Ok args) is =
     let stm : Statement = record { index = p.1; args = args } in
-    let wide : Bool = nat_lt text_limit (length (eager_text before.script.table stm.index stm.args)) in
+    let wide : Bool = nat_lt printed_limit (length (eager_text before.script.table stm.index stm.args)) in
     let taken : Answer = Ok (with_statement before p.0 stm) in
     let short = if_not (nat_lt message_limit (length (first_message before.script.table before.script.settings stm))) causes.Long (cond wide (Err causes.Wide) taken) after is in
     let narrow = if_not wide causes.Wide taken after short in

@@ -4,8 +4,8 @@ ghost use Rattle.std.specs.List.{list_all};
 ghost use Rattle.rtt_terminal.specs.Sayable.{is_plain, is_sayable};
 ghost use Rattle.rtt_terminal.specs.Stream.{IsSayable};
 
-// How many bytes a text has at most.
-const TEXT_LIMIT: usize = 2000;
+// How many bytes a text that may be spoken has at most.
+const SAYABLE_LIMIT: usize = 2000;
 
 fn is_plain(byte: u8) -> bool
     ensures { result ≡ is_plain byte }
@@ -22,7 +22,7 @@ fn are_plain(bytes: &[u8]) -> bool
 fn may_be_spoken(text: &str) -> bool
     ensures { result ≡ is_sayable text.now }
 {
-    text.len() <= TEXT_LIMIT && are_plain(text.as_bytes())
+    text.len() <= SAYABLE_LIMIT && are_plain(text.as_bytes())
 }
 
 /// Whether a text may be spoken: it has at most 2,000 bytes, none below `20` and none `7f`. Takes no memory.

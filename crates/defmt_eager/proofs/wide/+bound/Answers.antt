@@ -1,6 +1,6 @@
 use Rattle.std.proofs.Common.{◌≡◌, ◌≤◌, ◌+◌, arith, ap, false, length}
 use Rattle.defmt_values.specs.View.{plain}
-use Rattle.defmt_eager.specs.Line.{text_limit}
+use Rattle.defmt_eager.specs.Line.{printed_limit}
 use Rattle.defmt_eager.specs.Show.{shows, show_val, show_elems}
 use Rattle.defmt_eager.proofs.Appends.{pieces_none, elems_none, elems_smaller, size_get}
 use Rattle.defmt_eager.proofs.Bounds.{str_most}
@@ -42,8 +42,8 @@ piece_bound-returns-in-Some t c = λ few.
 pub pieces_bound-each-preserved : goal.pieces_bound-each-preserved
 pieces_bound-each-preserved t c = λ few.
     let sum : c.saturating_add-most.result ≡ c.each.most + c.piece_bound.result + 0 = omega (arith, few) in
-    let low : c.each.most ≤ text_limit = omega (arith, few) in
-    let one : c.piece_bound.result ≤ text_limit = omega (arith, few) in
+    let low : c.each.most ≤ printed_limit = omega (arith, few) in
+    let one : c.piece_bound.result ≤ printed_limit = omega (arith, few) in
     piece_more c.args.outer (shows c.args.table.now.entries c.args.args.now) c.args.pieces.now c.each.rest.now c.in-Some.more.now c.in-Some.piece.now c.each.most c.piece_bound.result c.saturating_add-most.result c.in-Some.ensures (c.piece_bound.ensures one) sum (c.each.invariant low)
 
 pub pieces_bound-returns : goal.pieces_bound-returns
@@ -55,8 +55,8 @@ list_bound-each-preserved t c = record {
   smaller = elems_smaller c.each.rest.now c.in-Some.more.now c.in-Some.item.now _ c.in-Some.ensures c.each.invariant.smaller;
   above = λ few.
       let sum : c.saturating_add-most.result ≡ c.each.most + c.pieces_bound.result + 2 = omega (arith, few) in
-      let low : c.each.most ≤ text_limit = omega (arith, few) in
-      let one : c.pieces_bound.result ≤ text_limit = omega (arith, few) in
+      let low : c.each.most ≤ printed_limit = omega (arith, few) in
+      let one : c.pieces_bound.result ≤ printed_limit = omega (arith, few) in
       elem_more c.args.table.now.entries c.args.index c.args.hint c.args.items.now c.each.rest.now c.in-Some.more.now c.in-Some.item.now c.each.most c.pieces_bound.result c.saturating_add-most.result c.in-Some.ensures ((rw c.node_pieces-pieces.ensures at c.pieces_bound.ensures) one) sum (c.each.invariant.above low);
 }
 

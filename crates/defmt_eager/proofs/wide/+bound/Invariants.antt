@@ -1,7 +1,7 @@
 use Rattle.std.proofs.Common.{◌≤◌, ◌+◌, ◌*◌, ℕ, length}
 use Rattle.defmt_values.specs.Plain.{val_size, vals_size, elems_size}
 use Rattle.defmt_values.specs.View.{plain, elems_of}
-use Rattle.defmt_eager.specs.Line.{text_limit}
+use Rattle.defmt_eager.specs.Line.{printed_limit}
 use Rattle.defmt_eager.specs.Show.{shows, pieces_text}
 use Rattle.defmt_eager.proofs.PieceBounds.{elems_joined}
 use Rattle.defmt_eager.proofs.wide.+bound.Given as goal
@@ -20,7 +20,7 @@ decreases-list_bound l = 4 * elems_size l.items.now + 1
 
 -- what bounds the pieces that are still to come bounds all of them, with what was counted
 abbrev pub invariant-pieces_bound-each : goal.invariant-pieces_bound-each
-invariant-pieces_bound-each l = l.most ≤ text_limit → (n : ℕ) → length (pieces_text l.outer l.rest (shows l.table.entries l.args)) ≤ n → length (pieces_text l.outer l.pieces (shows l.table.entries l.args)) ≤ l.most + n
+invariant-pieces_bound-each l = l.most ≤ printed_limit → (n : ℕ) → length (pieces_text l.outer l.rest (shows l.table.entries l.args)) ≤ n → length (pieces_text l.outer l.pieces (shows l.table.entries l.args)) ≤ l.most + n
 
 abbrev pub decreases-pieces_bound-each : goal.decreases-pieces_bound-each
 decreases-pieces_bound-each l = length l.rest
@@ -28,7 +28,7 @@ decreases-pieces_bound-each l = length l.rest
 abbrev pub invariant-list_bound-each : goal.invariant-list_bound-each
 invariant-list_bound-each l = record {
   smaller : elems_size (elems_of l.rest) ≤ elems_size l.items;
-  above : l.most ≤ text_limit → (n : ℕ) → length (elems_joined l.table.entries l.index l.hint (elems_of l.rest)) ≤ n → 2 + length (elems_joined l.table.entries l.index l.hint l.items) ≤ l.most + n;
+  above : l.most ≤ printed_limit → (n : ℕ) → length (elems_joined l.table.entries l.index l.hint (elems_of l.rest)) ≤ n → 2 + length (elems_joined l.table.entries l.index l.hint l.items) ≤ l.most + n;
 }
 
 abbrev pub decreases-list_bound-each : goal.decreases-list_bound-each
