@@ -6,17 +6,21 @@ use Rattle.defmt_values.specs.Plain.{Val, Vals, Elems}
 use Rattle.defmt_encode.specs.Carry.{bytes_val, bytes_vals, bytes_elems}
 use Rattle.defmt_encode.specs.declared.put.Long.{Long}
 
+-- the most bytes of a message
+abbrev pub message_limit : ℕ
+message_limit = 2000
+
 -- the bytes stand behind the first `at`, up to the place n, and what lies behind them is as before
 pub record Wrote (old new : List ℕ) (at n : ℕ) (bytes : List ℕ) : Type 0 where
   pub end_is : n ≡ at + length bytes
-  pub fits : n ≤ 2000
+  pub fits : n ≤ message_limit
   pub front : take n new ≡ take at old ++ bytes
   pub behind : drop n new ≡ drop n old
 
 -- The bytes don't fit. Some of the first of them stand behind the first `at`, maybe none, and what lies
 -- behind those is as before.
 pub record Refuses (old new : List ℕ) (at : ℕ) (bytes : List ℕ) : Type 0 where
-  pub long : 2000 < at + length bytes
+  pub long : message_limit < at + length bytes
   pub written : List ℕ
   pub missing : List ℕ
   pub parts : bytes ≡ written ++ missing
@@ -31,13 +35,13 @@ Puts old new at (Err e) bytes = Refuses old new at bytes
 pub record Begins (old new : List ℕ) (n : ℕ) (message : List ℕ) : Type 0 where
   pub message_is : take n new ≡ message
   pub length_is : n ≡ length message
-  pub short : n ≤ 2000
+  pub short : n ≤ message_limit
   pub behind : drop n new ≡ drop n old
 
 -- the message was written, or it has more than 2,000 bytes and the buffer is as before
 abbrev pub Writes : List ℕ → List ℕ → Result ℕ Long → List ℕ → Type 0
 Writes old new (Ok n) message = Begins old new n message
-Writes old new (Err e) message = (2000 < length message) × (new ≡ old)
+Writes old new (Err e) message = (message_limit < length message) × (new ≡ old)
 
 -- whatever its slot, a value has at most so many bytes
 abbrev pub HasAtMost : Val → ℕ → Type 0

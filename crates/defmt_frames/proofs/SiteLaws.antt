@@ -4,6 +4,7 @@ use Rattle.std.proofs.lemmas.Bool.Decides.{nat_tests}
 use Rattle.std.proofs.lemmas.Option.{same_Some}
 use Rattle.defmt_encode.proofs.Hears.{one_entry}
 use Rattle.defmt_encode.specs.Carry.{message_of, stamp_args}
+use Rattle.defmt_encode.specs.Out.{message_limit}
 use Rattle.defmt_encode.specs.Placed.{place_in}
 use Rattle.defmt_frames.proofs.Frames.{sound_at}
 use Rattle.defmt_frames.proofs.Stamps.{suits}
@@ -13,7 +14,7 @@ use Rattle.defmt_intern.specs.Table.{Map}
 use Rattle.defmt_intern.specs.declared.entry.Entry.{Entry}
 use Rattle.defmt_macros.specs.Sites.{IsSite}
 use Rattle.defmt_macros.specs.declared.site.Site.{Site}
-use Rattle.defmt_script.specs.Lawful.{IsLawful, IsSound, message_limit, stamp_in}
+use Rattle.defmt_script.specs.Lawful.{IsLawful, IsSound, stamp_in}
 use Rattle.defmt_script.specs.Script.{Script, statements_by}
 use Rattle.defmt_values.specs.Entries.{is_logged}
 use Rattle.defmt_values.specs.Fits.{Fits}

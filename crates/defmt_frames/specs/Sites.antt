@@ -2,6 +2,7 @@
 use Rattle.std.specs.Prelude.{◌≡◌, ◌≤◌, ℕ, true, List, length, Option, Some, None, IsSome, slice_get, slice_index_or, if◌then◌else◌}
 use Rattle.std.specs.Ordering.{is_eq, nat_cmp}
 use Rattle.defmt_encode.specs.Carry.{message_of, stamp_args}
+use Rattle.defmt_encode.specs.Out.{message_limit}
 use Rattle.defmt_frames.specs.declared.sites.Sites.{Sites}
 use Rattle.defmt_grammar.specs.declared.piece.Piece.{Piece}
 use Rattle.defmt_intern.specs.Body.{body_of}
@@ -11,7 +12,6 @@ use Rattle.defmt_intern.specs.declared.parsed.Parsed.TheVariants.{One}
 use Rattle.defmt_macros.specs.Sites.{IsSite}
 use Rattle.defmt_macros.specs.Stamps.{StampSuits}
 use Rattle.defmt_macros.specs.declared.site.Site.{Site}
-use Rattle.defmt_script.specs.Lawful.{message_limit}
 use Rattle.defmt_script.specs.Script.{Script, statements_by}
 use Rattle.defmt_values.specs.Entries.{is_logged, look}
 use Rattle.defmt_values.specs.Fits.{Fits}

@@ -13,9 +13,6 @@ use defmt_macros::{Site, log};
 use defmt_script::Script;
 use defmt_values::Args;
 
-/// How many bytes a message has at most.
-pub const MESSAGE_SIZE: usize = 2000;
-
 /// How many bytes the frame of a message has at most.
 pub const FRAME_SIZE: usize = 2288;
 

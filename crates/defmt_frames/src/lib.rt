@@ -11,5 +11,5 @@
 mod framing;
 mod sites;
 
-pub use framing::{FRAME_SIZE, MESSAGE_SIZE, write_frame};
+pub use framing::{FRAME_SIZE, write_frame};
 pub use sites::Sites;

@@ -7,7 +7,7 @@ use Rattle.defmt_eager.specs.Line.{printed_limit}
 use Rattle.defmt_eager.specs.Show.{eager_text, own_pieces, pieces_in, pieces_text, shows}
 use Rattle.defmt_encode.proofs.Most.{none_most}
 use Rattle.defmt_encode.specs.Carry.{bytes_val, bytes_vals}
-use Rattle.defmt_encode.specs.Out.{HasAtMost, HaveAtMost}
+use Rattle.defmt_encode.specs.Out.{HasAtMost, HaveAtMost, message_limit}
 use Rattle.defmt_generate.specs.Generated.{call}
 use Rattle.defmt_generated.proofs.States.{all_names, all_settings, full_table}
 use Rattle.defmt_grammar.specs.declared.hint.Hint.TheVariants as hints
@@ -19,7 +19,7 @@ use Rattle.defmt_intern.specs.declared.entry.Entry.{Entry}
 use Rattle.defmt_intern.specs.declared.parsed.Parsed.{Parsed}
 use Rattle.defmt_intern.specs.declared.parsed.Parsed.TheVariants.{One}
 use Rattle.defmt_lines.specs.Line.{field_and_rest}
-use Rattle.defmt_script.specs.Lawful.{first_message, message_limit}
+use Rattle.defmt_script.specs.Lawful.{first_message}
 use Rattle.defmt_script.specs.Reads.{is_message, is_message_of}
 use Rattle.defmt_shapes.specs.Shape.{IsNumber, Shape, Shapes, SpellsShape, SpellsShapes, no_shapes, shape}
 use Rattle.defmt_spelling.specs.Meaning.{meant_vals}

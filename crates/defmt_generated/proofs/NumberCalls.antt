@@ -6,6 +6,7 @@ use Rattle.defmt_eager.proofs.Bounds.{uint_most as shown_uint}
 use Rattle.defmt_eager.specs.Line.{printed_limit}
 use Rattle.defmt_eager.specs.Show.{pieces_text, show_val, shows}
 use Rattle.defmt_encode.proofs.Most.{message_short, uint_most}
+use Rattle.defmt_encode.specs.Out.{message_limit}
 use Rattle.defmt_generate.specs.Generated.{boot, call, fail, tick}
 use Rattle.defmt_generated.proofs.States.{all_names, all_settings, entry_there, full_table, name_there}
 use Rattle.defmt_generated.proofs.Words.{boot_pieces, boot_spells, fail_pieces, fail_spells, tick_pieces, tick_spells}
@@ -24,7 +25,7 @@ use Rattle.defmt_intern.proofs.PieceLaws.{pieces_again}
 use Rattle.defmt_intern.specs.Body.{one_body}
 use Rattle.defmt_intern.specs.declared.entry.Tag.TheVariants as tags
 use Rattle.defmt_lines.specs.Line.{field_and_rest}
-use Rattle.defmt_script.specs.Lawful.{first_message, message_limit}
+use Rattle.defmt_script.specs.Lawful.{first_message}
 use Rattle.defmt_script.specs.State.{entry_at}
 use Rattle.defmt_shapes.specs.Shape as shapes
 use Rattle.defmt_shapes.specs.Shape.{no_shapes, shape}

@@ -5,6 +5,7 @@ use Rattle.std.specs.FinMap as map
 use Rattle.std.proofs.lemmas.Bool.Decides.{nat_tests}
 use Rattle.defmt_eager.specs.Line.{printed_limit}
 use Rattle.defmt_eager.specs.Show.{eager_text}
+use Rattle.defmt_encode.specs.Out.{message_limit}
 use Rattle.defmt_generate.specs.Generated.{drawn, generated}
 use Rattle.defmt_generated.proofs.CallParts.{Call}
 use Rattle.defmt_generated.proofs.Calls.{called}
@@ -21,7 +22,7 @@ use Rattle.defmt_lines.specs.declared.cause.Cause.TheVariants as causes
 use Rattle.defmt_lines.specs.declared.form.Form.{Form}
 use Rattle.defmt_lines.specs.declared.form.Form.TheVariants as forms
 use Rattle.defmt_lines.specs.declared.settings.Settings.{Settings}
-use Rattle.defmt_script.specs.Lawful.{first_message, message_limit, statements_limit}
+use Rattle.defmt_script.specs.Lawful.{first_message, statements_limit}
 use Rattle.defmt_script.specs.Reads.{Reads, ReadsLines, Takes, TakesStatement, admits_index, admits_statement, is_message, takes_arguments, with_statement}
 use Rattle.defmt_script.specs.Script.{Refusal, Script, add_statement, count_all, count_statements}
 use Rattle.defmt_script.specs.State.{State, closed, no_lines, stamp_entry}

@@ -8,7 +8,8 @@ ghost use Rattle.rtt_ring.specs.Views.{new_up};
 
 use crate::mark::Mark;
 use crate::tape::Tape;
-use defmt_frames::{FRAME_SIZE, MESSAGE_SIZE, Sites, write_frame};
+use defmt_encode::MESSAGE_LIMIT;
+use defmt_frames::{FRAME_SIZE, Sites, write_frame};
 use defmt_hooks::{Clock, Stamp};
 use defmt_script::{RingMode, Script};
 use dl_io::Memory;
@@ -137,7 +138,7 @@ fn prepare(alloc: Global, script: &Script) -> Result<Prepared, Memory>
     ensures message { IfOk result (λ p. length p.message.items ≡ 2000) }
     ensures frame { IfOk result (λ p. length p.frame.items ≡ 2288) }
 {
-    let message = zeros(alloc, MESSAGE_SIZE)?;
+    let message = zeros(alloc, MESSAGE_LIMIT)?;
     let frame = zeros(alloc, FRAME_SIZE)?;
     let tape = blank_tape(alloc)?;
     let sites = Sites::of(alloc, script)?;

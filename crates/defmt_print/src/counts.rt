@@ -4,8 +4,7 @@ ghost use Rattle.defmt_encode.specs.Placed.{place_in};
 ghost use Rattle.defmt_print.specs.Printed.{count_line, has_level, is_of_level, level_line, message_size, summary, writer_count_line};
 
 use crate::statements::stamp_in;
-use defmt_encode::message;
-use defmt_frames::MESSAGE_SIZE;
+use defmt_encode::{MESSAGE_LIMIT, message};
 use defmt_hooks::Level;
 use defmt_intern::{Profile, Tag};
 use defmt_logger::{Mark, Tape};
@@ -112,7 +111,7 @@ fn messages_size(script: &Script, marks: &[Mark]) -> u64
     requires { length marks.now ≤ 4096 }
     ensures { result ≡ sum_by (message_size script.now) marks.now }
 {
-    let mut buffer = [0u8; MESSAGE_SIZE];
+    let mut buffer = [0u8; MESSAGE_LIMIT];
     let mut size = 0u64;
     for mark in marks {
         size += message_size(script, mark, &mut buffer) as u64;

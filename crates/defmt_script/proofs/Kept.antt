@@ -6,6 +6,7 @@ use Rattle.std.specs.Str.{IsUtf8}
 use Rattle.std.specs.Str.Lines.{lines}
 use Rattle.defmt_eager.specs.Line.{printed_limit}
 use Rattle.defmt_eager.specs.Show.{eager_text}
+use Rattle.defmt_encode.specs.Out.{message_limit}
 use Rattle.defmt_intern.specs.declared.entry.Tag.{Tag}
 use Rattle.defmt_lines.specs.Form.{StringsAreOver, StringsMayCome, in_order}
 use Rattle.defmt_lines.specs.Line.{Line, blank, head, entry, act, other, is_string_tag}
@@ -17,7 +18,7 @@ use Rattle.defmt_lines.specs.declared.form.Form.{Form}
 use Rattle.defmt_lines.specs.declared.form.Form.TheVariants as forms
 use Rattle.defmt_lines.specs.declared.settings.Settings.{Settings}
 use Rattle.defmt_script.proofs.StringSteadiness.{judged_short, over_closed}
-use Rattle.defmt_script.specs.Lawful.{first_message, message_limit}
+use Rattle.defmt_script.specs.Lawful.{first_message}
 use Rattle.defmt_script.specs.Reads.{Reads, ReadsLines, Takes, TakesAction, TakesString, TakesStatement, admits_statement, admits_string, admits_text, sets, takes_arguments, takes_string, takes_text, with_settings, with_statement, with_string, with_text}
 use Rattle.defmt_script.specs.Script.{Script, count_strings}
 use Rattle.defmt_script.specs.State.{State, closed, no_lines, strings_limit}

@@ -5,6 +5,7 @@ use Rattle.std.specs.List.{slice_get}
 use Rattle.std.specs.FinMap as map
 use Rattle.std.proofs.lemmas.Bool.{cond-true, lt-ltb}
 use Rattle.std.proofs.lemmas.List.{append-nil}
+use Rattle.defmt_encode.specs.Out.{message_limit}
 use Rattle.defmt_grammar.specs.Grammar.{IsHole, Spells, hole}
 use Rattle.defmt_grammar.specs.Param.{SpellsParam}
 use Rattle.defmt_grammar.specs.Kind.{named}
@@ -42,7 +43,7 @@ use Rattle.defmt_encode.proofs.Laws.{place_length, stamp_length}
 use Rattle.defmt_encode.specs.Carry.{message_of, stamp_args}
 use Rattle.defmt_encode.specs.Placed.{place_in}
 use Rattle.defmt_intern.specs.Stamp.{stamp_of}
-use Rattle.defmt_script.specs.Lawful.{HasStamp, IsLawful, IsSound, first_message, message_limit, message_with, stamp_in}
+use Rattle.defmt_script.specs.Lawful.{HasStamp, IsLawful, IsSound, first_message, message_with, stamp_in}
 use Rattle.defmt_lines.specs.declared.settings.Settings.{Settings}
 use Rattle.defmt_script.specs.Script.{Script, base_of}
 

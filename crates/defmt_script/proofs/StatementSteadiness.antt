@@ -5,13 +5,14 @@ use Rattle.std.specs.List.{AllByRecursion}
 use Rattle.std.proofs.lemmas.Bool.Decides.{nat_tests}
 use Rattle.defmt_eager.specs.Line.{printed_limit}
 use Rattle.defmt_eager.specs.Show.{eager_text}
+use Rattle.defmt_encode.specs.Out.{message_limit}
 use Rattle.defmt_intern.specs.Table.{Map}
 use Rattle.defmt_intern.specs.declared.entry.Entry.{Entry}
 use Rattle.defmt_lines.specs.Form.{StringsAreOver}
 use Rattle.defmt_lines.specs.declared.form.Form.{Form}
 use Rattle.defmt_lines.specs.declared.settings.Settings.{Settings}
 use Rattle.defmt_script.proofs.Stamps.{short_with}
-use Rattle.defmt_script.specs.Lawful.{IsSound, first_message, message_limit}
+use Rattle.defmt_script.specs.Lawful.{IsSound, first_message}
 use Rattle.defmt_script.specs.Reads.{is_message, is_message_of, takes_statement, with_statement}
 use Rattle.defmt_script.specs.Script.{add_statement, count_all}
 use Rattle.defmt_script.specs.State.{State}

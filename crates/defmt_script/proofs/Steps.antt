@@ -6,6 +6,7 @@ use Rattle.std.specs.Str.{IsUtf8}
 use Rattle.std.proofs.lemmas.Bool.Decides.{nat_tests}
 use Rattle.defmt_eager.specs.Line.{printed_limit}
 use Rattle.defmt_eager.specs.Show.{eager_text}
+use Rattle.defmt_encode.specs.Out.{message_limit}
 use Rattle.defmt_intern.specs.declared.entry.Tag.{Tag}
 use Rattle.defmt_lines.specs.Form.{StringsAreOver, StringsMayCome, in_order, next}
 use Rattle.defmt_lines.specs.Line.{is_string_tag}
@@ -16,7 +17,7 @@ use Rattle.defmt_lines.specs.declared.cause.Cause.TheVariants as causes
 use Rattle.defmt_lines.specs.declared.form.Form.{Form}
 use Rattle.defmt_lines.specs.declared.form.Form.TheVariants as forms
 use Rattle.defmt_lines.specs.declared.settings.Settings.{Settings}
-use Rattle.defmt_script.specs.Lawful.{first_message, message_limit, statements_limit}
+use Rattle.defmt_script.specs.Lawful.{first_message, statements_limit}
 use Rattle.defmt_script.specs.Reads.{admits_index, admits_statement, admits_string, admits_terminal, admits_text, is_message, with_statement, with_string, with_text}
 use Rattle.defmt_script.specs.Script.{Script, count_statements, count_strings, statements_by}
 use Rattle.defmt_script.specs.State.{State, closed, strings_limit}

@@ -5,6 +5,7 @@ use Rattle.std.specs.List.{AllByRecursion}
 use Rattle.defmt_eager.specs.Line.{printed_limit}
 use Rattle.defmt_eager.specs.Show.{eager_text}
 use Rattle.defmt_encode.specs.Carry.{message_of, stamp_args}
+use Rattle.defmt_encode.specs.Out.{message_limit}
 use Rattle.defmt_encode.specs.Placed.{place_in}
 use Rattle.defmt_intern.specs.Table.{Map, IsStamp, IsLawful as IsLawfulTable}
 use Rattle.defmt_intern.specs.declared.entry.Entry.{Entry}
@@ -18,12 +19,9 @@ use Rattle.defmt_values.specs.Sound.{AreSound}
 use Rattle.defmt_values.specs.declared.value.Statement.{Statement}
 use Rattle.rtt_terminal.specs.Speech.{IsSpeech}
 
--- the most statements, and the most bytes of a message
+-- the most statements
 abbrev pub statements_limit : ℕ
 statements_limit = 4096
-
-abbrev pub message_limit : ℕ
-message_limit = 2000
 
 -- the stamp that a message carries: none where the script has no stamps
 abbrev pub stamp_in : Option (ℕ × ℕ) → ℕ → Option ℕ

@@ -4,6 +4,7 @@ use Rattle.std.specs.FinMap as map
 use Rattle.std.specs.Str.Lines.{lines}
 use Rattle.defmt_eager.specs.Line.{printed_limit}
 use Rattle.defmt_eager.specs.Show.{eager_text}
+use Rattle.defmt_encode.specs.Out.{message_limit}
 use Rattle.defmt_intern.specs.Table.{Map}
 use Rattle.defmt_intern.specs.declared.entry.Entry.{Entry}
 use Rattle.defmt_intern.specs.declared.entry.Tag.{Tag}
@@ -17,7 +18,7 @@ use Rattle.defmt_lines.specs.declared.cause.Cause.TheVariants as causes
 use Rattle.defmt_lines.specs.declared.form.Form.{Form}
 use Rattle.defmt_lines.specs.declared.form.Form.TheVariants as forms
 use Rattle.defmt_lines.specs.declared.settings.Settings.{Settings}
-use Rattle.defmt_script.specs.Lawful.{first_message, message_limit, statements_limit}
+use Rattle.defmt_script.specs.Lawful.{first_message, statements_limit}
 use Rattle.defmt_script.specs.Script.{Script, Refusal, add_statement, count_statements, count_strings, next_index, statements_by}
 use Rattle.defmt_script.specs.State.{State, closed, entry_at, no_lines, strings_limit}
 use Rattle.defmt_shapes.specs.Shape.{is_name}

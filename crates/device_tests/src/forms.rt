@@ -16,8 +16,8 @@ ghost use Rattle.defmt_macros.specs.Sites.{IsSite};
 ghost use Rattle.defmt_macros.specs.Stamps.{StampSuits};
 
 use crate::rows::{self, each_block};
-use crate::scripts::{MESSAGE_SIZE, script_of, site_at};
-use defmt_encode::place_suits;
+use crate::scripts::{script_of, site_at};
+use defmt_encode::{MESSAGE_LIMIT, place_suits};
 use defmt_grammar::{IntSize, Kind, Slot};
 use defmt_intern::{Table, Tag};
 use defmt_macros::{Frame, Site, debug, error, info, println_, put, stamp_suits, trace, warn};
@@ -225,7 +225,7 @@ fn put_trace(table: &Table, site: &Site, a: &str, b: &str, out: &mut String) -> 
         return Err(Fail::new("other slots"));
     };
     let a = u8::from_str_radix(a, 10)?;
-    let mut buf = [0; MESSAGE_SIZE];
+    let mut buf = [0; MESSAGE_LIMIT];
     let count = with_trace(&mut buf, table, site, None, None, a, b == "true");
     put_front(&buf, count, out)
 }
@@ -249,7 +249,7 @@ fn put_debug(
     if bytes.len() > 1000 {
         return Err(Fail::new("many bytes"));
     }
-    let mut buf = [0; MESSAGE_SIZE];
+    let mut buf = [0; MESSAGE_LIMIT];
     let count = with_debug(&mut buf, table, site, None, None, a, bytes);
     put_front(&buf, count, out)
 }
@@ -269,7 +269,7 @@ fn put_info(table: &Table, site: &Site, a: &str, b: &str, out: &mut String) -> R
     if a.len() > 1000 {
         return Err(Fail::new("a long text"));
     }
-    let mut buf = [0; MESSAGE_SIZE];
+    let mut buf = [0; MESSAGE_LIMIT];
     let count = with_info(&mut buf, table, site, None, None, a, b);
     put_front(&buf, count, out)
 }
@@ -289,7 +289,7 @@ fn put_warn(table: &Table, site: &Site, a: &str, b: &str, out: &mut String) -> R
     };
     let a = u128::from_str_radix(a, 10)?;
     let b = u32::from_str_radix(b, 10)?;
-    let mut buf = [0; MESSAGE_SIZE];
+    let mut buf = [0; MESSAGE_LIMIT];
     let count = with_warn(&mut buf, table, site, None, None, a, b as usize);
     put_front(&buf, count, out)
 }

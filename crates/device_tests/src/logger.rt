@@ -6,9 +6,8 @@ ghost use Rattle.rtt_ring.specs.Views.{new_up};
 ghost use Rattle.shared_work.specs.Names.{AreNamed};
 
 use crate::rows::{self, each_block};
-use crate::scripts::{
-    MESSAGE_SIZE, put_digits_or_nothing, put_marks, script_of, site_at, stamp_of,
-};
+use crate::scripts::{put_digits_or_nothing, put_marks, script_of, site_at, stamp_of};
+use defmt_encode::MESSAGE_LIMIT;
 use defmt_grammar::{IntSize, Kind, Slot};
 use defmt_hooks::{Clock, Stamp};
 use defmt_intern::Table;
@@ -106,7 +105,7 @@ fn drop_frame(site: &Site, table: &Table) -> Result<(), Fail> {
     else {
         return Err(Fail::new("other slots"));
     };
-    let mut message = [0; MESSAGE_SIZE];
+    let mut message = [0; MESSAGE_LIMIT];
     let mut frame = Frame::begin(&mut message, site, None, None);
     put!(frame, table, u8 1);
     put!(frame, table, u8 2);

@@ -2,8 +2,8 @@
 ghost use Rattle.defmt_macros.specs.Sites.{IsSite};
 
 use crate::rows::{Kind, each_block};
-use crate::scripts::{MESSAGE_SIZE, script_of, site_at};
-use defmt_encode::{message, place_suits};
+use crate::scripts::{script_of, site_at};
+use defmt_encode::{MESSAGE_LIMIT, message, place_suits};
 use defmt_intern::{Profile, Table};
 use defmt_macros::{Site, log, stamp_suits};
 use defmt_script::Script;
@@ -92,14 +92,14 @@ fn put_by_macro(
     if !place_suits(table, place) {
         return Err(Fail::new("the place doesn't suit"));
     }
-    let mut whole = [0; MESSAGE_SIZE];
+    let mut whole = [0; MESSAGE_LIMIT];
     if message(table, place, stamp, statement, &mut whole).is_err() {
         return Err(Fail::new("the message is too long"));
     }
     if !stamp_suits(table, stamp) {
         return Err(Fail::new("the stamp doesn't suit"));
     }
-    let mut buf = [0; MESSAGE_SIZE];
+    let mut buf = [0; MESSAGE_LIMIT];
     let count = log(&mut buf, table, site, place, stamp, &statement.args);
     put_digits(out, &buf[..count])
 }

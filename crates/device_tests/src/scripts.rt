@@ -14,9 +14,6 @@ use std::fmt::Write;
 use std::test::Fail;
 use test_rows::{put_digits, put_str};
 
-// How many bytes a message has at most.
-pub(crate) const MESSAGE_SIZE: usize = 2000;
-
 pub(crate) fn script_of(alloc: Global, text: &str) -> Result<Script, Fail> {
     if text.len() > 10_000 {
         return Err(Fail::new("a long script"));

@@ -5,6 +5,7 @@ use Rattle.std.specs.Str.Lines.{lines}
 use Rattle.std.proofs.lemmas.Bool.Decides.{nat_tests}
 use Rattle.defmt_eager.specs.Line.{printed_limit}
 use Rattle.defmt_eager.specs.Show.{eager_text}
+use Rattle.defmt_encode.specs.Out.{message_limit}
 use Rattle.defmt_intern.specs.declared.entry.Tag.{Tag}
 use Rattle.defmt_lines.proofs.LineLaws.{one_line}
 use Rattle.defmt_lines.specs.Form.{in_order, next}
@@ -15,7 +16,7 @@ use Rattle.defmt_lines.specs.declared.cause.Cause.TheVariants as causes
 use Rattle.defmt_lines.specs.declared.form.Form.{Form}
 use Rattle.defmt_lines.specs.declared.form.Form.TheVariants as forms
 use Rattle.defmt_lines.specs.declared.settings.Settings.{Settings}
-use Rattle.defmt_script.specs.Lawful.{first_message, message_limit}
+use Rattle.defmt_script.specs.Lawful.{first_message}
 use Rattle.rtt_down.specs.Modes.{FirstMode, IsMode, is_mode_line}
 use Rattle.defmt_script.specs.Reads.{Reads, ReadsLines, Takes, TakesAction, TakesString, TakesStatement, admits_statement, admits_string, admits_text, takes_arguments, takes_string, takes_text, with_settings, with_statement, with_string, with_text}
 use Rattle.defmt_script.specs.Script.{Script, count_strings, next_index}

@@ -10,7 +10,8 @@ use crate::course::Course;
 use crate::level::level_at;
 use crate::turn::Turn;
 use crate::turns::Turns;
-use defmt_frames::{FRAME_SIZE, MESSAGE_SIZE, Sites, write_frame};
+use defmt_encode::MESSAGE_LIMIT;
+use defmt_frames::{FRAME_SIZE, Sites, write_frame};
 use defmt_hooks::{Clock, Stamp};
 use defmt_script::Script;
 use dl_io::Memory;
@@ -125,7 +126,7 @@ fn buffers(alloc: Global) -> Result<(Vec<u8>, Vec<u8>), Memory>
     ensures message { IfOk result (λ b. length b.0.items ≡ 2000) }
     ensures frame { IfOk result (λ b. length b.1.items ≡ 2288) }
 {
-    let message = vec![in alloc; 0u8; MESSAGE_SIZE]?;
+    let message = vec![in alloc; 0u8; MESSAGE_LIMIT]?;
     let frame = vec![in alloc; 0u8; FRAME_SIZE]?;
     Ok((message, frame))
 }

@@ -1,6 +1,7 @@
 //! Codes: what messages are written as, and what pieces stand for.
 use crate::rows::Kind;
-use crate::runs::{MESSAGE_SIZE, bytes_of, put_words};
+use crate::runs::{bytes_of, put_words};
+use defmt_encode::MESSAGE_LIMIT;
 use rzcobs_core::{bound, decode, encode};
 use std::alloc::Global;
 use std::fmt::Write;
@@ -57,7 +58,7 @@ const BOUNDS: &str = "\
 2000 = 2286";
 
 fn put_code(message: &[u8], out: &mut String) -> Result<(), Fail> {
-    if message.len() > MESSAGE_SIZE {
+    if message.len() > MESSAGE_LIMIT {
         return Err(Fail::new("long"));
     }
     let mut code = [9u8; CODE_SIZE];
@@ -77,7 +78,7 @@ fn put_piece(alloc: Global, piece: &[u8], out: &mut String) -> Result<(), Fail> 
 }
 
 fn put_back(alloc: Global, message: &[u8], out: &mut String) -> Result<(), Fail> {
-    if message.len() > MESSAGE_SIZE {
+    if message.len() > MESSAGE_LIMIT {
         return Err(Fail::new("long"));
     }
     let mut code = [9u8; CODE_SIZE];

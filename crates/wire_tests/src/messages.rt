@@ -1,8 +1,10 @@
 //! Messages and frames of the statements of scripts, what messages are read as, and each cause for which bytes are none.
 use crate::rows::Kind;
-use crate::runs::{MESSAGE_SIZE, bytes_of, put_words};
+use crate::runs::{bytes_of, put_words};
 use crate::strings::{end_line, script_of, table_of};
-use defmt_encode::{Heard, ReadCause, frame, is_long, message, place_suits, read_message};
+use defmt_encode::{
+    Heard, MESSAGE_LIMIT, ReadCause, frame, is_long, message, place_suits, read_message,
+};
 use defmt_grammar::Text;
 use defmt_intern::{Profile, Table};
 use defmt_script::Script;
@@ -185,7 +187,7 @@ two 1992 = size 2000 long false first 1";
 
 // The frame of a message.
 fn put_frame(message: &[u8], out: &mut String) -> Result<(), Fail> {
-    if message.len() > MESSAGE_SIZE {
+    if message.len() > MESSAGE_LIMIT {
         return Err(Fail::new("long"));
     }
     let mut framed = [9u8; FRAME_SIZE];
@@ -331,7 +333,7 @@ fn put_same(
     if !place_suits(script.table(), None) {
         return Err(Fail::new("no place"));
     }
-    let mut buffer = [0u8; MESSAGE_SIZE];
+    let mut buffer = [0u8; MESSAGE_LIMIT];
     let count = match message(
         script.table(),
         None,
@@ -339,7 +341,7 @@ fn put_same(
         &heard.stm,
         &mut buffer,
     ) {
-        Ok(count) if count <= MESSAGE_SIZE => count,
+        Ok(count) if count <= MESSAGE_LIMIT => count,
         _ => return Err(Fail::new("long")),
     };
     let back = &buffer[..count];
@@ -379,9 +381,9 @@ fn put_statement(
     if !place_suits(script.table(), None) {
         return Err(Fail::new("no place"));
     }
-    let mut bytes = [0u8; MESSAGE_SIZE];
+    let mut bytes = [0u8; MESSAGE_LIMIT];
     match message(script.table(), None, first_stamp(script), stm, &mut bytes) {
-        Ok(count) if count <= MESSAGE_SIZE => put_carried(alloc, script, &bytes[..count], out),
+        Ok(count) if count <= MESSAGE_LIMIT => put_carried(alloc, script, &bytes[..count], out),
         _ => Err(Fail::new("long")),
     }
 }
@@ -429,7 +431,7 @@ fn put_written(
     if !place_suits(table, place) {
         return Err(Fail::new("the place doesn't suit"));
     }
-    let mut bytes = [9u8; MESSAGE_SIZE];
+    let mut bytes = [9u8; MESSAGE_LIMIT];
     if let Ok(count) = message(table, place, None, stm, &mut bytes) {
         write!(out, "size {count} ")?;
     }

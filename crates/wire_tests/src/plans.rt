@@ -2,9 +2,9 @@
 use crate::both::put_both;
 use crate::messages::first_stamp;
 use crate::rows::Kind;
-use crate::runs::{MESSAGE_SIZE, bytes_of};
+use crate::runs::bytes_of;
 use crate::strings::{end_line, script_of, table_of};
-use defmt_encode::{message, place_suits};
+use defmt_encode::{MESSAGE_LIMIT, message, place_suits};
 use defmt_intern::Table;
 use defmt_plan::PlannedTable;
 use defmt_script::Script;
@@ -225,9 +225,9 @@ fn put_statement(
     if !place_suits(script.table(), None) {
         return Err(Fail::new("no place"));
     }
-    let mut bytes = [0u8; MESSAGE_SIZE];
+    let mut bytes = [0u8; MESSAGE_LIMIT];
     match message(script.table(), None, first_stamp(script), stm, &mut bytes) {
-        Ok(count) if count <= MESSAGE_SIZE => put_both(alloc, &planned, &bytes[..count], out),
+        Ok(count) if count <= MESSAGE_LIMIT => put_both(alloc, &planned, &bytes[..count], out),
         _ => Err(Fail::new("long")),
     }
 }

@@ -4,9 +4,6 @@ use std::fmt::Write;
 use std::test::Fail;
 use test_rows::put_str;
 
-/// How many bytes a message has at most.
-pub const MESSAGE_SIZE: usize = 2000;
-
 pub fn bytes_of(alloc: Global, words: &str) -> Result<Vec<u8>, Fail> {
     let mut bytes = Vec::new(alloc);
     if words != "nothing" {
