@@ -17,7 +17,7 @@ use Rattle.defmt_encode.specs.Placed.{HasPlace}
 use Rattle.defmt_encode.specs.Read.{Read, message_at}
 use Rattle.defmt_decode.specs.declared.event.Event.{Event}
 use Rattle.defmt_decode.specs.declared.event.Event.TheVariants.{Line, Bad, CutFront, CutTail}
-use Rattle.defmt_decode.specs.declared.event.Mark.{Mark}
+use Rattle.defmt_decode.specs.declared.event.Origin.{Origin}
 use Rattle.defmt_decode.specs.declared.reader.Refusal.TheVariants.{Cobs, Long, Wide}
 use Rattle.defmt_decode.specs.Refusal.{refused}
 use Rattle.defmt_framing.specs.declared.notice.Notice.{Notice}
@@ -86,11 +86,11 @@ abbrev pub event_of : Catalog → List ℕ → Event
 event_of t piece = of_piece (tells t) piece
 
 -- the line with this text
-abbrev pub line_with : Mark → List ℕ → Event
-line_with mark text = Line mark.index mark.place text
+abbrev pub line_with : Origin → List ℕ → Event
+line_with origin text = Line origin.index origin.place text
 
 -- the notice of a line that a plan wrote
-abbrev pub line_notice : Told → Notice Event Mark
+abbrev pub line_notice : Told → Notice Event Origin
 line_notice told =
     notices.Line (record { index = told.index; place = told.place }) told.end
 

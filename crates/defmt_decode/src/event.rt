@@ -38,9 +38,9 @@ pub enum Event {
     },
 }
 
-/// What a line has beside its text.
+/// Where a line comes from: what it has beside its text.
 #[derive(Clone, Copy, Debug, PartialEq, Eq)]
-pub struct Mark {
+pub struct Origin {
     /// The index of its entry in the table.
     pub index: u16,
     /// The place of its frame: there is one exactly in profile Two.

@@ -4,7 +4,7 @@ ghost use Rattle.std.specs.Prelude.{◌≡◌, ◌≤◌, ◌<◌, ◌++◌, [],
 ghost use Rattle.defmt_decode.specs.Event.{tells, events_of, begun_of, line_with};
 ghost use Rattle.defmt_framing.specs.Notices.{HasText, told_by};
 
-use crate::event::{Event, Mark};
+use crate::event::{Event, Origin};
 use crate::reader::Reader;
 use defmt_framing::{Framer, Notice};
 use defmt_intern::Table;
@@ -80,7 +80,7 @@ impl Host {
         bytes: &[u8],
         text: &mut Vec<u8>,
         at: usize,
-    ) -> Result<(usize, Notice<Event, Mark>), Memory>
+    ) -> Result<(usize, Notice<Event, Origin>), Memory>
         requires { at ≤ length text.old.items }
         ensures within { IfOk result (λ r. r.0 ≤ length bytes.now) }
         // As of `feed`, with the event that the notice tells.
@@ -103,11 +103,11 @@ impl Host {
         let piece = &bytes[start..start + size];
         if let Some(told) = self.reader.line(piece, text, at)? {
             self.framer.pass_piece::<Event>(bytes, start, size);
-            let mark = Mark {
+            let origin = Origin {
                 index: told.index,
                 place: told.place,
             };
-            return Ok((start + size + 1, Notice::Line(mark, told.end)));
+            return Ok((start + size + 1, Notice::Line(origin, told.end)));
         }
         let notice = self.reader.notice(piece, text, at)?;
         self.framer.pass_piece::<Event>(bytes, start, size);
@@ -140,7 +140,7 @@ impl Host {
 }
 
 // A notice of what was told, if something was.
-fn notice_of(event: Option<Event>) -> Notice<Event, Mark>
+fn notice_of(event: Option<Event>) -> Notice<Event, Origin>
     ensures told { (buffer : List ℕ) → told_by line_with buffer result ≡ event }
     ensures text { (buffer : List ℕ) → HasText buffer result }
 {

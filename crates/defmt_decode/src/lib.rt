@@ -23,7 +23,7 @@ mod reader;
 mod room;
 mod screen;
 
-pub use event::{Event, Events, Mark};
+pub use event::{Event, Events, Origin};
 pub use host::Host;
 pub use laws::{
     any_cutting, cut_between_frames, cut_within_a_frame, events_by_parts, frames_read_back,

@@ -5,7 +5,7 @@ ghost use Rattle.defmt_decode.specs.Event.{line_notice, line_with, of_heard, of_
 ghost use Rattle.defmt_encode.specs.Heard.{IsHeard};
 ghost use Rattle.defmt_framing.specs.Notices.{HasText, told_by};
 
-use crate::event::{Event, Mark};
+use crate::event::{Event, Origin};
 use crate::quick::put_heard;
 use crate::reader::event_of_heard;
 use defmt_encode::{Heard, ReadCause};
@@ -44,7 +44,7 @@ pub(crate) fn notice_behind(
     at: usize,
     end: usize,
     heard: &mut Heard,
-) -> Result<Notice<Event, Mark>, Memory>
+) -> Result<Notice<Event, Origin>, Memory>
     requires places { at ≤ end }
     requires within { end ≤ length text.old }
     ensures told { IfOk result (λ notice. told_by line_with (drop at text.new) notice
@@ -63,7 +63,7 @@ fn notice_of_any(
     bytes: &[u8],
     text: &mut [u8],
     heard: &mut Heard,
-) -> Result<Notice<Event, Mark>, Memory>
+) -> Result<Notice<Event, Origin>, Memory>
     ensures told { IfOk result (λ notice. told_by line_with text.new notice
         ≡ Some (of_read table.now (read_of table.now bytes.now))) }
     ensures text { IfOk result (λ notice. HasText text.new notice) }
@@ -82,7 +82,7 @@ fn notice_of_heard(
     bytes: &[u8],
     text: &mut [u8],
     heard: &Heard,
-) -> Result<Notice<Event, Mark>, Memory>
+) -> Result<Notice<Event, Origin>, Memory>
     requires { IsHeard table.now bytes.now heard.now.place heard.now.stamp heard.now.stm.index
         heard.now.stm.args }
     ensures told { IfOk result (λ notice. told_by line_with text.new notice
@@ -93,9 +93,9 @@ fn notice_of_heard(
     let Some(end) = put_heard(table, heard, text) else {
         return Ok(Notice::Event(event_of_heard(alloc, table, bytes, heard)?));
     };
-    let mark = Mark {
+    let origin = Origin {
         index: heard.stm.index,
         place: heard.place,
     };
-    Ok(Notice::Line(mark, end))
+    Ok(Notice::Line(origin, end))
 }

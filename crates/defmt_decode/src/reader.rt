@@ -7,7 +7,7 @@ ghost use Rattle.defmt_encode.specs.Heard.{IsHeard};
 ghost use Rattle.defmt_framing.specs.Cut.{has_zero};
 ghost use Rattle.defmt_framing.specs.Notices.{HasText, told_by};
 
-use crate::event::{Event, Mark};
+use crate::event::{Event, Origin};
 use crate::notices::{line_behind, notice_behind};
 use crate::room::{line_room, make_room, room_behind};
 use defmt_eager::{EagerFault, line};
@@ -130,7 +130,7 @@ impl Reader {
         piece: &[u8],
         text: &mut Vec<u8>,
         at: usize,
-    ) -> Result<Notice<Event, Mark>, Memory>
+    ) -> Result<Notice<Event, Origin>, Memory>
         requires place { at ≤ length text.old.items }
         requires short { length piece.now ≤ 65536 }
         requires none { has_zero piece.now ≡ false }

@@ -15,11 +15,11 @@ pub trait Listener {
     /// Something that a part tells.
     type Event: Drop;
 
-    /// What a line has beside its text.
-    type Mark: Drop;
+    /// Where a line comes from: what it has beside its text.
+    type Origin: Drop;
 
     /// The line with this text.
-    ghost line: { Self.Mark → List ℕ → Self.Event };
+    ghost line: { Self.Origin → List ℕ → Self.Event };
 
     /// What each part tells.
     ghost tells: { Self → Tells Self.Event };
@@ -36,7 +36,7 @@ pub trait Listener {
         bytes: &[u8],
         text: &mut Vec<u8>,
         at: usize,
-    ) -> Result<(usize, Notice<Self::Event, Self::Mark>), Memory>
+    ) -> Result<(usize, Notice<Self::Event, Self::Origin>), Memory>
         requires { at ≤ length text.old.items }
         ensures within { IfOk result (λ r. r.0 ≤ length bytes.now) }
         ensures hears { IfOk result (λ r. (stream : List ℕ) → Stands (framing self.old) stream

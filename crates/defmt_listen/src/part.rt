@@ -92,23 +92,23 @@ pub fn add_told<L: Listener, R: Reporter<L>>(
 fn add_line_told<L: Listener, R: Reporter<L>>(
     reporter: &mut R,
     report: &mut Report,
-    mark: L::Mark,
+    origin: L::Origin,
     size: usize,
 ) -> Result<(), Memory>
     requires within { report.old.end + size ≤ length report.old.text.items }
     ensures lines { OnOk result (gathered report.new ≡ gathered report.old ++ R.reporting.line
-        reporter.old (L.line mark (take size (drop report.old.end report.old.text.items)))) }
+        reporter.old (L.line origin (take size (drop report.old.end report.old.text.items)))) }
     ensures within { OnOk result (IsGathered report.new) }
     ensures moved { OnOk result (reporter.new ≡ R.reporting.after reporter.old
-        (L.line mark (take size (drop report.old.end report.old.text.items)))) }
+        (L.line origin (take size (drop report.old.end report.old.text.items)))) }
     ensures fine { OnOk result (R.reporting.is_fault
-        (L.line mark (take size (drop report.old.end report.old.text.items))) ≡ false) }
+        (L.line origin (take size (drop report.old.end report.old.text.items))) ≡ false) }
     ensures faults { report.new.faults ≡ report.old.faults }
 {
-    match reporter.passes(&mark) {
+    match reporter.passes(&origin) {
         Passing::Kept => end_line(report, size),
         Passing::LeftOut => Ok(()),
-        Passing::Asked => add_asked::<L, R>(reporter, report, mark, size),
+        Passing::Asked => add_asked::<L, R>(reporter, report, origin, size),
     }
 }
 
@@ -116,24 +116,24 @@ fn add_line_told<L: Listener, R: Reporter<L>>(
 fn add_asked<L: Listener, R: Reporter<L>>(
     reporter: &mut R,
     report: &mut Report,
-    mark: L::Mark,
+    origin: L::Origin,
     size: usize,
 ) -> Result<(), Memory>
     requires within { report.old.end + size ≤ length report.old.text.items }
     ensures lines { OnOk result (gathered report.new ≡ gathered report.old ++ R.reporting.line
-        reporter.old (L.line mark (take size (drop report.old.end report.old.text.items)))) }
+        reporter.old (L.line origin (take size (drop report.old.end report.old.text.items)))) }
     ensures within { OnOk result (IsGathered report.new) }
     ensures moved { OnOk result (reporter.new ≡ R.reporting.after reporter.old
-        (L.line mark (take size (drop report.old.end report.old.text.items)))) }
+        (L.line origin (take size (drop report.old.end report.old.text.items)))) }
     ensures fine { OnOk result (R.reporting.is_fault
-        (L.line mark (take size (drop report.old.end report.old.text.items))) ≡ false) }
+        (L.line origin (take size (drop report.old.end report.old.text.items))) ≡ false) }
     ensures faults { report.new.faults ≡ report.old.faults }
 {
     let start = report.end;
     put_aside(report)?;
     reporter.add_text(
         report.alloc,
-        mark,
+        origin,
         &report.text[start..start + size],
         &mut report.lines,
     )
@@ -143,7 +143,7 @@ fn add_asked<L: Listener, R: Reporter<L>>(
 fn add_noticed<L: Listener, R: Reporter<L>>(
     reporter: &mut R,
     report: &mut Report,
-    notice: Notice<L::Event, L::Mark>,
+    notice: Notice<L::Event, L::Origin>,
 ) -> Result<(), ListenFault>
     requires room { report.old.faults + 1 < 2 ^ 64 }
     requires within { IsGathered report.old }
@@ -161,6 +161,6 @@ fn add_noticed<L: Listener, R: Reporter<L>>(
     match notice {
         Notice::Nothing => Ok(()),
         Notice::Event(event) => add_told::<L, R>(reporter, report, Some(event)),
-        Notice::Line(mark, size) => Ok(add_line_told::<L, R>(reporter, report, mark, size)?),
+        Notice::Line(origin, size) => Ok(add_line_told::<L, R>(reporter, report, origin, size)?),
     }
 }

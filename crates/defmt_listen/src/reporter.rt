@@ -7,7 +7,7 @@ use crate::listener::Listener;
 use dl_io::{Bytes, Memory};
 use std::alloc::Global;
 
-/// What a reporter says of the lines with a mark.
+/// What a reporter says of the lines with an origin.
 #[derive(Clone, Copy, Debug, PartialEq, Eq)]
 pub enum Passing {
     /// Of each of them its text and a newline are printed, and nothing else.
@@ -38,31 +38,31 @@ pub trait Reporter<L: Listener> {
     fn add_text(
         &mut self,
         alloc: Global,
-        mark: L::Mark,
+        origin: L::Origin,
         text: &[u8],
         out: &mut Bytes,
     ) -> Result<(), Memory>
         ensures appended { OnOk result (out.new.items
-            ≡ out.old.items ++ reporting.line self.old (L.line mark text.now)) }
-        ensures moved { OnOk result (self.new ≡ reporting.after self.old (L.line mark text.now)) }
-        ensures fine { reporting.is_fault (L.line mark text.now) ≡ false }
+            ≡ out.old.items ++ reporting.line self.old (L.line origin text.now)) }
+        ensures moved { OnOk result (self.new ≡ reporting.after self.old (L.line origin text.now)) }
+        ensures fine { reporting.is_fault (L.line origin text.now) ≡ false }
         ensures err { OnErr result (out.new.items ≡ out.old.items) }
         ensures same { OnErr result (self.new ≡ self.old) };
 
-    /// What is printed of each line with this mark, where that is settled before its text is seen. Then the reporter goes on behind
+    /// What is printed of each line with this origin, where that is settled before its text is seen. Then the reporter goes on behind
     /// that line, which is no fault; else it is as before.
-    fn passes(&mut self, mark: &L::Mark) -> Passing
+    fn passes(&mut self, origin: &L::Origin) -> Passing
         ensures kept { result ≡ Passing.Kept → (text : List ℕ)
-            → reporting.line self.old (L.line mark.now text) ≡ text ++ 10 ∷ [] }
+            → reporting.line self.old (L.line origin.now text) ≡ text ++ 10 ∷ [] }
         ensures left_out { result ≡ Passing.LeftOut → (text : List ℕ)
-            → reporting.line self.old (L.line mark.now text) ≡ [] }
+            → reporting.line self.old (L.line origin.now text) ≡ [] }
         ensures moved { IsSettled result → (text : List ℕ)
-            → self.new ≡ reporting.after self.old (L.line mark.now text) }
+            → self.new ≡ reporting.after self.old (L.line origin.now text) }
         ensures fine { IsSettled result → (text : List ℕ)
-            → reporting.is_fault (L.line mark.now text) ≡ false }
+            → reporting.is_fault (L.line origin.now text) ≡ false }
         ensures same { result ≡ Passing.Asked → self.new ≡ self.old }
     {
-        let _ = mark;
+        let _ = origin;
         Passing::Asked
     }
 

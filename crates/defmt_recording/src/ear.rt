@@ -1,7 +1,7 @@
 //! The host as a listener.
 ghost use Rattle.defmt_decode.specs.Event.{line_with, tells};
 
-use defmt_decode::{Event, Host, Mark};
+use defmt_decode::{Event, Host, Origin};
 use defmt_framing::Notice;
 use defmt_listen::Listener;
 use dl_io::Memory;
@@ -15,7 +15,7 @@ pub struct Ear {
 impl Listener for Ear {
     type Event = Event;
 
-    type Mark = Mark;
+    type Origin = Origin;
 
     ghost line = { line_with };
 
@@ -28,7 +28,7 @@ impl Listener for Ear {
         bytes: &[u8],
         text: &mut Vec<u8>,
         at: usize,
-    ) -> Result<(usize, Notice<Event, Mark>), Memory> {
+    ) -> Result<(usize, Notice<Event, Origin>), Memory> {
         self.host.hear(bytes, text, at)
     }
 

@@ -4,7 +4,7 @@ ghost use Rattle.defmt_recording.specs.Keeping.{by_keeping};
 
 use crate::ear::Ear;
 use crate::output::is_fault;
-use defmt_decode::{Event, Events, Mark};
+use defmt_decode::{Event, Events, Origin};
 use defmt_grammar::Text;
 use defmt_listen::Reporter;
 use dl_io::{Bytes, Memory};
@@ -28,14 +28,14 @@ impl Reporter<Ear> for Kept {
     fn add_text(
         &mut self,
         alloc: Global,
-        mark: Mark,
+        origin: Origin,
         text: &[u8],
         _out: &mut Bytes,
     ) -> Result<(), Memory> {
         let text = text_of(alloc, text)?;
         self.events.push(Event::Line {
-            index: mark.index,
-            place: mark.place,
+            index: origin.index,
+            place: origin.place,
             text,
         })
     }

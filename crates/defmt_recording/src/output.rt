@@ -5,7 +5,7 @@ ghost use Rattle.defmt_decode.specs.Event.{line_with};
 ghost use Rattle.defmt_encode.specs.Cause.{fault_name};
 ghost use Rattle.defmt_recording.specs.Output.{ended, event_line, gap_before, gap_between, gap_line, gapped_line, is_fault, last_behind};
 
-use defmt_decode::{Event, Mark, gap};
+use defmt_decode::{Event, Origin, gap};
 use defmt_encode::fault_name;
 use dl_io::{Bytes, Memory};
 use std::alloc::Global;
@@ -136,15 +136,15 @@ fn add_event(alloc: Global, event: &Event, out: &mut Bytes) -> Result<(), Memory
 pub fn add_line_of_text(
     alloc: Global,
     last: Option<u16>,
-    mark: Mark,
+    origin: Origin,
     text: &[u8],
     out: &mut Bytes,
 ) -> Result<(), Memory>
     ensures appended { OnOk result (out.new.items
-        ≡ out.old.items ++ gapped_line last (line_with mark text.now)) }
+        ≡ out.old.items ++ gapped_line last (line_with origin text.now)) }
     ensures err { OnErr result (out.new.items ≡ out.old.items) }
 {
-    match gap_between(last, mark.place) {
+    match gap_between(last, origin.place) {
         0 => add_ended(text, out),
         count => add_ended_behind(alloc, count, text, out),
     }
@@ -170,14 +170,14 @@ fn add_ended_behind(alloc: Global, count: u16, text: &[u8], out: &mut Bytes) -> 
 pub fn add_gap_of_text(
     alloc: Global,
     last: Option<u16>,
-    mark: Mark,
+    origin: Origin,
     out: &mut Bytes,
 ) -> Result<(), Memory>
     ensures appended { OnOk result (out.new.items
-        ≡ out.old.items ++ gap_line (gap_between last mark.place)) }
+        ≡ out.old.items ++ gap_line (gap_between last origin.place)) }
     ensures err { OnErr result (out.new.items ≡ out.old.items) }
 {
-    match gap_between(last, mark.place) {
+    match gap_between(last, origin.place) {
         0 => Ok(()),
         count => add_report_of_gap(alloc, count, out),
     }

@@ -4,7 +4,7 @@ ghost use Rattle.defmt_recording.specs.Output.{by_line};
 
 use crate::ear::Ear;
 use crate::output::{add_line, add_line_of_text, gap_between, is_fault, last_behind};
-use defmt_decode::{Event, Mark};
+use defmt_decode::{Event, Origin};
 use defmt_listen::{Passing, Reporter};
 use dl_io::{Bytes, Memory};
 use std::alloc::Global;
@@ -43,20 +43,20 @@ impl Reporter<Ear> for Printer {
     fn add_text(
         &mut self,
         alloc: Global,
-        mark: Mark,
+        origin: Origin,
         text: &[u8],
         out: &mut Bytes,
     ) -> Result<(), Memory> {
-        add_line_of_text(alloc, self.last, mark, text, out)?;
-        self.last = mark.place;
+        add_line_of_text(alloc, self.last, origin, text, out)?;
+        self.last = origin.place;
         Ok(())
     }
 
-    fn passes(&mut self, mark: &Mark) -> Passing {
-        if gap_between(self.last, mark.place) != 0 {
+    fn passes(&mut self, origin: &Origin) -> Passing {
+        if gap_between(self.last, origin.place) != 0 {
             return Passing::Asked;
         }
-        self.last = mark.place;
+        self.last = origin.place;
         Passing::Kept
     }
 

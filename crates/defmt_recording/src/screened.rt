@@ -7,7 +7,7 @@ use crate::ear::Ear;
 use crate::output::{
     add_gap, add_gap_of_text, add_line, add_line_of_text, gap_between, is_fault, last_behind,
 };
-use defmt_decode::{Event, Mark, shows, shows_line};
+use defmt_decode::{Event, Origin, shows, shows_line};
 use defmt_hooks::Rules;
 use defmt_intern::Table;
 use defmt_listen::{Passing, Reporter};
@@ -43,18 +43,18 @@ fn add_shown_text(
     rules: &Rules,
     table: &Table,
     last: Option<u16>,
-    mark: Mark,
+    origin: Origin,
     text: &[u8],
     out: &mut Bytes,
 ) -> Result<(), Memory>
     ensures appended { OnOk result (out.new.items ≡ out.old.items
-        ++ shown_line rules.now table.now.entries last (line_with mark text.now)) }
+        ++ shown_line rules.now table.now.entries last (line_with origin text.now)) }
     ensures err { OnErr result (out.new.items ≡ out.old.items) }
 {
-    if shows_line(rules, table, mark.index) {
-        return add_line_of_text(alloc, last, mark, text, out);
+    if shows_line(rules, table, origin.index) {
+        return add_line_of_text(alloc, last, origin, text, out);
     }
-    add_gap_of_text(alloc, last, mark, out)
+    add_gap_of_text(alloc, last, origin, out)
 }
 
 /// Prints the line of each event but of the lines that rules don't show, by a table, and in front of a line how many frames are
@@ -102,21 +102,21 @@ impl<'a> Reporter<Ear> for Screened<'a> {
     fn add_text(
         &mut self,
         alloc: Global,
-        mark: Mark,
+        origin: Origin,
         text: &[u8],
         out: &mut Bytes,
     ) -> Result<(), Memory> {
-        add_shown_text(alloc, self.rules, &self.table, self.last, mark, text, out)?;
-        self.last = mark.place;
+        add_shown_text(alloc, self.rules, &self.table, self.last, origin, text, out)?;
+        self.last = origin.place;
         Ok(())
     }
 
-    fn passes(&mut self, mark: &Mark) -> Passing {
-        if gap_between(self.last, mark.place) != 0 {
+    fn passes(&mut self, origin: &Origin) -> Passing {
+        if gap_between(self.last, origin.place) != 0 {
             return Passing::Asked;
         }
-        self.last = mark.place;
-        if shows_line(self.rules, &self.table, mark.index) {
+        self.last = origin.place;
+        if shows_line(self.rules, &self.table, origin.index) {
             Passing::Kept
         } else {
             Passing::LeftOut

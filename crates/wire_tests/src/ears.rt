@@ -131,7 +131,7 @@ impl Ear {
 impl Listener for Ear {
     type Event = Told;
 
-    type Mark = Manner;
+    type Origin = Manner;
 
     ghost line = { λ manner text. (if manner.shown then text ++ 10 ∷ [] else [], false) };
 
