@@ -1,13 +1,12 @@
 //! Lines of statements that are written into a room at a place, beside the same lines as texts of their own.
 use crate::eager::put_first_line;
-use crate::rooms::{PLACE, put_told, room_of, told_of};
 use crate::rows::Kind;
 use crate::shared::script_of;
 use defmt_flat::put_line;
 use defmt_script::Script;
 use std::alloc::Global;
 use std::test::Fail;
-use test_rows::{each_block, each_line, put_str};
+use test_rows::{PLACE, each_block, each_line, put_str, put_told, room_of, told_of};
 
 // The strings that the arguments of a format string name.
 const STRINGS: &str = "\

@@ -14,8 +14,6 @@ mod intern;
 #[cfg(test)]
 mod places;
 #[cfg(test)]
-mod rooms;
-#[cfg(test)]
 mod rows;
 #[cfg(test)]
 mod shared;

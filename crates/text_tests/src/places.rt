@@ -2,7 +2,6 @@
 ghost use Rattle.std.specs.Prelude.{◌≤◌, length};
 
 use crate::hints::{first_pieces, push_value};
-use crate::rooms::{PLACE, put_told, room_of, told_of};
 use crate::rows;
 use crate::shared::{put_visible, script_of};
 use defmt_grammar::{Base, Hint, Kind, Param, Piece, Text};
@@ -13,7 +12,7 @@ use defmt_values::Value;
 use std::alloc::Global;
 use std::fmt::Write;
 use std::test::Fail;
-use test_rows::each_line;
+use test_rows::{PLACE, each_line, put_told, room_of, told_of};
 
 // A format string with a value, whether it is placed by defmt_put or left to defmt_hints, and its text by both.
 const NUMBERS: &str = "\

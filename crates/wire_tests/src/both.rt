@@ -3,7 +3,6 @@ ghost use Rattle.std.specs.Prelude.{OnOk};
 ghost use Rattle.defmt_values.specs.Fits.{IsLogged};
 
 use crate::messages::{put_cause, put_place};
-use crate::rooms::{PLACE, put_told, room_of, told_of};
 use defmt_eager::{EagerFault, line};
 use defmt_encode::{Heard, read_message};
 use defmt_grammar::Text;
@@ -13,7 +12,7 @@ use defmt_values::{Args, Statement, check, is_logged, look_up};
 use std::alloc::Global;
 use std::fmt::Write;
 use std::test::Fail;
-use test_rows::put_str;
+use test_rows::{PLACE, put_str, put_told, room_of, told_of};
 
 // What is read of a message, and the line of it.
 #[derive(Drop)]

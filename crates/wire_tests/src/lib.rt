@@ -18,8 +18,6 @@ mod parts;
 #[cfg(test)]
 mod plans;
 #[cfg(test)]
-mod rooms;
-#[cfg(test)]
 mod rows;
 #[cfg(test)]
 mod runs;

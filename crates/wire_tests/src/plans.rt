@@ -25,46 +25,46 @@ s c defmt_prim {=char:?}
 s word defmt_str {word|";
 
 // A format string with its arguments, whether the message of these is told by a plan or left, and what it's read and printed as.
-const SENT: &str = r#"hello {{}} = told 1: INFO  hello {}
-{=u8}, 255 = told 1: INFO  255
-{=u64:#x}, 18446744073709551615 = told 1: INFO  0xffffffffffffffff
-{=u8} {=u16} {=u32} {=usize}, 0 65535 1000000 4294967295 = told 1: INFO  0 65535 1000000 4294967295
-{=u64:us} {=u64:ms} {=u8:?} {=u8:a}, 1000250 7 65 65 = told 1: INFO  1.000250 0.007 65 65
-{=u8:#04x} {=u8:02X} {=u8:#b} {=u8:o}, 10 171 5 8 = told 1: INFO  0x0a AB 0b101 10
+const SENT: &str = r#"hello {{}} = placed 1: INFO  hello {}
+{=u8}, 255 = placed 1: INFO  255
+{=u64:#x}, 18446744073709551615 = placed 1: INFO  0xffffffffffffffff
+{=u8} {=u16} {=u32} {=usize}, 0 65535 1000000 4294967295 = placed 1: INFO  0 65535 1000000 4294967295
+{=u64:us} {=u64:ms} {=u8:?} {=u8:a}, 1000250 7 65 65 = placed 1: INFO  1.000250 0.007 65 65
+{=u8:#04x} {=u8:02X} {=u8:#b} {=u8:o}, 10 171 5 8 = placed 1: INFO  0x0a AB 0b101 10
 {=u128}, 7 = left 1: INFO  7
-{=i8} {=i16} {=i32} {=isize}, -128 -32768 2147483647 -2147483648 = told 1: INFO  -128 -32768 2147483647 -2147483648
-{=i64} {=i64:us} {=i64:ms} {=i64:?}, -9223372036854775808 -1 -7 0 = told 1: INFO  -9223372036854775808 -1 -7 0
-{=i64:x} {=i32:#X} {=i16:#010b} {=i8:o}, -1 -1 -1 -1 = told 1: INFO  ffffffffffffffff 0xFFFFFFFF 0b1111111111111111 377
+{=i8} {=i16} {=i32} {=isize}, -128 -32768 2147483647 -2147483648 = placed 1: INFO  -128 -32768 2147483647 -2147483648
+{=i64} {=i64:us} {=i64:ms} {=i64:?}, -9223372036854775808 -1 -7 0 = placed 1: INFO  -9223372036854775808 -1 -7 0
+{=i64:x} {=i32:#X} {=i16:#010b} {=i8:o}, -1 -1 -1 -1 = placed 1: INFO  ffffffffffffffff 0xFFFFFFFF 0b1111111111111111 377
 {=i128}, 7 = left 1: INFO  7
-{=bool} {=bool:x} {=char} {=char:x}, true false 'ä' '𝄞' = told 1: INFO  true false ä 𝄞
+{=bool} {=bool:x} {=char} {=char:x}, true false 'ä' '𝄞' = placed 1: INFO  true false ä 𝄞
 {=char:?}, 'a' = left 1: INFO  'a'
-{=str} {=str:x} {=str:?}, "aä€𝄞" "" "aä€𝄞" = told 1: INFO  aä€𝄞  "aä€𝄞"
+{=str} {=str:x} {=str:?}, "aä€𝄞" "" "aä€𝄞" = placed 1: INFO  aä€𝄞  "aä€𝄞"
 {=str:?}, "a\"b" = left 1: INFO  "a\"b"
 {=istr}, @word = left 1: INFO  {word|
-{=[u8]} {=[u8]:02x} {=[u8; 2]:#X}, # #0aff #0aff = told 1: INFO  [] [0a, ff] [0xA, 0xFF]
+{=[u8]} {=[u8]:02x} {=[u8; 2]:#X}, # #0aff #0aff = placed 1: INFO  [] [0a, ff] [0xA, 0xFF]
 {=[u8]:a}, #410a = left 1: INFO  b"A\n"
-{0=u8} {1=u8}, 1 2 = told 1: INFO  1 2
+{0=u8} {1=u8}, 1 2 = placed 1: INFO  1 2
 {1=u8} {0=u8}, 1 2 = left 1: INFO  2 1
 {0=u8} {0=u8:x}, 255 = left 1: INFO  255 ff
-{0=0..4} {0=4..8:x} {0=0..8:#b}, 0xa5 = told 1: INFO  5 a 0b10100101
+{0=0..4} {0=4..8:x} {0=0..8:#b}, 0xa5 = placed 1: INFO  5 a 0b10100101
 {0=0..4} {1=u8} {0=4..8}, 0xa5 7 = left 1: INFO  5 7 10
-{0=8..12:#b} {0=12..16} {1=u8}, 0x5a00 7 = told 1: INFO  0b1010 5 7
-{0=0..20}, 0xffffffff = told 1: INFO  1048575
-{0=0..32} {1=0..1} {1=1..64}, 4294967295 18446744073709551615 = told 1: INFO  4294967295 1 9223372036854775807
-{0=60..64} {1=64..72}, 0xf000000000000000 0xff0000000000000000 = told 1: INFO  15 255
+{0=8..12:#b} {0=12..16} {1=u8}, 0x5a00 7 = placed 1: INFO  0b1010 5 7
+{0=0..20}, 0xffffffff = placed 1: INFO  1048575
+{0=0..32} {1=0..1} {1=1..64}, 4294967295 18446744073709551615 = placed 1: INFO  4294967295 1 9223372036854775807
+{0=60..64} {1=64..72}, 0xf000000000000000 0xff0000000000000000 = placed 1: INFO  15 255
 {0=0..65}, 18446744073709551616 = left 1: INFO  18446744073709551616
-{=?} {=?:x} {=?:#x}, z() k(255) n(k(10)) = told 1: INFO  z kff <k0xa>
-{=?} {=?}, opt:0() opt:1(k(7)) = told 1: INFO  None Some(k7)
-{=?} {=[?]}, f(0xa5) f[(0x5a) (0xff)] = told 1: INFO  5/a [10/5, 15/f]
+{=?} {=?:x} {=?:#x}, z() k(255) n(k(10)) = placed 1: INFO  z kff <k0xa>
+{=?} {=?}, opt:0() opt:1(k(7)) = placed 1: INFO  None Some(k7)
+{=?} {=[?]}, f(0xa5) f[(0x5a) (0xff)] = placed 1: INFO  5/a [10/5, 15/f]
 {=?}, two(k(1) z()) = left 1: INFO  zk1
 {=?}, c('a') = left 1: INFO  'a'
-{=?}, n(n(n(k(7)))) = told 1: INFO  <<<k7>>>
-{=?}, n(n(n(n(n(n(n(n(n(n(n(n(n(n(n(k(7)))))))))))))))) = told 1: INFO  <<<<<<<<<<<<<<<k7>>>>>>>>>>>>>>>
+{=?}, n(n(n(k(7)))) = placed 1: INFO  <<<k7>>>
+{=?}, n(n(n(n(n(n(n(n(n(n(n(n(n(n(n(k(7)))))))))))))))) = placed 1: INFO  <<<<<<<<<<<<<<<k7>>>>>>>>>>>>>>>
 {=?}, n(n(n(n(n(n(n(n(n(n(n(n(n(n(n(c('a')))))))))))))))) = left 1: INFO  <<<<<<<<<<<<<<<'a'>>>>>>>>>>>>>>>
-{=[?]} {=[?; 0]}, [] [] = told 1: INFO  [] []
-{=[?]:x} {=[?; 1]}, k[(255)] z[()] = told 1: INFO  [kff] [z]
-{=[?; 3]}, opt[0() 1(k(10)) 1(opt:0())] = told 1: INFO  [None, Some(k10), Some(None)]
-{=[?]}, k[(0) (1) (2) (3) (4) (5) (6) (7) (8) (9) (10) (11) (12) (13) (14) (15)] = told 1: INFO  [k0, k1, k2, k3, k4, k5, k6, k7, k8, k9, k10, k11, k12, k13, k14, k15]
+{=[?]} {=[?; 0]}, [] [] = placed 1: INFO  [] []
+{=[?]:x} {=[?; 1]}, k[(255)] z[()] = placed 1: INFO  [kff] [z]
+{=[?; 3]}, opt[0() 1(k(10)) 1(opt:0())] = placed 1: INFO  [None, Some(k10), Some(None)]
+{=[?]}, k[(0) (1) (2) (3) (4) (5) (6) (7) (8) (9) (10) (11) (12) (13) (14) (15)] = placed 1: INFO  [k0, k1, k2, k3, k4, k5, k6, k7, k8, k9, k10, k11, k12, k13, k14, k15]
 {=[?]}, two[(k(1) z())] = left 1: INFO  [zk1]
 {=[?]}, c[('a')] = left 1: INFO  ['a']"#;
 
@@ -78,8 +78,8 @@ read 01 00 05
 read nothing
 read 02 00
 =
-told 1: INFO  hello
-told 1: INFO  hello
+placed 1: INFO  hello
+placed 1: INFO  hello
 left cause 11
 left cause 11
 left cause 5
@@ -98,11 +98,11 @@ read 04 00 07 01
 read 05 00 07
 read 06 00
 =
-told 1: TRACE a
-told 2: DEBUG b 7
-told 3: WARN  7 c
-told 4: ERROR 263
-told 5: e 7
+placed 1: TRACE a
+placed 2: DEBUG b 7
+placed 3: WARN  7 c
+placed 4: ERROR 263
+placed 5: e 7
 left cause 3
 
 stamp 1000 250
@@ -113,9 +113,9 @@ read 01 00 ff ff ff ff ff ff ff ff
 read 02 00 e8 03 00 00 00 00 00 00
 read 01 00 e8 03 00 00 00 00 00
 =
-told 1: 0.001000 INFO  hello
-told 1: 18446744073709.551615 INFO  hello
-told, exact left, less left 2: bare
+placed 1: 0.001000 INFO  hello
+placed 1: 18446744073709.551615 INFO  hello
+placed, exact left, less left 2: bare
 left cause 5
 
 s truth defmt_info {=bool}
@@ -131,7 +131,7 @@ left cause 6
 left cause 7
 left cause 8
 left cause 5
-told 3: INFO  a
+placed 3: INFO  a
 
 s list defmt_info {=[?]}
 s k defmt_prim k
@@ -142,10 +142,10 @@ read 01 00 00 20 00 00 02 00
 read 01 00 01 20 00 00 02 00
 read 01 00 ff ff ff ff 02 00
 =
-told 1: INFO  []
+placed 1: INFO  []
 left cause 11
-told 1: INFO  [k, k, k, k, k, k, k, k, k, k, k, k, k, k, k, k]
-told 1: 24582 bytes
+placed 1: INFO  [k, k, k, k, k, k, k, k, k, k, k, k, k, k, k, k]
+placed 1: 24582 bytes
 left cause 12
 left cause 12
 
@@ -160,17 +160,17 @@ read 01 00 03 00 03 00 03 00 03 00 03 00 03 00 03 00 03 00 03 00 03 00 03 00 03 
 read 01 00 03 00 03 00 03 00 03 00 03 00 03 00 03 00 03 00 03 00 03 00 03 00 03 00 03 00 03 00 03 00 03 00 02 00 01
 =
 left cause 3
-told 1: INFO  b
+placed 1: INFO  b
 left cause 9
 left cause 2
-told 1: INFO  b
+placed 1: INFO  b
 left cause 10
 
 s dump defmt_info {=[u8]:#0255b}
 read 01 00 c8 00 00 00 ff*200
 read 01 00 ff 00 00 00 ff*255
 =
-told 1: 51406 bytes
+placed 1: 51406 bytes
 left 1: 65541 bytes";
 
 // The same of tables that no script has.
@@ -181,8 +181,8 @@ read 01 00 03 01 07
 read 01 00 ff ff 07 00 00 00 00 00 00
 read 01 00 03
 =
-told 1 place 259: INFO  hello 7
-told 1 place 65535: INFO  hello 7
+placed 1 place 259: INFO  hello 7
+placed 1 place 65535: INFO  hello 7
 left cause 5
 
 defmt_info hello
@@ -191,8 +191,8 @@ defmt_println bare
 read 01 00 07 ff 00
 read 03 00 07 ff 00
 =
-told 1: 7-ff INFO  hello
-told 3: bare
+placed 1: 7-ff INFO  hello
+placed 3: bare
 
 defmt_info hello
 defmt_timestamp {=u128}
