@@ -30,4 +30,4 @@ pub use laws::{
     intact_frames, one_event, without_end, without_front,
 };
 pub use places::{gap, gaps_count};
-pub use screen::{Screen, level_of, shows, shows_line};
+pub use screen::{Screen, shows, shows_line};

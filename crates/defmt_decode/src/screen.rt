@@ -1,26 +1,12 @@
 //! Which events are shown.
 
 ghost use Rattle.std.specs.Prelude.{◌≡◌};
-ghost use Rattle.defmt_decode.specs.Shown.{level_of, shows, shows_entry, shows_line};
+ghost use Rattle.defmt_decode.specs.Shown.{shows, shows_entry, shows_line};
 
 use crate::event::Event;
-use defmt_hooks::{Judge, Level, Rules, Watch, keeps};
-use defmt_intern::{Entry, Table, Tag};
+use defmt_hooks::{Judge, Rules, Watch, keeps, level_of};
+use defmt_intern::{Entry, Table};
 use std::marker::Model;
-
-/// The level of a tag, `None` where it is no level. Takes no memory.
-pub fn level_of(tag: &Tag) -> Option<Level>
-    ensures { result ≡ level_of tag.now }
-{
-    match tag {
-        Tag::Trace => Some(Level::Trace),
-        Tag::Debug => Some(Level::Debug),
-        Tag::Info => Some(Level::Info),
-        Tag::Warn => Some(Level::Warn),
-        Tag::Error => Some(Level::Error),
-        _ => None,
-    }
-}
 
 // Whether the rules show a line of this entry.
 fn shows_entry(rules: &Rules, entry: &Entry) -> bool

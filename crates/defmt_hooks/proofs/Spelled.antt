@@ -11,12 +11,14 @@ use Rattle.std.proofs.lemmas.Option.{same_Some}
 use Rattle.std.proofs.lemmas.Slice.Eq.{bytes_eq-Decides}
 use Rattle.defmt_grammar.specs.Cut.{cut, Lacks}
 use Rattle.defmt_grammar.proofs.Cuts.{cut_found, cut_again, Lacks-append}
+use Rattle.defmt_hooks.specs.Levels.{level_named}
+use Rattle.defmt_hooks.specs.declared.level.Level.{Level}
 use Rattle.defmt_hooks.specs.declared.level.Level.TheVariants.{Trace, Debug, Info, Warn, Error}
 use Rattle.defmt_hooks.specs.declared.level.Floor.{Floor}
 use Rattle.defmt_hooks.specs.declared.level.Floor.TheVariants.{At, Off}
 use Rattle.defmt_hooks.specs.declared.rules.Rules.{Rules}
 use Rattle.defmt_hooks.specs.Spelling.{word_of, IsName, pair_text, pairs_text, NoneTwice, AreListed, Spells}
-use Rattle.defmt_hooks.specs.Reading.{floor_in, pair_by, pair_in, behind, added, all_added, parts, rules_by, rules_of, rules_in}
+use Rattle.defmt_hooks.specs.Reading.{floor_in, floor_or, pair_by, pair_in, behind, added, all_added, parts, rules_by, rules_of, rules_in}
 
 abbrev Text : Type 0
 Text = List ℕ
@@ -26,19 +28,29 @@ Pair = List ℕ × Floor
 
 -- ---- the word of a floor
 
-pick : (b : Bool) (word : Text) (f g : Floor) (o : Option Floor) → (b ≡ true → word ≡ word_of f) → (o ≡ Some g → word ≡ word_of g) → cond b (Some f) o ≡ Some g → word ≡ word_of g
-pick true word f g o now later e = now refl ∙ ap word_of (same_Some f g e)
-pick false word f g o now later e = later e
+pick : (b : Bool) (word : Text) (l m : Level) (o : Option Level) → (b ≡ true → word ≡ word_of (At l)) → (o ≡ Some m → word ≡ word_of (At m)) → cond b (Some l) o ≡ Some m → word ≡ word_of (At m)
+pick true word l m o now later e = now refl ∙ ap (λ (n : Level). word_of (At n)) (same_Some l m e)
+pick false word l m o now later e = later e
+
+level_found : (word : Text) (l : Level) → level_named word ≡ Some l → word ≡ word_of (At l)
+level_found word l =
+    pick (bytes_eq word (codes "trace")) word Trace l _ ((bytes_eq-Decides word (codes "trace")).0)
+    (pick (bytes_eq word (codes "debug")) word Debug l _ ((bytes_eq-Decides word (codes "debug")).0)
+    (pick (bytes_eq word (codes "info")) word Info l _ ((bytes_eq-Decides word (codes "info")).0)
+    (pick (bytes_eq word (codes "warn")) word Warn l _ ((bytes_eq-Decides word (codes "warn")).0)
+    (pick (bytes_eq word (codes "error")) word Error l None ((bytes_eq-Decides word (codes "error")).0) (λ e. absurd cc)))))
+
+off_found : (b : Bool) (word : Text) (f : Floor) → (b ≡ true → word ≡ word_of Off) → cond b (Some Off) None ≡ Some f → word ≡ word_of f
+off_found true word f is e = is refl ∙ ap word_of (same_Some Off f e)
+off_found false word f is e = absurd cc
+
+floor_by : (word : Text) (o : Option Level) (f : Floor) → level_named word ≡ o → floor_or word o ≡ Some f → word ≡ word_of f
+floor_by word (Some l) f is e = level_found word l is ∙ ap word_of (same_Some (At l) f e)
+floor_by word None f is e = off_found (bytes_eq word (codes "off")) word f ((bytes_eq-Decides word (codes "off")).0) e
 
 floor_found : (word : Text) (f : Floor) → floor_in word ≡ Some f → word ≡ word_of f
 unfolding floor_in
-floor_found word f =
-    pick (bytes_eq word (codes "trace")) word (At Trace) f _ ((bytes_eq-Decides word (codes "trace")).0)
-    (pick (bytes_eq word (codes "debug")) word (At Debug) f _ ((bytes_eq-Decides word (codes "debug")).0)
-    (pick (bytes_eq word (codes "info")) word (At Info) f _ ((bytes_eq-Decides word (codes "info")).0)
-    (pick (bytes_eq word (codes "warn")) word (At Warn) f _ ((bytes_eq-Decides word (codes "warn")).0)
-    (pick (bytes_eq word (codes "error")) word (At Error) f _ ((bytes_eq-Decides word (codes "error")).0)
-    (pick (bytes_eq word (codes "off")) word Off f None ((bytes_eq-Decides word (codes "off")).0) (λ e. absurd cc))))))
+floor_found word f e = floor_by word (level_named word) f refl e
 
 floor_again : (f : Floor) → floor_in (word_of f) ≡ Some f
 unfolding floor_in

@@ -1,26 +1,25 @@
 -- The reading of rules, as functions on lists.
-use Rattle.std.specs.Prelude.{◌≡◌, ◌==◌, ◌&&◌, ℕ, not, List, [], ◌∷◌, ◌++◌, length, Option, Some, None, Result, Ok, Err, option_map, option_and_then, if◌then◌else◌, nat_lt, codes}
+use Rattle.std.specs.Prelude.{◌≡◌, ◌==◌, ◌&&◌, ℕ, not, List, [], ◌∷◌, ◌++◌, length, Option, Some, None, Result, Ok, Err, option_map, option_and_then, if◌then◌else◌, nat_lt}
 use Rattle.std.specs.List.{list_any, slice_split}
 use Rattle.std.specs.Str.{bytes_eq}
 use Rattle.std.specs.Borrow.{Bor}
 use Rattle.defmt_grammar.specs.Cut.{cut}
 use Rattle.defmt_hooks.specs.declared.fault.RuleFault.{RuleFault}
 use Rattle.defmt_hooks.specs.declared.fault.RuleFault.TheVariants.{Spelling, Memory}
-use Rattle.defmt_hooks.specs.declared.level.Level.TheVariants.{Trace, Debug, Info, Warn, Error}
+use Rattle.defmt_hooks.specs.Levels.{level_named}
+use Rattle.defmt_hooks.specs.Spelling.{word_of}
+use Rattle.defmt_hooks.specs.declared.level.Level.{Level}
 use Rattle.defmt_hooks.specs.declared.level.Floor.{Floor}
 use Rattle.defmt_hooks.specs.declared.level.Floor.TheVariants.{At, Off}
 use Rattle.defmt_hooks.specs.declared.rules.Rules.{Rules}
 
--- the floor that a word names
+-- the floor that a word names: the level that it names, or `off`
+abbrev pub floor_or : List ℕ → Option Level → Option Floor
+floor_or word (Some level) = Some (At level)
+floor_or word None = if bytes_eq word (word_of Off) then Some Off else None
+
 unfoldable pub floor_in : List ℕ → Option Floor
-floor_in word =
-    if bytes_eq word (codes "trace") then Some (At Trace)
-    else if bytes_eq word (codes "debug") then Some (At Debug)
-    else if bytes_eq word (codes "info") then Some (At Info)
-    else if bytes_eq word (codes "warn") then Some (At Warn)
-    else if bytes_eq word (codes "error") then Some (At Error)
-    else if bytes_eq word (codes "off") then Some Off
-    else None
+floor_in word = floor_or word (level_named word)
 
 -- a name, and the word behind the first equals sign
 abbrev pub pair_by : Option (List ℕ × List ℕ) → Option (List ℕ × Floor)

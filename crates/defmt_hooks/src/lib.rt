@@ -26,7 +26,7 @@ pub use fault::RuleFault;
 pub use floors::Floors;
 pub use hook::Hook;
 pub use judge::Judge;
-pub use level::{Floor, Level};
+pub use level::{Floor, Level, level_named, level_of};
 pub use reading::{one_spelling, read_rules, rules_are_spelled};
 pub use rules::{Rules, keeps};
 pub use stamp::Stamp;

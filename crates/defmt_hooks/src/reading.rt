@@ -8,7 +8,7 @@ ghost use Rattle.defmt_hooks.specs.Reading.{floor_in, pair_in, pair_view, added,
 
 use crate::fault::RuleFault;
 use crate::floors::Floors;
-use crate::level::{Floor, Level};
+use crate::level::{Floor, level_named};
 use crate::rules::Rules;
 use defmt_grammar::Text;
 use std::alloc::Global;
@@ -30,14 +30,10 @@ fn cut(text: &str, at: char) -> Option<(&str, &str)>
 fn floor_of(word: &str) -> Option<Floor>
     ensures { result ≡ floor_in word.now }
 {
-    match word {
-        "trace" => Some(Floor::At(Level::Trace)),
-        "debug" => Some(Floor::At(Level::Debug)),
-        "info" => Some(Floor::At(Level::Info)),
-        "warn" => Some(Floor::At(Level::Warn)),
-        "error" => Some(Floor::At(Level::Error)),
-        "off" => Some(Floor::Off),
-        _ => None,
+    match level_named(word) {
+        Some(level) => Some(Floor::At(level)),
+        None if word == "off" => Some(Floor::Off),
+        None => None,
     }
 }
 

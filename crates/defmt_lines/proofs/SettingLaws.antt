@@ -3,11 +3,12 @@ use Rattle.std.proofs.Common.{◌≡◌, ◌<◌, ◌≤◌, ◌++◌, ◌&&◌,
 use Rattle.std.specs.Prelude.{nat_lt}
 use Rattle.std.proofs.lemmas.Bool.Decides.{nat_tests}
 use Rattle.std.proofs.lemmas.Option.{same_Some}
+use Rattle.defmt_hooks.specs.Levels.{level_named}
 use Rattle.defmt_hooks.specs.declared.level.Level.{Level}
 use Rattle.defmt_intern.specs.declared.table.Profile.{Profile}
 use Rattle.defmt_lines.proofs.NumberLaws.{number_again, number_found, one_number}
 use Rattle.defmt_lines.specs.Number.{IsNumber, number_within}
-use Rattle.defmt_lines.specs.Settings.{IsOrder, Sets, SetsMode, SetsOrder, SetsProfile, SetsReader, SetsRing, SetsStamp, frames_limit, is_block, late_of, level_of, mode_of, mode_or, order_or, orders_limit, profile_of, profile_or, reader_or, ring_or, stamp_limit, stamp_or, with_mode, with_order, with_profile, with_reader, with_ring, with_stamp, with_words}
+use Rattle.defmt_lines.specs.Settings.{IsOrder, Sets, SetsMode, SetsOrder, SetsProfile, SetsReader, SetsRing, SetsStamp, frames_limit, is_block, late_of, mode_of, mode_or, order_or, orders_limit, profile_of, profile_or, reader_or, ring_or, stamp_limit, stamp_or, with_mode, with_order, with_profile, with_reader, with_ring, with_stamp, with_words}
 use Rattle.defmt_lines.specs.declared.cause.Cause.{Cause}
 use Rattle.defmt_lines.specs.declared.cause.Cause.TheVariants as causes
 use Rattle.defmt_lines.specs.declared.form.Form.{Form}
@@ -79,14 +80,14 @@ counted_by : (s : Settings) (number word : List ℕ) (n : ℕ) (level : Level) (
 counted_by s number word n level true is e = (n, level, is, fewer (length s.orders) orders_limit e, refl)
 counted_by s number word n level false is e = inr (n, level, is, not_fewer (length s.orders) orders_limit e, refl)
 
-order_by : (s : Settings) (number word : List ℕ) (o : Option ℕ) (l : Option Level) → number_within 0 frames_limit number ≡ o → level_of word ≡ l → SetsOrder number word s (order_or s o l)
+order_by : (s : Settings) (number word : List ℕ) (o : Option ℕ) (l : Option Level) → number_within 0 frames_limit number ≡ o → level_named word ≡ l → SetsOrder number word s (order_or s o l)
 order_by s number word (Some n) (Some level) e f = counted_by s number word n level (nat_lt (length s.orders) orders_limit) (number_found 0 frames_limit n number e, f) refl
 order_by s number word (Some n) None e f = inl (λ m level is. let clash : None ≡ Some level = sym f ∙ is.1 in absurd (cc clash), refl)
 order_by s number word None l e f = inl (λ m level is. no_number 0 frames_limit number e m is.0, refl)
 
 order_found : (s : Settings) (number word : List ℕ) → SetsOrder number word s (with_order s number word)
 unfolding with_order
-order_found s number word = order_by s number word (number_within 0 frames_limit number) (level_of word) refl refl
+order_found s number word = order_by s number word (number_within 0 frames_limit number) (level_named word) refl refl
 
 pub set_found : (form : Form) (words : List (List ℕ)) (s : Settings) → Sets form words s (with_words form words s)
 set_found forms.Ring (word ∷ []) s = ring_found s word

@@ -3,8 +3,8 @@ use Rattle.std.specs.Prelude.{◌≡◌, ◌≤◌, ◌<◌, ◌⊎◌, ◌&&◌
 use Rattle.std.specs.List.{AllByRecursion}
 use Rattle.std.specs.Option.{ForSome}
 use Rattle.defmt_grammar.specs.Kind.{at_word}
+use Rattle.defmt_hooks.specs.Levels.{level_named}
 use Rattle.defmt_hooks.specs.declared.level.Level.{Level}
-use Rattle.defmt_hooks.specs.declared.level.Level.TheVariants as levels
 use Rattle.defmt_intern.specs.declared.table.Profile.{Profile}
 use Rattle.defmt_intern.specs.declared.table.Profile.TheVariants as profiles
 use Rattle.defmt_lines.specs.Number.{IsNumber, number_within}
@@ -34,12 +34,6 @@ mode_of word =
 -- whether a word says that the reader is late
 abbrev pub late_of : List ℕ → Option Bool
 late_of word = at_word word ((codes "live", false) ∷ (codes "late", true) ∷ [])
-
--- the level that a word names
-abbrev pub level_of : List ℕ → Option Level
-level_of word = at_word word (
-    (codes "trace", levels.Trace) ∷ (codes "debug", levels.Debug) ∷ (codes "info", levels.Info)
-    ∷ (codes "warn", levels.Warn) ∷ (codes "error", levels.Error) ∷ [])
 
 abbrev pub is_block : RingMode → Bool
 is_block Block = true
@@ -103,7 +97,7 @@ SetsProfile word s (Err cause) = (profile_of word ≡ None) × (cause ≡ causes
 
 -- a number of frames, from 0 to the limit, and a level
 abbrev pub IsOrder : List ℕ → List ℕ → ℕ → Level → Type 0
-IsOrder number word n level = IsNumber 0 frames_limit number n × (level_of word ≡ Some level)
+IsOrder number word n level = IsNumber 0 frames_limit number n × (level_named word ≡ Some level)
 
 -- `d N LEVEL`
 abbrev pub SetsOrder : List ℕ → List ℕ → Settings → Result Settings Cause → Type 0
@@ -181,7 +175,7 @@ order_or s (Some n) (Some level) =
 order_or s number level = Err causes.Level
 
 unfoldable pub with_order : Settings → List ℕ → List ℕ → Result Settings Cause
-with_order s number word = order_or s (number_within 0 frames_limit number) (level_of word)
+with_order s number word = order_or s (number_within 0 frames_limit number) (level_named word)
 
 abbrev pub with_words : Form → List (List ℕ) → Settings → Result Settings Cause
 with_words forms.Ring (word ∷ []) s = with_ring s word

@@ -2,7 +2,7 @@
 
 ghost use Rattle.std.specs.Prelude.{◌≡◌, ◌∷◌, [], ℕ, List, Result, IfOk, Some, false};
 ghost use Rattle.defmt_lines.specs.LineView.{words_view};
-ghost use Rattle.defmt_lines.specs.Settings.{Sets, is_block, late_of, level_of, mode_of, no_settings, order_or, profile_of, with_mode, with_order, with_profile, with_reader, with_ring, with_stamp, with_words};
+ghost use Rattle.defmt_lines.specs.Settings.{Sets, is_block, late_of, mode_of, no_settings, order_or, profile_of, with_mode, with_order, with_profile, with_reader, with_ring, with_stamp, with_words};
 ghost use Rattle.defmt_lines.specs.declared.cause.Cause.{Cause as AnyCause};
 ghost use Rattle.defmt_lines.specs.declared.form.Form.{Form as AnyForm};
 ghost use Rattle.defmt_lines.specs.declared.settings.Settings.{Settings as AnySettings};
@@ -12,7 +12,7 @@ use crate::content::Words;
 use crate::form::Form;
 use crate::number::number_within;
 use crate::orders::Orders;
-use defmt_hooks::Level;
+use defmt_hooks::{Level, level_named};
 use defmt_intern::Profile;
 
 // The least and the greatest size of a ring.
@@ -203,7 +203,7 @@ impl Settings {
     fn with_order(&self, number: &str, word: &str) -> Result<Settings, Cause>
         ensures { result ≡ with_order self.now number.now word.now }
     {
-        match (number_within(0, FRAMES_LIMIT, number), level_of(word)) {
+        match (number_within(0, FRAMES_LIMIT, number), level_named(word)) {
             (Some(number), Some(level)) => self.with_one_more(number as u32, level),
             _ => Err(Cause::Level),
         }
@@ -281,19 +281,6 @@ fn profile_of(word: &str) -> Option<Profile>
     match word {
         "1" => Some(Profile::One),
         "2" => Some(Profile::Two),
-        _ => None,
-    }
-}
-
-fn level_of(word: &str) -> Option<Level>
-    ensures { result ≡ level_of word.now }
-{
-    match word {
-        "trace" => Some(Level::Trace),
-        "debug" => Some(Level::Debug),
-        "info" => Some(Level::Info),
-        "warn" => Some(Level::Warn),
-        "error" => Some(Level::Error),
         _ => None,
     }
 }

@@ -1,7 +1,5 @@
 //! The lines of orders.
 ghost use Rattle.std.specs.Prelude.{◌≡◌, ◌++◌, IfOk, OnOk};
-ghost use Rattle.defmt_hooks.specs.Spelling.{word_of};
-ghost use Rattle.defmt_hooks.specs.declared.level.Floor.TheVariants.{At};
 ghost use Rattle.defmt_print.specs.OrderLines.{order_lines, order_text};
 ghost use Rattle.defmt_recording.specs.Output.{ended};
 
@@ -43,23 +41,10 @@ fn add_order(
     ensures { OnOk result (out.new.items ≡ out.old.items ++ ended (order_text level turn)) }
 {
     out.extend_from_slice(b"-- level ")?;
-    out.extend_from_slice(word_of(level).as_bytes())?;
+    out.extend_from_slice(level.word().as_bytes())?;
     match turn {
         Some(turn) => add_count(alloc, b" from turn ", turn as u64, out)?,
         None => out.extend_from_slice(b" unheard")?,
     }
     out.push(b'\n')
-}
-
-// The word of a level.
-fn word_of(level: Level) -> &'static str
-    ensures { result.now ≡ word_of (At level) }
-{
-    match level {
-        Level::Trace => "trace",
-        Level::Debug => "debug",
-        Level::Info => "info",
-        Level::Warn => "warn",
-        Level::Error => "error",
-    }
 }

@@ -5,7 +5,9 @@ ghost use Rattle.defmt_hooks.specs.Judging.{JudgesBy};
 ghost use Rattle.defmt_hooks.specs.Kept.{keeps};
 
 use crate::rows::{Kind, each_line};
-use defmt_hooks::{Clock, Hook, Judge, Level, RuleFault, Rules, Stamp, Watch, keeps, read_rules};
+use defmt_hooks::{
+    Clock, Hook, Judge, Level, RuleFault, Rules, Stamp, Watch, keeps, level_named, read_rules,
+};
 use std::alloc::Global;
 use std::fmt::Write;
 use std::test::Fail;
@@ -112,17 +114,6 @@ pub(crate) fn put_stamps(row: &str, out: &mut String) -> Result<(), Fail> {
     put_answers(number_of(base)?, number_of(step)?, number_of(number)?, out)
 }
 
-fn level_of(word: &str) -> Option<Level> {
-    match word {
-        "trace" => Some(Level::Trace),
-        "debug" => Some(Level::Debug),
-        "info" => Some(Level::Info),
-        "warn" => Some(Level::Warn),
-        "error" => Some(Level::Error),
-        _ => None,
-    }
-}
-
 // Whether a watch with this judge keeps a message.
 fn is_kept_by<J: Judge + Drop>(rules: &Rules, judge: J, level: Level, name: &str) -> bool
     requires { JudgesBy rules.now (J.ready judge) (J.gives judge) }
@@ -170,7 +161,7 @@ pub(crate) fn put_rules(alloc: Global, row: &str, out: &mut String) -> Result<()
     let Some((word, name)) = rest.split_once('|') else {
         return Err(Fail::new("no package"));
     };
-    let Some(level) = level_of(word) else {
+    let Some(level) = level_named(word) else {
         return Err(Fail::new("another word than a level's"));
     };
     put_judged(alloc, text, level, name, out)

@@ -89,7 +89,7 @@ pub(crate) fn put_heard(text: &str, out: &mut String) -> Result<(), Fail> {
     Ok(())
 }
 
-fn level_of(digit: &str) -> Option<Level> {
+fn level_by_digit(digit: &str) -> Option<Level> {
     match digit {
         "1" => Some(Level::Trace),
         "2" => Some(Level::Debug),
@@ -131,7 +131,11 @@ fn steer_by<B: Books, Q: Quota, T: Work<Q>, S: HasBook<B, L>, L: Ledger, W: Wait
 fn orders_of(line: &str) -> (Option<Level>, Option<Level>, Option<Level>) {
     let (first, rest) = line.split_once(" ").unwrap_or((line, ""));
     let (second, third) = rest.split_once(" ").unwrap_or((rest, ""));
-    (level_of(first), level_of(second), level_of(third))
+    (
+        level_by_digit(first),
+        level_by_digit(second),
+        level_by_digit(third),
+    )
 }
 
 // Puts a line for each turn, how many there are, and at which the first two orders had been heard.

@@ -1,25 +1,14 @@
 -- The levels of a script's statements, and which of them are sent.
 use Rattle.std.specs.Prelude.{ℕ, Bool, true, Option, Some, None, slice_get}
 use Rattle.defmt_hooks.specs.Kept.{passes}
+use Rattle.defmt_hooks.specs.Levels.{level_of}
 use Rattle.defmt_hooks.specs.declared.level.Floor.TheVariants.{At}
 use Rattle.defmt_hooks.specs.declared.level.Level.{Level}
-use Rattle.defmt_hooks.specs.declared.level.Level.TheVariants as levels
 use Rattle.defmt_intern.specs.Table.{Map}
 use Rattle.defmt_intern.specs.declared.entry.Entry.{Entry}
-use Rattle.defmt_intern.specs.declared.entry.Tag.{Tag}
-use Rattle.defmt_intern.specs.declared.entry.Tag.TheVariants as tags
 use Rattle.defmt_script.specs.Script.{Script, statements_by}
 use Rattle.defmt_values.specs.Entries.{look}
 use Rattle.defmt_values.specs.declared.value.Statement.{Statement}
-
--- the level of a message with this tag, none for println
-abbrev pub level_of : Tag → Option Level
-level_of tags.Trace = Some levels.Trace
-level_of tags.Debug = Some levels.Debug
-level_of tags.Info = Some levels.Info
-level_of tags.Warn = Some levels.Warn
-level_of tags.Error = Some levels.Error
-level_of tag = None
 
 abbrev pub level_in : Option Entry → Option Level
 level_in None = None

@@ -1,24 +1,9 @@
 //! The levels of statements.
 ghost use Rattle.std.specs.Prelude.{◌≡◌};
-ghost use Rattle.rtt_down.specs.Levels.{is_sent, level_at, level_of};
+ghost use Rattle.rtt_down.specs.Levels.{is_sent, level_at};
 
-use defmt_hooks::{Floor, Level};
-use defmt_intern::Tag;
+use defmt_hooks::{Floor, Level, level_of};
 use defmt_script::Script;
-
-// The level of a message with this tag, none for println.
-fn level_of(tag: &Tag) -> Option<Level>
-    ensures { result ≡ level_of tag.now }
-{
-    match tag {
-        Tag::Trace => Some(Level::Trace),
-        Tag::Debug => Some(Level::Debug),
-        Tag::Info => Some(Level::Info),
-        Tag::Warn => Some(Level::Warn),
-        Tag::Error => Some(Level::Error),
-        _ => None,
-    }
-}
 
 // The level of a writer's statement.
 #[tactic(auto, unfolding(crate::specs::Levels::level_at))]
