@@ -8,8 +8,8 @@ ghost use Rattle.defmt_recording.specs.Shown.{shown_reports};
 ghost use Rattle.defmt_recording.specs.Calls.{files_of};
 ghost use Rattle.defmt_recording.specs.Decoding.{Decodes, Hears, HearsBy, IsFile, Loaded, RefusesFile, RefusesName, RefusesTable, table_limit};
 
-use crate::ear::Ear;
 use crate::fault::Fault;
+use crate::host_listener::HostListener;
 use crate::printer::Printer;
 use crate::screened::Screened;
 use defmt_decode::Host;
@@ -146,7 +146,7 @@ fn print_shown_recording<S: Source, K: Sink>(
     }
 }
 
-fn print_recording_with<S: Source, K: Sink, R: Reporter<Ear> + Drop>(
+fn print_recording_with<S: Source, K: Sink, R: Reporter<HostListener> + Drop>(
     alloc: Global,
     src: &mut S,
     out: &mut K,
@@ -161,7 +161,7 @@ fn print_recording_with<S: Source, K: Sink, R: Reporter<Ear> + Drop>(
     ensures source_count { S.faults src.old ≤ S.faults src.new }
     ensures sink_count { K.faults out.old ≤ K.faults out.new }
 {
-    match listen(alloc, src, out, Ear { host }, reporter) {
+    match listen(alloc, src, out, HostListener { host }, reporter) {
         Ok(0) => Fault::Fine,
         Ok(bad) => Fault::Events { bad },
         Err(ListenFault::Source) => Fault::Source,

@@ -9,8 +9,8 @@ ghost use Rattle.defmt_recording.specs.Calls.{files_of};
 ghost use Rattle.defmt_recording.specs.Dumping.{AreAsked, Dumps, Gives, GivesNone, Prints, PrintsBy, Shows, StopsAt};
 
 use crate::decoding::load;
-use crate::ear::Ear;
 use crate::fault::Fault;
+use crate::host_listener::HostListener;
 use crate::printer::Printer;
 use crate::screened::Screened;
 use defmt_decode::Host;
@@ -138,7 +138,7 @@ fn print_shown<K: Sink>(
     }
 }
 
-fn print_with<K: Sink, R: Reporter<Ear> + Drop>(
+fn print_with<K: Sink, R: Reporter<HostListener> + Drop>(
     alloc: Global,
     bytes: &[u8],
     out: &mut K,
@@ -152,7 +152,7 @@ fn print_with<K: Sink, R: Reporter<Ear> + Drop>(
         bytes.now (output_of K.held K.faults out.old out.new) result }
     ensures later { K.faults out.old ≤ K.faults out.new }
 {
-    match listen_bytes(alloc, bytes, out, Ear { host }, reporter) {
+    match listen_bytes(alloc, bytes, out, HostListener { host }, reporter) {
         Ok(0) => Fault::Fine,
         Ok(bad) => Fault::Events { bad },
         Err(ListenFault::Sink) => Fault::Sink,

@@ -2,7 +2,7 @@
 ghost use Rattle.std.specs.Prelude.{◌≡◌, ◌++◌, option_to_list, IfOk, OnOk};
 ghost use Rattle.defmt_decode.specs.Event.{events_of};
 
-use crate::ear::Ear;
+use crate::host_listener::HostListener;
 use crate::kept::Kept;
 use defmt_decode::{Event, Events, Host};
 use defmt_intern::Table;
@@ -16,11 +16,11 @@ pub fn events_of(alloc: Global, table: Table, front: &[u8], rest: &[u8]) -> Resu
 {
     let host = Host::new(alloc, table)?;
     let events = Events::new(alloc);
-    let ear = Ear { host };
+    let listener = HostListener { host };
     let kept = Kept { events };
-    let (ear, kept) = hear_bytes(alloc, ear, kept, front)?;
-    let (ear, kept) = hear_bytes(alloc, ear, kept, rest)?;
-    with_event(kept.events, ear.finish())
+    let (listener, kept) = hear_bytes(alloc, listener, kept, front)?;
+    let (listener, kept) = hear_bytes(alloc, listener, kept, rest)?;
+    with_event(kept.events, listener.finish())
 }
 
 fn with_event(events: Events, event: Option<Event>) -> Result<Events, Memory>

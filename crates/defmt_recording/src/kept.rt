@@ -2,7 +2,7 @@
 ghost use Rattle.std.specs.Prelude.{◌≡◌, IfOk};
 ghost use Rattle.defmt_recording.specs.Keeping.{by_keeping};
 
-use crate::ear::Ear;
+use crate::host_listener::HostListener;
 use crate::output::is_fault;
 use defmt_decode::{Event, Events, Origin};
 use defmt_grammar::Text;
@@ -18,7 +18,7 @@ pub struct Kept {
 }
 
 #[tactic(auto, unfolding(crate::specs::Output::is_fault))]
-impl Reporter<Ear> for Kept {
+impl Reporter<HostListener> for Kept {
     ghost reporting = { by_keeping };
 
     fn add_line(&mut self, _alloc: Global, event: Event, _out: &mut Bytes) -> Result<(), Memory> {

@@ -2,7 +2,7 @@
 ghost use Rattle.std.specs.Prelude.{◌≡◌, ◌++◌, OnErr, OnOk};
 ghost use Rattle.defmt_recording.specs.Output.{by_line};
 
-use crate::ear::Ear;
+use crate::host_listener::HostListener;
 use crate::output::{add_line, add_line_of_text, gap_between, is_fault, last_behind};
 use defmt_decode::{Event, Origin};
 use defmt_listen::{Passing, Reporter};
@@ -33,7 +33,7 @@ impl Printer {
 }
 
 #[tactic(auto, unfolding(crate::specs::Output::is_fault, crate::specs::Output::last_behind, crate::specs::Output::gapped_line, crate::specs::Output::gap_before, crate::specs::Output::event_line))]
-impl Reporter<Ear> for Printer {
+impl Reporter<HostListener> for Printer {
     ghost reporting = { by_line };
 
     fn add_line(&mut self, alloc: Global, event: Event, out: &mut Bytes) -> Result<(), Memory> {

@@ -3,7 +3,7 @@ ghost use Rattle.std.specs.Prelude.{◌≡◌, ◌++◌, None, OnErr, OnOk};
 ghost use Rattle.defmt_decode.specs.Event.{line_with};
 ghost use Rattle.defmt_recording.specs.Shown.{by_rules, screening, shown_line};
 
-use crate::ear::Ear;
+use crate::host_listener::HostListener;
 use crate::output::{
     add_gap, add_gap_of_text, add_line, add_line_of_text, gap_between, is_fault, last_behind,
 };
@@ -90,7 +90,7 @@ impl<'a> Screened<'a> {
 }
 
 #[tactic(auto, unfolding(crate::specs::Output::is_fault, crate::specs::Output::last_behind, crate::specs::Output::gapped_line, crate::specs::Output::gap_before, crate::specs::Output::event_line, crate::specs::Shown::shown_line))]
-impl<'a> Reporter<Ear> for Screened<'a> {
+impl<'a> Reporter<HostListener> for Screened<'a> {
     ghost reporting = { by_rules };
 
     fn add_line(&mut self, alloc: Global, event: Event, out: &mut Bytes) -> Result<(), Memory> {

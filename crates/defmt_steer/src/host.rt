@@ -103,7 +103,7 @@ impl Hosting for Brand {
 // The lower end of the ring of frames with what was captured of it, and the upper end of the ring of orders. All orders that
 // are due were sent.
 #[derive(Drop)]
-pub(crate) struct Host<'g, N: Hosting, U: UpEnd, D: DownEnd, G: Gate> {
+pub(crate) struct OrderSender<'g, N: Hosting, U: UpEnd, D: DownEnd, G: Gate> {
     pub(crate) reads: D,
     pub(crate) captured: Bytes,
     pub(crate) count: FrameCount,
@@ -124,21 +124,21 @@ pub(crate) struct Host<'g, N: Hosting, U: UpEnd, D: DownEnd, G: Gate> {
     ghost sent: { (U.view sends).sent ≡ orders_joined (due orders.items count.frames) },
 }
 
-// A host that has taken nothing yet, and has sent the orders that are due at first.
-pub(crate) fn host_of<'g, N: Hosting, U: UpEnd, D: DownEnd, G: Gate>(
+// A sender that has taken nothing yet, and has sent the orders that are due at first.
+pub(crate) fn order_sender<'g, N: Hosting, U: UpEnd, D: DownEnd, G: Gate>(
     reads: D,
     captured: Bytes,
     mut sends: U,
     orders: Vec<(u32, Level)>,
     gate: &'g G,
-) -> Host<'g, N, U, D, G>
+) -> OrderSender<'g, N, U, D, G>
     requires reads { ((D.view reads).split ≡ N.up) × ((D.view reads).got ≡ []) }
     requires captured { captured.items ≡ [] }
     requires sends { U.view sends ≡ new_up N.down 256 true }
     requires orders { (orders.items ≡ N.plan) × (length orders.items ≤ 64) }
 {
     let next = send_due(&mut sends, &orders, 0, 0);
-    Host {
+    OrderSender {
         reads,
         captured,
         count: FrameCount::new(),
@@ -158,7 +158,7 @@ pub(crate) struct HostEnds<U, D> {
     pub(crate) sends: U,
 }
 
-impl<'g, N: Hosting, U: UpEnd, D: DownEnd, G: Gate> Host<'g, N, U, D, G> {
+impl<'g, N: Hosting, U: UpEnd, D: DownEnd, G: Gate> OrderSender<'g, N, U, D, G> {
     // Takes bytes that are there, as far as there is room for them, tells the gate, and sends the orders that are due now. Answers
     // how many bytes it took.
     fn take(&mut self) -> usize
@@ -193,7 +193,7 @@ impl<'g, N: Hosting, U: UpEnd, D: DownEnd, G: Gate> Host<'g, N, U, D, G> {
         ensures sent { (U.view result.sends).sent
             ≡ orders_joined (due N.plan (whole_frames result.captured.items)) }
     {
-        let Host {
+        let OrderSender {
             reads,
             captured,
             count: _,
@@ -211,7 +211,7 @@ impl<'g, N: Hosting, U: UpEnd, D: DownEnd, G: Gate> Host<'g, N, U, D, G> {
     }
 }
 
-impl<'g, N: Hosting, U: UpEnd, D: DownEnd, G: Gate> Relief for Host<'g, N, U, D, G> {
+impl<'g, N: Hosting, U: UpEnd, D: DownEnd, G: Gate> Relief for OrderSender<'g, N, U, D, G> {
     ghost kept = { λ _. Unit {0} };
 
     fn ease(&mut self) {

@@ -7,7 +7,7 @@ ghost use Rattle.rtt_down.specs.Steered.{turns_of};
 ghost use Rattle.rtt_ring.specs.Views.{new_down, new_up};
 ghost use Rattle.shared_work.specs.Names.{AreNamed};
 
-use crate::host::{Host, HostEnds, Hosting, host_of};
+use crate::host::{HostEnds, Hosting, OrderSender, order_sender};
 use defmt_hooks::{Clock, Level, Stamp};
 use defmt_script::Script;
 use defmt_writers::{Gate, RingEnds, SettledRing, finish, prepare, run_threads, settle};
@@ -75,7 +75,7 @@ fn settle_steered<H: Channel, N: Hosting, K: Naming, G: Gate>(
     up: H::Up,
     down: H::Down,
     script: Script,
-    host: Host<'_, N, H::Up, H::Down, G>,
+    host: OrderSender<'_, N, H::Up, H::Down, G>,
 ) -> Result<SteeredRun, Memory>
     requires script { script ≡ K.script }
     requires up { (H.Up.view up).split ≡ N.up }
@@ -156,7 +156,7 @@ fn run_hosted<
         down: reads,
         captured,
     } = ends;
-    let host = host_of::<N, H::Up, H::Down, G>(reads, captured, sends, orders, gate);
+    let host = order_sender::<N, H::Up, H::Down, G>(reads, captured, sends, orders, gate);
     let (steered, mut helms) = Steered::<
         Eight<Named<E>>,
         EachTurn<K>,

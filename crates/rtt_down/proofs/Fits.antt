@@ -15,7 +15,7 @@ use Rattle.rtt_down.specs.declared.turn.Turn.{Turn}
 pub record Fitting (c : Course) (w : ℕ) : Type 0 where
   pub room : 0 < c.turns.room
   pub place : slice_index_or c.places w 0 < 4096
-  pub seen_few : c.listener.seen ≤ 786432
+  pub seen_few : c.heard.seen ≤ 786432
 
 -- where the writer has a statement left, of 4,096 at most
 pub fitting : (s : Script) (got : List ℕ) (c : Course) (w : ℕ) → SteersBy s got c → w < 8 → slice_index_or c.places w 0 < count s w → IsLawful s → Fitting c w

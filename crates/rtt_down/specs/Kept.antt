@@ -47,7 +47,7 @@ pub record Steers (s : Script) (got : List ℕ) (reel : Reel) (places : List ℕ
   pub few : length got ≤ 192 * length reel.turns
 
 abbrev pub SteersBy : Script → List ℕ → Course → Type 0
-SteersBy s got c = Steers s got c.turns c.places c.listener.ear c.listener.seen c.listener.floor
+SteersBy s got c = Steers s got c.turns c.places c.heard.ear c.heard.seen c.heard.floor
 
 -- from c to n a turn of the writer w was taken, by one look down, from d to e
 pub record Turned (s : Script) (d e : Down) (c n : Course) (w : ℕ) (t : Turn) : Type 0 where

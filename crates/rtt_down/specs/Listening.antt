@@ -9,7 +9,7 @@ abbrev pub FloorIs : List Level → ℕ → Level → Type 0
 FloorIs levels zero floor = floor ≡ Trace
 FloorIs levels (suc n) floor = slice_get levels n ≡ Some floor
 
--- what a listener knows that heard these bytes: the open line, how many orders there were, and the last of them
+-- what is known once these bytes were heard: the open line, how many orders there were, and the last of them
 pub record Heard (bytes : List ℕ) (line : Option (List ℕ)) (seen : ℕ) (floor : Level) : Type 0 where
   pub line_is : line ≡ kept_of (open_line bytes)
   pub seen_is : seen ≡ length (orders bytes)

@@ -6,7 +6,7 @@ ghost use Rattle.rtt_down.specs.Kept.{Steers};
 ghost use Rattle.rtt_down.specs.Levels.{is_sent, level_at};
 
 use crate::level::is_sent;
-use crate::listener::Listener;
+use crate::order_count::OrderCount;
 use crate::turn::Turn;
 use crate::turns::Turns;
 use defmt_hooks::Level;
@@ -21,14 +21,14 @@ const STATEMENTS: usize = 4096;
 pub(crate) struct Course {
     pub(crate) turns: Turns,
     pub(crate) places: [u32; 8],
-    pub(crate) listener: Listener,
+    pub(crate) heard: OrderCount,
 }
 
 impl Course {
     // No turn yet, and room for as many as a script has statements.
     pub(crate) fn start(alloc: Global) -> Result<Course, Memory>
         ensures steers { IfOk result (λ c. (s : AnyScript)
-            → Steers s [] c.turns c.places c.listener.ear c.listener.seen c.listener.floor) }
+            → Steers s [] c.turns c.places c.heard.ear c.heard.seen c.heard.floor) }
         ensures turns { IfOk result (λ c. c.turns.turns ≡ []) }
     {
         let mut turns = Turns::new(alloc);
@@ -36,7 +36,7 @@ impl Course {
         Ok(Course {
             turns,
             places: [0; 8],
-            listener: Listener::new(),
+            heard: OrderCount::new(),
         })
     }
 
@@ -52,35 +52,35 @@ impl Course {
         requires writer { writer < 8 }
         requires place { slice_index_or self.old.places writer 0 + 1 < 2 ^ 32 }
         requires room { 0 < self.old.turns.room }
-        requires taken { self.old.listener.seen + length taken.now < 2 ^ 32 }
+        requires taken { self.old.heard.seen + length taken.now < 2 ^ 32 }
         ensures turn { result ≡ record {
           writer = writer;
           place = slice_index_or self.old.places writer 0;
           stamp = stamp;
-          floor = self.new.listener.floor;
-          seen = self.new.listener.seen;
-          sent = is_sent level self.new.listener.floor;
+          floor = self.new.heard.floor;
+          seen = self.new.heard.seen;
+          sent = is_sent level self.new.heard.floor;
         } }
         ensures turns { self.new.turns.turns ≡ self.old.turns.turns ++ result ∷ [] }
         ensures steers { (s : AnyScript) (got : List ℕ)
             → Steers s got self.old.turns self.old.places
-            self.old.listener.ear self.old.listener.seen self.old.listener.floor
+            self.old.heard.ear self.old.heard.seen self.old.heard.floor
             → slice_index_or self.old.places writer 0 < count s writer
             → level ≡ level_at s writer (slice_index_or self.old.places writer 0)
             → stamp ≡ stamp_number s (length self.old.turns.turns)
             → length taken.now ≤ 192
             → Steers s (got ++ taken.now) self.new.turns self.new.places
-            self.new.listener.ear self.new.listener.seen self.new.listener.floor }
+            self.new.heard.ear self.new.heard.seen self.new.heard.floor }
     {
-        self.listener.hear_all(taken);
-        let floor = self.listener.floor();
+        self.heard.hear_all(taken);
+        let floor = self.heard.floor();
         let place = self.places[writer as usize];
         let turn = Turn {
             writer,
             place,
             stamp,
             floor,
-            seen: self.listener.seen(),
+            seen: self.heard.seen(),
             sent: is_sent(level, floor),
         };
         self.places[writer as usize] = place + 1;

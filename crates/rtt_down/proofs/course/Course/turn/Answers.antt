@@ -16,5 +16,5 @@ returns-clause-steers c s got k more level stamp few =
     ap (λ (f : Level). T f c.seen.result c.is_sent.result) c.floor-floor.ensures
     ∙ ap (λ (n : ℕ). T new.floor n c.is_sent.result) c.seen.ensures
     ∙ ap (λ (b : Bool). T new.floor new.seen b) (c.is_sent.ensures ∙ ap (is_sent c.args.level) c.floor-floor.ensures) in
-    steers_next s got c.args.taken.now old.turns c.push_reserved.new.self old.places _ old.listener.ear new.ear old.listener.seen new.seen old.listener.floor new.floor w c.args.stamp c.args.level
+    steers_next s got c.args.taken.now old.turns c.push_reserved.new.self old.places _ old.heard.ear new.ear old.heard.seen new.seen old.heard.floor new.floor w c.args.stamp c.args.level
     (T c.floor-floor.result c.seen.result c.is_sent.result) k (c.hear_all.ensures.heard got k.heard) c.requires.writer is c.push_reserved.ensures.turns c.push_reserved.ensures.room refl more level stamp few

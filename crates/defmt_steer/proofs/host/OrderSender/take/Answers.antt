@@ -1,9 +1,9 @@
 use Rattle.std.proofs.Common.{subst, sym}
 use Rattle.defmt_steer.proofs.Due.{Front, still_front}
 use Rattle.defmt_steer.specs.Steers.{Plan}
-use Rattle.defmt_steer.proofs.host.Host.take.Given.{Over}
-use Rattle.defmt_steer.proofs.host.Host.take.Goals.{After-deref}
-use Rattle.defmt_steer.proofs.host.Host.take.Goals as goal
+use Rattle.defmt_steer.proofs.host.OrderSender.take.Given.{Over}
+use Rattle.defmt_steer.proofs.host.OrderSender.take.Goals.{After-deref}
+use Rattle.defmt_steer.proofs.host.OrderSender.take.Goals as goal
 
 -- what was sent before is a front of what is due now
 front : (g : Over) (c : After-deref g) → let s = c.args.self.now in Front c.deref.result.now c.take_counted-taken.new.count.frames s.next (g.U.UpEnd.view s.sends).sent

@@ -1,5 +1,5 @@
 use Rattle.rtt_down.proofs.Counting.{heard_order}
-use Rattle.rtt_down.proofs.listener.Listener.hear.Goals as goal
+use Rattle.rtt_down.proofs.order_count.OrderCount.hear.Goals as goal
 
 pub returns-in-Some-clause-heard : goal.returns-in-Some-clause-heard
 returns-in-Some-clause-heard c heard h =

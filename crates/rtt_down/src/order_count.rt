@@ -7,19 +7,19 @@ use defmt_hooks::Level;
 
 // Hears bytes, counts the orders in them and keeps the last.
 #[derive(Drop)]
-pub(crate) struct Listener {
+pub(crate) struct OrderCount {
     pub(crate) ear: Ear,
     pub(crate) seen: u32,
     pub(crate) floor: Level,
 }
 
-impl Listener {
-    // A listener that heard nothing yet: all levels are sent.
-    pub(crate) fn new() -> Listener
+impl OrderCount {
+    // A count of nothing yet: all levels are sent.
+    pub(crate) fn new() -> OrderCount
         ensures heard { Heard [] result.ear result.seen result.floor }
         ensures seen { result.seen ≡ 0 }
     {
-        Listener {
+        OrderCount {
             ear: Ear::new(),
             seen: 0,
             floor: Level::Trace,

@@ -8,20 +8,20 @@ use dl_io::Memory;
 
 /// A host that hears a recording.
 #[derive(Drop)]
-pub struct Ear {
+pub struct HostListener {
     pub host: Host,
 }
 
-impl Listener for Ear {
+impl Listener for HostListener {
     type Event = Event;
 
     type Origin = Origin;
 
     ghost line = { line_with };
 
-    ghost tells = { λ ear. tells ear.host.table };
+    ghost tells = { λ listener. tells listener.host.table };
 
-    ghost framing = { λ ear. ear.host.framing };
+    ghost framing = { λ listener. listener.host.framing };
 
     fn hear(
         &mut self,

@@ -1,7 +1,7 @@
 use Rattle.std.proofs.Common.{ℕ, ap, ◌∙◌}
 use Rattle.defmt_steer.specs.Steers.{Plan, due}
 use Rattle.rtt_down.specs.Orders.{orders_joined}
-use Rattle.defmt_steer.proofs.host.Host.into_parts.Goals as goal
+use Rattle.defmt_steer.proofs.host.OrderSender.into_parts.Goals as goal
 
 pub returns-clause-sent : goal.returns-clause-sent
 returns-clause-sent g c =

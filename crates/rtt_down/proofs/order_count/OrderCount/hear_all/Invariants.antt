@@ -1,6 +1,6 @@
 use Rattle.std.proofs.Common.{ℕ, ◌+◌, ◌≤◌, List, ◌++◌, take}
 use Rattle.rtt_down.specs.Listening.{Heard}
-use Rattle.rtt_down.proofs.listener.Listener.hear_all.Given as goal
+use Rattle.rtt_down.proofs.order_count.OrderCount.hear_all.Given as goal
 
 abbrev pub invariant-loop-byte : goal.invariant-loop-byte
 invariant-loop-byte l = record {
