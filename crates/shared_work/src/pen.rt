@@ -8,11 +8,14 @@ use std::sync::ledger::{Blank, Book, Ledger, Share};
 
 /// The leave of one writer to do its steps. A pen that was lent to a thread is still a pen of the same writer.
 ///
-/// Its share of the writer's ledger has counted as many steps as its place tells.
+/// Its share of the writer's ledger has counted as many steps as its place tells. The share is this crate's alone, so nobody else
+/// can set the place or the total to another number.
 #[derive(Drop)]
 pub struct Pen<S: Writer, L: Ledger, Q: Quota> {
-    pub(crate) place: u32,
-    pub(crate) total: u32,
+    /// How many steps the pen has done, which is the place of the next.
+    pub place: u32,
+    /// How many steps the writer has.
+    pub total: u32,
     pub(crate) share: Share<L>,
     pub(crate) of: PhantomData<(S, Q)>,
     pub ghost placed: { share.amount ≡ place },
