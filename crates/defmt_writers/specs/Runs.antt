@@ -1,5 +1,5 @@
 -- What a run of a script by threads answers.
-use Rattle.std.specs.Prelude.{◌≡◌, ℕ, ◌<◌, ◌⊎◌, Bool, true, List, [], ◌++◌, length}
+use Rattle.std.specs.Prelude.{◌≡◌, ℕ, ◌<◌, ◌≤◌, ◌⊎◌, Bool, true, List, [], ◌++◌, length}
 use Rattle.defmt_frames.specs.Frames.{count}
 use Rattle.defmt_lines.specs.declared.settings.RingMode.{RingMode}
 use Rattle.defmt_lines.specs.declared.settings.RingMode.TheVariants.{Block, Skip, Trim}
@@ -7,11 +7,18 @@ use Rattle.defmt_logger.specs.Kept.{LooksIn}
 use Rattle.defmt_logger.specs.Tape.{IsLawful, Released, marks_of, stream_of}
 use Rattle.defmt_logger.specs.declared.mark.Mark.{Mark}
 use Rattle.defmt_script.specs.Script.{Script}
+use Rattle.rtt_down.specs.Steered.{IsSteered, stream_of as steered_stream}
+use Rattle.rtt_down.specs.declared.turn.Turn.{Turn}
 use Rattle.rtt_ring.specs.Account.{Account}
 
 -- skip and trim want a ring that tells how many bytes were released
 abbrev pub ModeFits : RingMode → Bool → Type 0
 ModeFits mode tells = (mode ≡ Block) ⊎ (tells ≡ true)
+
+-- so many bytes hold the stream of any lawful tape of the script, and that of any turns which some orders steer
+pub record HoldsStreams (s : Script) (room : ℕ) : Type 0 where
+  pub tape : (tape : List Mark) → IsLawful s tape → length (stream_of s tape) ≤ room
+  pub turns : (turns : List Turn) (got : List ℕ) → IsSteered s turns got → length (steered_stream s turns) ≤ room
 
 -- in skip and trim mode what the looks of the tape found released is at most this number of bytes
 abbrev pub ReachedIn : RingMode → Script → List Mark → ℕ → Type 0

@@ -1,10 +1,10 @@
 //! The reader of a run.
-ghost use Rattle.std.specs.Prelude.{◌≡◌, true, []};
+ghost use Rattle.std.specs.Prelude.{◌≡◌, true, false, []};
+ghost use Rattle.defmt_writers.specs.Takes.{Takes};
 
 use crate::gate::Gate;
 use crate::reader::{FromSplit, Reader};
 use defmt_logger::Naming;
-use dl_io::Bytes;
 use rtt_modes::Relief;
 use rtt_ring::DownEnd;
 use std::marker::PhantomData;
@@ -12,8 +12,10 @@ use std::marker::PhantomData;
 /// A reader that is late where the script says so, and then takes nothing.
 #[derive(Drop)]
 pub struct Drain<'g, N: FromSplit, K: Naming, D: DownEnd, G: Gate> {
-    pub(crate) reader: Reader<'g, N, D, G>,
-    pub(crate) late: bool,
+    /// The reader.
+    pub reader: Reader<'g, N, D, G>,
+    /// Whether it is late.
+    pub late: bool,
     pub(crate) of: PhantomData<K>,
     ghost late_is: { late ≡ K.script.settings.late },
     ghost idle: { late ≡ true → reader.captured.items ≡ [] },
@@ -21,20 +23,14 @@ pub struct Drain<'g, N: FromSplit, K: Naming, D: DownEnd, G: Gate> {
 
 impl<'g, N: FromSplit, K: Naming, D: DownEnd, G: Gate> Drain<'g, N, K, D, G> {
     /// Takes until nothing is there, or there is no room. A late reader takes nothing.
-    pub fn take_all(&mut self) {
+    pub fn take_all(&mut self)
+        ensures in_time { self.old.late ≡ false → Takes (D.view self.old.reader.down)
+            (D.view self.new.reader.down) self.old.reader.captured self.new.reader.captured 0 }
+        ensures late { self.old.late ≡ true → self.new ≡ self.old }
+    {
         if !self.late {
             self.reader.take_all();
         }
-    }
-
-    // The end and what was captured of it.
-    pub(crate) fn into_parts(self) -> (D, Bytes)
-        ensures split { (D.view result.0).split ≡ N.split }
-        ensures got { (D.view result.0).got ≡ result.1.items }
-        ensures late { K.script.settings.late ≡ true → result.1.items ≡ [] }
-    {
-        let Drain { reader, .. } = self;
-        reader.into_parts()
     }
 }
 

@@ -1,5 +1,6 @@
 //! A reader of a ring.
-ghost use Rattle.std.specs.Prelude.{◌≡◌, ◌+◌, ◌≤◌, length};
+ghost use Rattle.std.specs.Prelude.{◌≡◌, ◌+◌};
+ghost use Rattle.defmt_writers.specs.Takes.{Takes};
 
 use crate::gate::Gate;
 use dl_io::Bytes;
@@ -10,29 +11,19 @@ use std::marker::{Brand, PhantomData};
 // The most bytes that one take moves.
 const PIECE: usize = 256;
 
-// Takes bytes into the buffer, and captures them.
-fn take_into<D: DownEnd>(down: &mut D, capture: &mut Bytes, buffer: &mut [u8]) -> usize
-    requires room { length buffer.old ≤ capture.old.room }
-    requires got { (D.view down.old).got ≡ capture.old.items }
-    ensures split { (D.view down.new).split ≡ (D.view down.old).split }
-    ensures got { (D.view down.new).got ≡ capture.new.items }
-    ensures room { capture.new.room + result ≡ capture.old.room }
-{
-    let count = down.take(buffer);
-    capture.extend_reserved(&buffer[..count]);
-    count
-}
-
 // Takes bytes that are there, as far as the capture has room for them, and tells the gate.
 pub(crate) fn take<D: DownEnd, G: Gate>(down: &mut D, capture: &mut Bytes, gate: &G) -> usize
     requires got { (D.view down.old).got ≡ capture.old.items }
     ensures split { (D.view down.new).split ≡ (D.view down.old).split }
     ensures got { (D.view down.new).got ≡ capture.new.items }
     ensures room { capture.new.room + result ≡ capture.old.room }
+    ensures takes { Takes (D.view down.old) (D.view down.new) capture.old capture.new result }
 {
     let mut buffer = [0; PIECE];
     let size = capture.spare().min(PIECE);
-    let count = take_into(down, capture, &mut buffer[..size]);
+    let piece = &mut buffer[..size];
+    let count = down.take(piece);
+    capture.extend_reserved(&piece[..count]);
     if count > 0 {
         gate.took(capture.len() as u64);
     }
@@ -69,23 +60,20 @@ pub struct Reader<'g, N: FromSplit, D: DownEnd, G: Gate> {
 }
 
 impl<'g, N: FromSplit, D: DownEnd, G: Gate> Reader<'g, N, D, G> {
-    // Takes bytes that are there, as far as there is room for them, and tells the gate. Answers how many.
-    fn take(&mut self) -> usize
-        ensures { self.new.captured.room + result ≡ self.old.captured.room }
+    /// Takes until nothing is there, or there is no room. What was captured before stays in front.
+    pub fn take_all(&mut self)
+        ensures { Takes (D.view self.old.down) (D.view self.new.down)
+            self.old.captured self.new.captured 0 }
     {
-        take(&mut self.down, &mut self.captured, self.gate)
+        while take(&mut self.down, &mut self.captured, self.gate) > 0 {}
     }
 
-    /// Takes until nothing is there, or there is no room.
-    pub fn take_all(&mut self) {
-        while self.take() > 0 {}
-    }
-
-    /// The end and what was captured of it.
+    /// The end and what was captured of it, as they are.
     pub fn into_parts(self) -> (D, Bytes)
+        ensures down { result.0 ≡ self.entry.down }
         ensures split { (D.view result.0).split ≡ N.split }
         ensures got { (D.view result.0).got ≡ result.1.items }
-        ensures captured { result.1.items ≡ self.entry.captured.items }
+        ensures captured { result.1 ≡ self.entry.captured }
     {
         let Reader { down, captured, .. } = self;
         (down, captured)
@@ -96,6 +84,6 @@ impl<'g, N: FromSplit, D: DownEnd, G: Gate> Relief for Reader<'g, N, D, G> {
     ghost kept = { λ _. Unit {0} };
 
     fn ease(&mut self) {
-        self.take();
+        take(&mut self.down, &mut self.captured, self.gate);
     }
 }

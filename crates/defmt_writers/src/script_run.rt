@@ -1,12 +1,9 @@
 //! How a run goes.
-ghost use Rattle.std.specs.Prelude.{◌≡◌, ◌<◌, ◌≤◌, ◌++◌, ℕ, List, [], IfOk, length};
+ghost use Rattle.std.specs.Prelude.{◌≡◌, ◌<◌, ◌≤◌, ◌-◌, ◌^◌, ◌++◌, ℕ, [], IfOk, length, min};
 ghost use Rattle.defmt_frames.specs.Frames.{count as count_of, pace_of};
 ghost use Rattle.defmt_logger.specs.Kept.{IsKept, TellsIn};
-ghost use Rattle.defmt_logger.specs.Tape.{IsLawful, marks_of, stream_of};
-ghost use Rattle.defmt_logger.specs.declared.mark.Mark.{Mark};
-ghost use Rattle.defmt_writers.specs.Runs.{IsRun, ModeFits};
-ghost use Rattle.rtt_down.specs.Steered.{IsSteered, stream_of as steered_stream};
-ghost use Rattle.rtt_down.specs.declared.turn.Turn.{Turn};
+ghost use Rattle.defmt_logger.specs.Tape.{marks_of};
+ghost use Rattle.defmt_writers.specs.Runs.{HoldsStreams, IsRun, ModeFits};
 ghost use Rattle.rtt_ring.specs.Views.{new_down, new_up};
 ghost use Rattle.shared_work.specs.Names.{AreNamed};
 
@@ -48,10 +45,7 @@ pub struct Run {
 // all its statements have.
 #[tactic(auto, using(crate::proofs::Capture::count_next))]
 fn frames_size(script: &Script) -> usize
-    ensures tape { (tape : List Mark) → IsLawful script.now tape
-        → length (stream_of script.now tape) ≤ result }
-    ensures turns { (turns : List Turn) (got : List ℕ) → IsSteered script.now turns got
-        → length (steered_stream script.now turns) ≤ result }
+    ensures { HoldsStreams script.now result }
 {
     script.lawful();
     canonical_size();
@@ -105,6 +99,9 @@ pub fn drain_of<'g, N: FromSplit, K: Naming, D: DownEnd, G: Gate>(
     requires late { late ≡ K.script.settings.late }
     requires split { (D.view down).split ≡ N.split }
     requires got { ((D.view down).got ≡ []) × (captured.items ≡ []) }
+    ensures late { result.late ≡ late }
+    ensures down { result.reader.down ≡ down }
+    ensures captured { result.reader.captured ≡ captured }
 {
     let reader = Reader {
         down,
@@ -184,7 +181,7 @@ pub fn settle<H: Channel>(alloc: Global, up: H::Up, down: H::Down) -> Result<Set
     Ok(SettledRing { settled, rest })
 }
 
-/// Settles the ring of a run of which every statement is on the tape.
+/// Settles the ring of a run of which every statement is on the tape. The tape and what the reader captured come back as they were.
 ///
 /// # Errors
 /// `Memory` where there is none.
@@ -203,9 +200,14 @@ pub fn settle_run<H: Channel, N: FromSplit, K: Naming, G: Gate>(
     ensures run { IfOk result (λ r.
         IsRun K.script r.tape.marks r.settled r.captured.items r.rest.items r.looks) }
     ensures ring { IfOk result (λ r. r.settled.ring ≡ H.KIND) }
+    ensures tape { IfOk result (λ r. r.tape ≡ tape) }
+    ensures sent { IfOk result (λ r. r.settled.sent ≡ (H.Up.view up).sent) }
+    ensures captured { IfOk result (λ r. r.captured ≡ drain.entry.reader.captured) }
+    ensures looks { IfOk result (λ r. r.looks ≡ min (H.Up.view up).looks (2 ^ 64 - 1)) }
 {
     let looks = up.looks();
-    let (down, captured) = drain.into_parts();
+    let Drain { reader, .. } = drain;
+    let (down, captured) = reader.into_parts();
     let SettledRing { settled, rest } = settle::<H>(alloc, up, down)?;
     Ok(Run {
         script,
@@ -252,7 +254,8 @@ pub fn run_script<H: Channel, C: Clock + Send + Drop, G: Gate + Sync, R: Threads
     )
 }
 
-/// The two ends of a new ring of the script's size, and the room for what the reader takes, with nothing in it.
+/// The two ends of a new ring of the script's size, and a capture with nothing in it that has room for all that the script's
+/// statements may send.
 ///
 /// # Errors
 /// `Memory` where there is none.
@@ -267,6 +270,7 @@ pub fn prepare<H: Channel>(
     ensures down { IfOk result (λ e. H.Down.view e.down
         ≡ new_down (H.Up.view e.up).split script.now.settings.ring) }
     ensures captured { IfOk result (λ e. e.captured.items ≡ []) }
+    ensures room { IfOk result (λ e. HoldsStreams script.now e.captured.room) }
 {
     script.lawful();
     let captured = empty_capture(alloc, frames_size(script))?;

@@ -1,5 +1,5 @@
 //! The writers' threads.
-ghost use Rattle.std.specs.Prelude.{◌≡◌, ◌≤◌, ◌<◌};
+ghost use Rattle.std.specs.Prelude.{◌≡◌, ◌≤◌, ◌<◌, false};
 
 use crate::gate::Gate;
 use defmt_script::WRITERS;
@@ -170,10 +170,11 @@ pub fn finish<E: Names, Q: Quota, T: Work<Q>, G: Gate, R: Relief, W: Wait>(
     log_all(rt, shared, &mut pens.p7, gate, relief);
 }
 
-/// Eases until all writers have ended, or waits for nothing where it isn't to ease.
+/// Eases until all writers have ended, or waits for nothing where it isn't to ease: then the relief comes back as it was.
 pub fn ease_on<R: Relief, W: Wait>(rt: &W, ended: &AtomicU64, eases: bool, mut relief: R) -> R
     requires { R.kept relief }
-    ensures { R.kept result }
+    ensures kept { R.kept result }
+    ensures same { eases ≡ false → result ≡ relief }
 {
     for _ in rt.forever() {
         if !eases || ended.load(Ordering::SeqCst) >= u64::from(WRITERS) {
@@ -186,7 +187,7 @@ pub fn ease_on<R: Relief, W: Wait>(rt: &W, ended: &AtomicU64, eases: bool, mut r
 }
 
 /// Starts a thread for each writer that has steps, lends it its pen, and waits until all have ended. Meanwhile it eases again and
-/// again, or sleeps where it isn't to ease.
+/// again, or sleeps where it isn't to ease: then the relief comes back as it was.
 pub fn run_threads<
     E: Names + Send,
     Q: Quota + Send,
@@ -203,7 +204,8 @@ pub fn run_threads<
     relief: R,
 ) -> R
     requires { R.kept relief }
-    ensures { R.kept result }
+    ensures kept { R.kept result }
+    ensures same { eases ≡ false → result ≡ relief }
 {
     let count = AtomicU64::new(0);
     let ended = &count;
@@ -212,7 +214,8 @@ pub fn run_threads<
         rt,
         move |scope| -> R
             requires { R.kept relief }
-            ensures { R.kept result }
+            ensures kept { R.kept result }
+            ensures same { eases ≡ false → result ≡ relief }
         {
             start_all(scope, rt, shared, pens, gate, ended);
             ease_on(rt, ended, eases, relief)
