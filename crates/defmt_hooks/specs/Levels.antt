@@ -8,7 +8,7 @@ use Rattle.defmt_hooks.specs.declared.level.Level.TheVariants as levels
 use Rattle.defmt_intern.specs.declared.entry.Tag.{Tag}
 use Rattle.defmt_intern.specs.declared.entry.Tag.TheVariants as tags
 
--- the level of a message with this tag, where it is one: println has none
+-- the level of a tag, where it is one: println has none
 abbrev pub level_of : Tag → Option Level
 level_of tags.Trace = Some levels.Trace
 level_of tags.Debug = Some levels.Debug

@@ -45,8 +45,8 @@ impl Level {
         }
     }
 
-    // The place in the order of levels.
-    fn rank(self) -> u8
+    /// The place in the order of levels, from 0 for `Trace` to 4 for `Error`.
+    pub fn rank(self) -> u8
         ensures { result ≡ rank self }
     {
         match self {

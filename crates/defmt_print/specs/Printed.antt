@@ -9,10 +9,10 @@ use Rattle.defmt_encode.specs.Placed.{place_in}
 use Rattle.defmt_frames.specs.Frames.{count, stamp_number}
 use Rattle.defmt_intern.specs.Table.{Map}
 use Rattle.defmt_intern.specs.declared.entry.Entry.{Entry}
-use Rattle.defmt_intern.specs.declared.entry.Tag.{Tag}
-use Rattle.defmt_intern.specs.declared.entry.Tag.TheVariants as tags
 use Rattle.defmt_logger.specs.declared.mark.Mark.{Mark}
 use Rattle.defmt_recording.specs.Output.{ended}
+use Rattle.defmt_hooks.specs.Kept.{rank}
+use Rattle.defmt_hooks.specs.Levels.{level_of}
 use Rattle.defmt_hooks.specs.declared.level.Level.{Level}
 use Rattle.defmt_hooks.specs.declared.level.Level.TheVariants as levels
 use Rattle.defmt_script.specs.Lawful.{stamp_in}
@@ -61,18 +61,13 @@ abbrev pub entry_with : Map → Option Statement → Option Entry
 entry_with table None = None
 entry_with table (Some stm) = look table stm.index
 
--- the tag is of this level
-abbrev pub has_level : Level → Tag → Bool
-has_level levels.Trace tags.Trace = true
-has_level levels.Debug tags.Debug = true
-has_level levels.Info tags.Info = true
-has_level levels.Warn tags.Warn = true
-has_level levels.Error tags.Error = true
-has_level level tag = false
+abbrev pub is_level : Level → Option Level → Bool
+is_level level None = false
+is_level level (Some other) = rank level == rank other
 
 abbrev pub entry_has_level : Level → Option Entry → Bool
 entry_has_level level None = false
-entry_has_level level (Some entry) = has_level level entry.tag
+entry_has_level level (Some entry) = is_level level (level_of entry.tag)
 
 -- the statement of a mark is of this level
 unfoldable pub is_of_level : Script → Level → Mark → Bool

@@ -1,12 +1,12 @@
 //! Counts of the statements of a run.
 ghost use Rattle.std.specs.Prelude.{[], ◌≡◌, ◌≤◌, ◌++◌, ◌==◌, sum_by, length, IfOk, OnOk};
 ghost use Rattle.defmt_encode.specs.Placed.{place_in};
-ghost use Rattle.defmt_print.specs.Printed.{count_line, has_level, is_of_level, level_line, message_size, summary, writer_count_line};
+ghost use Rattle.defmt_print.specs.Printed.{count_line, is_of_level, level_line, message_size, summary, writer_count_line};
 
 use crate::statements::stamp_in;
 use defmt_encode::{MESSAGE_LIMIT, message};
-use defmt_hooks::Level;
-use defmt_intern::{Profile, Tag};
+use defmt_hooks::{Level, level_of};
+use defmt_intern::Profile;
 use defmt_logger::{Mark, Tape};
 use defmt_recording::add_count;
 use defmt_script::Script;
@@ -87,22 +87,12 @@ fn is_of_level(script: &Script, level: Level, mark: &Mark) -> bool
     let Some(statement) = script.statement(mark.writer, mark.place) else {
         return false;
     };
-    match script.table().get(statement.index) {
-        Some(entry) => has_level(level, &entry.tag),
+    let Some(entry) = script.table().get(statement.index) else {
+        return false;
+    };
+    match level_of(&entry.tag) {
+        Some(other) => level.rank() == other.rank(),
         None => false,
-    }
-}
-
-fn has_level(level: Level, tag: &Tag) -> bool
-    ensures { result ≡ has_level level tag.now }
-{
-    match (level, tag) {
-        (Level::Trace, Tag::Trace)
-        | (Level::Debug, Tag::Debug)
-        | (Level::Info, Tag::Info)
-        | (Level::Warn, Tag::Warn)
-        | (Level::Error, Tag::Error) => true,
-        _ => false,
     }
 }
 

@@ -54,6 +54,14 @@ warn,a=info,|error|a = no rules
 warn,a=info,a=warn|error|a = no rules
 warn,a=info,b=info,a=info|error|a = no rules";
 
+// The words of levels, and the place of each in their order.
+const LEVELS: &str = "\
+trace = 0
+debug = 1
+info = 2
+warn = 3
+error = 4";
+
 // So many packages behind `off`, each with the floor `warn` and a number from 0 for its name: whether a warning of the last
 // of 32 is kept.
 const PACKAGES: &str = "\
@@ -167,6 +175,14 @@ pub(crate) fn put_rules(alloc: Global, row: &str, out: &mut String) -> Result<()
     put_judged(alloc, text, level, name, out)
 }
 
+// Puts the place of a level in their order.
+pub(crate) fn put_rank(word: &str, out: &mut String) -> Result<(), Fail> {
+    let Some(level) = level_named(word) else {
+        return Err(Fail::new("another word than a level's"));
+    };
+    Ok(write!(out, "{}", level.rank())?)
+}
+
 pub(crate) fn put_packages(alloc: Global, count: &str, out: &mut String) -> Result<(), Fail> {
     let count = u32::from_str_radix(count, 10)?;
     let mut text = String::from_str(alloc, "off")?;
@@ -185,6 +201,11 @@ fn stamps_are_evenly_apart(rt: HostRuntime) -> Result<(), Fail> {
 fn rules_keep_a_level_and_each_later_one(rt: HostRuntime) -> Result<(), Fail> {
     each_line(&rt, rt.alloc(), KEPT, 10, &Kind::Rules)?;
     each_line(&rt, rt.alloc(), PACKAGES, 3, &Kind::Packages)
+}
+
+#[test]
+fn levels_come_in_their_order(rt: HostRuntime) -> Result<(), Fail> {
+    each_line(&rt, rt.alloc(), LEVELS, 5, &Kind::Rank)
 }
 
 #[test]

@@ -1,6 +1,6 @@
 //! The rows of the tests, by what is asked of their inputs.
 use crate::forms::put_form;
-use crate::hooks::{put_packages, put_rules, put_stamps};
+use crate::hooks::{put_packages, put_rank, put_rules, put_stamps};
 use crate::hosted::put_hosted;
 use crate::logger::{put_logged, put_logged_and_dropped};
 use crate::macros::put_message;
@@ -18,6 +18,7 @@ use std::thread::Threads;
 pub(crate) enum Kind {
     Form,
     Stamps,
+    Rank,
     Rules,
     Packages,
     Site,
@@ -46,6 +47,7 @@ fn put_answer<R: Threads + Wait + Sync>(
     match kind {
         Kind::Form => put_form(alloc, input, out),
         Kind::Stamps => put_stamps(input, out),
+        Kind::Rank => put_rank(input, out),
         Kind::Rules => put_rules(alloc, input, out),
         Kind::Packages => put_packages(alloc, input, out),
         Kind::Site => put_site(alloc, input, out),

@@ -1,7 +1,7 @@
 //! The fields of a file, at the places of the ELF gABI.
 
 ghost use Rattle.std.specs.Prelude.{◌≡◌, ◌≤◌, ◌<◌, ◌+◌, ◌^◌, length};
-ghost use Rattle.byte_images.specs.Elf.{class_of, header_len};
+ghost use Rattle.byte_images.specs.Elf.{header_len};
 ghost use Rattle.elf_section.specs.File.{section_len, symbol_len, header_in, section_in, symbol_in};
 
 use byte_images::{Class, half_at, long_at, word_at};

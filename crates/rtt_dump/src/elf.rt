@@ -1,7 +1,7 @@
 //! The fields of a file, at the places of the ELF gABI.
 
 ghost use Rattle.std.specs.Prelude.{◌≡◌, ◌≤◌, ◌<◌, ◌+◌, ◌*◌, ◌^◌, length};
-ghost use Rattle.byte_images.specs.Elf.{class_of, header_len};
+ghost use Rattle.byte_images.specs.Elf.{header_len};
 ghost use Rattle.rtt_dump.specs.Elf.{IsTable, entry_len, header_in, is_elf, is_loaded, program_header, program_header_in};
 
 use byte_images::{Class, half_at, long_at, word_at};

@@ -24,7 +24,7 @@ s f defmt_prim {0=0..4}/{0=4..8:x}
 s c defmt_prim {=char:?}
 s word defmt_str {word|";
 
-// A format string with its arguments, whether the message of these is told by a plan or left, and what it's read and printed as.
+// A format string with its arguments, whether the line of their message is placed by a plan or left, and what it's read and printed as.
 const SENT: &str = r#"hello {{}} = placed 1: INFO  hello {}
 {=u8}, 255 = placed 1: INFO  255
 {=u64:#x}, 18446744073709551615 = placed 1: INFO  0xffffffffffffffff
