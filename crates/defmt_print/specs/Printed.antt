@@ -1,5 +1,5 @@
 -- What is printed of a script and of its run.
-use Rattle.std.specs.Prelude.{◌+◌, ◌<◌, ◌==◌, ℕ, Bool, true, false, List, [], ◌∷◌, ◌++◌, codes, length, Option, Some, None, flat_map, count_by, sum_by, slice_get}
+use Rattle.std.specs.Prelude.{◌+◌, ◌<◌, ◌==◌, ℕ, Bool, false, List, [], ◌∷◌, ◌++◌, codes, length, Option, Some, None, flat_map, count_by, sum_by, slice_get}
 use Rattle.std.specs.Fmt.{decimal}
 use Rattle.std.specs.List.{AllByRecursion}
 use Rattle.defmt_eager.specs.Line.{eager_line, IsWide}
@@ -61,6 +61,7 @@ abbrev pub entry_with : Map → Option Statement → Option Entry
 entry_with table None = None
 entry_with table (Some stm) = look table stm.index
 
+-- there is a level, and it is this one
 abbrev pub is_level : Level → Option Level → Bool
 is_level level None = false
 is_level level (Some other) = rank level == rank other

@@ -11,7 +11,7 @@ use std::marker::{Brand, PhantomData};
 // The most bytes that one take moves.
 const PIECE: usize = 256;
 
-// Takes bytes that are there, as far as the capture has room for them, and tells the gate.
+// Takes bytes that are there, as far as the capture has room for them, and tells the gate. Answers how many.
 pub(crate) fn take<D: DownEnd, G: Gate>(down: &mut D, capture: &mut Bytes, gate: &G) -> usize
     requires got { (D.view down.old).got ≡ capture.old.items }
     ensures split { (D.view down.new).split ≡ (D.view down.old).split }

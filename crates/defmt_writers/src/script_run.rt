@@ -1,9 +1,10 @@
 //! How a run goes.
-ghost use Rattle.std.specs.Prelude.{◌≡◌, ◌<◌, ◌≤◌, ◌-◌, ◌^◌, ◌++◌, ℕ, [], IfOk, length, min};
+ghost use Rattle.std.specs.Prelude.{◌≡◌, ◌<◌, ◌≤◌, ◌++◌, ℕ, [], IfOk, length};
 ghost use Rattle.defmt_frames.specs.Frames.{count as count_of, pace_of};
 ghost use Rattle.defmt_logger.specs.Kept.{IsKept, TellsIn};
 ghost use Rattle.defmt_logger.specs.Tape.{marks_of};
 ghost use Rattle.defmt_writers.specs.Runs.{HoldsStreams, IsRun, ModeFits};
+ghost use Rattle.rtt_ring.specs.Account.{capped};
 ghost use Rattle.rtt_ring.specs.Views.{new_down, new_up};
 ghost use Rattle.shared_work.specs.Names.{AreNamed};
 
@@ -203,7 +204,7 @@ pub fn settle_run<H: Channel, N: FromSplit, K: Naming, G: Gate>(
     ensures tape { IfOk result (λ r. r.tape ≡ tape) }
     ensures sent { IfOk result (λ r. r.settled.sent ≡ (H.Up.view up).sent) }
     ensures captured { IfOk result (λ r. r.captured ≡ drain.entry.reader.captured) }
-    ensures looks { IfOk result (λ r. r.looks ≡ min (H.Up.view up).looks (2 ^ 64 - 1)) }
+    ensures looks { IfOk result (λ r. r.looks ≡ capped (H.Up.view up).looks) }
 {
     let looks = up.looks();
     let Drain { reader, .. } = drain;

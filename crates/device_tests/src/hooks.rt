@@ -1,4 +1,4 @@
-//! Stamps, asked by number and through a holder, and rules for what is shown, asked through a watch.
+//! Stamps, asked by number and through a holder, the order of levels, and rules for what is shown, asked through a watch.
 ghost use Rattle.std.specs.Prelude.{◌≡◌, ◌≤◌, ◌+◌, ◌*◌};
 ghost use Rattle.defmt_hooks.specs.Even.{RunsEvenly};
 ghost use Rattle.defmt_hooks.specs.Judging.{JudgesBy};
