@@ -63,7 +63,7 @@ row "$work/recorded" defmt_encode::writing::message; message=$cost
 row "$work/recorded" defmt_encode::framing::frame; frame=$cost
 row "$work/recorded" defmt_frames::framing::write_frame; encoding=$cost
 row "$work/decoded" rzcobs_core::decoder::decode_zeroless_to_end
-row "$work/decoded" defmt_recording::ear::EarListener::hear; piece=$cost
+row "$work/decoded" defmt_recording::host_listener::HostListenerListener::hear; piece=$cost
 
 [ -n "$encoding" ] || [ -z "$message" ] || [ -z "$frame" ] || encoding=$((message + frame))
 due "instructions from a statement to its frame" "$encoding" 600
