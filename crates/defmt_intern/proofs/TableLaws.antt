@@ -175,3 +175,9 @@ one_refusal table k v a b (inl x) (inl y) = x.0 ∙ sym y.0
 one_refusal table k v a b (inl x) (inr y) = absurd (y.0 x.1)
 one_refusal table k v a b (inr x) (inl y) = absurd (x.0 y.1)
 one_refusal table k v a b (inr x) (inr y) = one_of_entry table v a b x.1 y.1
+
+pub one_refusal_to_add : (table : Map) (v : Entry) (a b : ℕ) → AddRefused table v a → AddRefused table v b → a ≡ b
+one_refusal_to_add table v a b (inl x) (inl y) = x.0 ∙ sym y.0
+one_refusal_to_add table v a b (inl x) (inr y) = absurd (y.0 x.1)
+one_refusal_to_add table v a b (inr x) (inl y) = absurd (x.0 y.1)
+one_refusal_to_add table v a b (inr x) (inr y) = one_of_entry table v a b x.1 y.1

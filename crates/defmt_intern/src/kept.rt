@@ -8,7 +8,7 @@ use crate::entry::Entry;
 use crate::parsed::Parsed;
 
 /// What a table keeps at an index.
-#[derive(Debug, Drop)]
+#[derive(Drop)]
 pub struct Kept {
     pub entry: Entry,
     pub parsed: Parsed,
