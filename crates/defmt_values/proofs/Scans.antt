@@ -1,5 +1,5 @@
 -- Scans of lists, one step at a time.
-use Rattle.std.proofs.Common.{◌≡◌, ◌<◌, ◌≤◌, ℕ, ◌+◌, ◌-◌, ◌*◌, ◌^◌, nat_le, Bool, true, false, min, List, [], ◌∷◌, length, map, Ok, Err, refl, subst, arith}
+use Rattle.std.proofs.Common.{◌≡◌, ◌<◌, ◌≤◌, ℕ, ◌+◌, ◌-◌, ◌*◌, ◌^◌, nat_le, Bool, true, false, min, List, [], ◌∷◌, length, map, Result, Ok, Err, refl, subst, arith}
 use Rattle.std.proofs.lemmas.Bool.{leb-true, leb-false, lt-leb}
 use Rattle.defmt_grammar.specs.Slots.{uses_at}
 use Rattle.defmt_grammar.specs.declared.piece.Piece.{Piece}
@@ -8,10 +8,35 @@ use Rattle.defmt_intern.specs.Table.{Map}
 use Rattle.defmt_intern.specs.declared.parsed.Parsed.{Parsed}
 use Rattle.defmt_values.specs.Entries.{places_of, places_from}
 use Rattle.defmt_values.specs.Plain.{Val, uint, int, flag, char, str, istr, bytes, bits, format, seq, no_elems, elem}
-use Rattle.defmt_values.specs.Scan.{scan_val, scan_vals, scan_elems, add, pick}
+use Rattle.defmt_values.specs.Scan.{◌>>=◌, scan_val, scan_vals, scan_elems, add, leaf_cause, pick}
 use Rattle.defmt_values.specs.View.{plain, vals_of, elems_of}
 use Rattle.defmt_values.specs.declared.value.Item.{Item}
+use Rattle.defmt_values.specs.declared.value.Node.{Node}
+use Rattle.defmt_values.specs.declared.value.Seq.{Seq}
 use Rattle.defmt_values.specs.declared.value.Value.{Value}
+use Rattle.defmt_values.specs.declared.value.Value.TheVariants as values
+
+-- a value inside which no values stand has the tests of a leaf alone
+pub leaf_scan : (t : Map) (left : ℕ) (slot : Slot) (w s : ℕ) (v : Value) → ((node : Node) → v ≡ values.Format node → ⊥) → ((list : Seq) → v ≡ values.Seq list → ⊥)
+    → scan_val t left slot w s (plain v) ≡ (leaf_cause t slot (plain v) >>= λ _. Ok s)
+unfolding scan_val
+leaf_scan t left slot w s (values.Uint n) no_node no_list = refl
+leaf_scan t left slot w s (values.Int n) no_node no_list = refl
+leaf_scan t left slot w s (values.Bool b) no_node no_list = refl
+leaf_scan t left slot w s (values.Char c) no_node no_list = refl
+leaf_scan t left slot w s (values.Str text) no_node no_list = refl
+leaf_scan t left slot w s (values.Istr index) no_node no_list = refl
+leaf_scan t left slot w s (values.Bytes read) no_node no_list = refl
+leaf_scan t left slot w s (values.Bits n) no_node no_list = refl
+leaf_scan t left slot w s (values.Format node) no_node no_list = absurd (no_node node refl)
+leaf_scan t left slot w s (values.Seq list) no_node no_list = absurd (no_list list refl)
+
+module _ (t : Map) (left : ℕ) (slot : Slot) (w s : ℕ) (v : Value) (no_node : (node : Node) → v ≡ values.Format node → ⊥) (no_list : (list : Seq) → v ≡ values.Seq list → ⊥) (r : Result (Unit {0}) ℕ) (is : r ≡ leaf_cause t slot (plain v)) where
+  pub leaf_passed : (done : Unit {0}) → r ≡ Ok done → Ok s ≡ scan_val t left slot w s (plain v)
+  leaf_passed done h = rw (leaf_scan t left slot w s v no_node no_list, ← is, h) refl
+
+  pub leaf_refused : (e : ℕ) → r ≡ Err e → Err e ≡ scan_val t left slot w s (plain v)
+  leaf_refused e h = rw (leaf_scan t left slot w s v no_node no_list, ← is, h) refl
 
 -- a weight past the limit is as good as another
 heavy : (t : Map) (left : ℕ) (slot : Slot) (w u s : ℕ) (v : Val) → nat_le (s + w) 8192 ≡ false → nat_le (s + u) 8192 ≡ false → scan_val t left slot w s v ≡ scan_val t left slot u s v

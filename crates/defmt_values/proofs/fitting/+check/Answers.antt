@@ -51,3 +51,17 @@ check_items-each-preserved t c = record {
 pub check_items-returns-clause-value : goal.check_items-returns-clause-value
 check_items-returns-clause-value t c =
     scans.elems_ended c.args.table.now.entries c.args.left c.args.weight c.args.form.now c.each.total c.each.rest.now c.in_default.ensures ∙ c.each.invariant.same
+
+pub check_value-returns-in_err-check_leaf-in_default : goal.check_value-returns-in_err-check_leaf-in_default
+check_value-returns-in_err-check_leaf-in_default t c =
+    let p = err_from_is_err_and c.from_residual-in_err-check_leaf-in_default.result c.from_residual-in_err-check_leaf-in_default.ensures.1 in
+    rw (p.1, p.2) (record {
+      value = scans.leaf_refused c.args.table.now.entries c.args.left c.args.slot c.args.weight c.args.sum c.args.value.now c.in_default.not-Format c.in_default.not-Seq c.check_leaf.result c.check_leaf.ensures c.in_err-check_leaf-in_default.field-0.0 c.in_err-check_leaf-in_default.was;
+      small = tt;
+    })
+
+pub check_value-returns-in_ok-check_leaf-in_default : goal.check_value-returns-in_ok-check_leaf-in_default
+check_value-returns-in_ok-check_leaf-in_default t c = record {
+  value = scans.leaf_passed c.args.table.now.entries c.args.left c.args.slot c.args.weight c.args.sum c.args.value.now c.in_default.not-Format c.in_default.not-Seq c.check_leaf.result c.check_leaf.ensures c.in_ok-check_leaf-in_default.field-0 c.in_ok-check_leaf-in_default.was;
+  small = c.requires.sum;
+}
