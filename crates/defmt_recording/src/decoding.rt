@@ -11,7 +11,7 @@ ghost use Rattle.defmt_recording.specs.Decoding.{Decodes, Hears, HearsBy, IsFile
 use crate::fault::Fault;
 use crate::host_listener::HostListener;
 use crate::printer::Printer;
-use crate::screened::Screened;
+use crate::screened::shown_by;
 use defmt_decode::Host;
 use defmt_hooks::Rules;
 use defmt_intern::Table;
@@ -120,7 +120,10 @@ fn print_recording<S: Source, K: Sink>(
     ensures sink_count { K.faults out.old ≤ K.faults out.new }
 {
     match only {
-        None => print_recording_with(alloc, src, out, host, Printer { last: None }),
+        None => {
+            let listener = HostListener { host };
+            print_recording_with(alloc, src, out, listener, Printer { last: None })
+        }
         Some(rules) => print_shown_recording(alloc, rules, src, out, host),
     }
 }
@@ -140,8 +143,8 @@ fn print_shown_recording<S: Source, K: Sink>(
     ensures source_count { S.faults src.old ≤ S.faults src.new }
     ensures sink_count { K.faults out.old ≤ K.faults out.new }
 {
-    match host.table().copy() {
-        Ok(table) => print_recording_with(alloc, src, out, host, Screened::new(rules, table)),
+    match shown_by(rules, host) {
+        Ok((listener, reporter)) => print_recording_with(alloc, src, out, listener, reporter),
         Err(_) => Fault::Memory,
     }
 }
@@ -150,18 +153,18 @@ fn print_recording_with<S: Source, K: Sink, R: Reporter<HostListener> + Drop>(
     alloc: Global,
     src: &mut S,
     out: &mut K,
-    host: Host,
+    listener: HostListener,
     reporter: R,
 ) -> Fault
-    requires { Stands host.framing [] }
+    requires { Stands listener.host.framing [] }
     ensures hears { Hears
-        (record { tells = tells host.table; reporting = R.reporting; start = reporter })
+        (record { tells = tells listener.host.table; reporting = R.reporting; start = reporter })
         (input_of S.left S.faults src.old src.new)
         (output_of K.held K.faults out.old out.new) result }
     ensures source_count { S.faults src.old ≤ S.faults src.new }
     ensures sink_count { K.faults out.old ≤ K.faults out.new }
 {
-    match listen(alloc, src, out, HostListener { host }, reporter) {
+    match listen(alloc, src, out, listener, reporter) {
         Ok(0) => Fault::Fine,
         Ok(bad) => Fault::Events { bad },
         Err(ListenFault::Source) => Fault::Source,

@@ -12,7 +12,7 @@ use crate::decoding::load;
 use crate::fault::Fault;
 use crate::host_listener::HostListener;
 use crate::printer::Printer;
-use crate::screened::Screened;
+use crate::screened::shown_by;
 use defmt_decode::Host;
 use defmt_hooks::Rules;
 use defmt_listen::{ListenFault, Reporter, listen_bytes};
@@ -113,7 +113,10 @@ fn print_bytes<K: Sink>(
     ensures later { K.faults out.old ≤ K.faults out.new }
 {
     match only {
-        None => print_with(alloc, bytes, out, host, Printer { last: None }),
+        None => {
+            let listener = HostListener { host };
+            print_with(alloc, bytes, out, listener, Printer { last: None })
+        }
         Some(rules) => print_shown(alloc, rules, bytes, out, host),
     }
 }
@@ -132,8 +135,8 @@ fn print_shown<K: Sink>(
         (output_of K.held K.faults out.old out.new) result }
     ensures later { K.faults out.old ≤ K.faults out.new }
 {
-    match host.table().copy() {
-        Ok(table) => print_with(alloc, bytes, out, host, Screened::new(rules, table)),
+    match shown_by(rules, host) {
+        Ok((listener, reporter)) => print_with(alloc, bytes, out, listener, reporter),
         Err(_) => Fault::Memory,
     }
 }
@@ -142,17 +145,17 @@ fn print_with<K: Sink, R: Reporter<HostListener> + Drop>(
     alloc: Global,
     bytes: &[u8],
     out: &mut K,
-    host: Host,
+    listener: HostListener,
     reporter: R,
 ) -> Fault
-    requires stands { Stands host.framing [] }
+    requires stands { Stands listener.host.framing [] }
     requires short { length bytes.now ≤ recording_limit }
     ensures prints { Prints
-        (record { tells = tells host.table; reporting = R.reporting; start = reporter })
+        (record { tells = tells listener.host.table; reporting = R.reporting; start = reporter })
         bytes.now (output_of K.held K.faults out.old out.new) result }
     ensures later { K.faults out.old ≤ K.faults out.new }
 {
-    match listen_bytes(alloc, bytes, out, HostListener { host }, reporter) {
+    match listen_bytes(alloc, bytes, out, listener, reporter) {
         Ok(0) => Fault::Fine,
         Ok(bad) => Fault::Events { bad },
         Err(ListenFault::Sink) => Fault::Sink,

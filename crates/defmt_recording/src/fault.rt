@@ -1,6 +1,7 @@
 //! What ends a command that hears a recording.
 
-ghost use Rattle.std.specs.Prelude.{[], ◌≡◌, ◌++◌, IfOk, OnOk};
+ghost use Rattle.std.specs.Prelude.{[], ◌≡◌, ◌++◌, codes, IfOk, OnOk};
+ghost use Rattle.std.specs.Fmt.{decimal};
 ghost use Rattle.defmt_recording.specs.Status.{status_of, said};
 
 use defmt_grammar::Text;
@@ -90,29 +91,60 @@ fn add_words(alloc: Global, fault: &Fault, text: &mut Text) -> Result<(), Memory
         Fault::Words => add(text, "words"),
         Fault::Source => add(text, "source"),
         Fault::Sink => add(text, "sink"),
-        Fault::Script { line, cause, inner } => {
-            let words = format!(in alloc; "script line {line} cause {cause} inner {inner}")?;
-            add(text, words.as_str())
-        }
+        Fault::Script { line, cause, inner } => add_script(alloc, *line, *cause, *inner, text),
         Fault::Elf { cause, place, .. } => {
-            let words = format!(in alloc; "table elf cause {cause} place {place}")?;
-            add(text, words.as_str())
+            add_refusal(alloc, "table elf cause ", *cause, " place ", *place, text)
         }
         Fault::Names { cause, symbol } => {
-            let words = format!(in alloc; "table name cause {cause} symbol {symbol}")?;
-            add(text, words.as_str())
+            add_refusal(
+                alloc,
+                "table name cause ",
+                *cause,
+                " symbol ",
+                *symbol,
+                text,
+            )
         }
         Fault::Shelf => add(text, "shelf"),
         Fault::Long => add(text, "too long"),
-        Fault::Events { bad } => {
-            let words = format!(in alloc; "events with faults {bad}")?;
-            add(text, words.as_str())
-        }
+        Fault::Events { bad } => add_number(alloc, "events with faults ", *bad, text),
         Fault::Control { cause, place } => {
-            let words = format!(in alloc; "control cause {cause} place {place}")?;
-            add(text, words.as_str())
+            add_refusal(alloc, "control cause ", *cause, " place ", *place, text)
         }
     }
+}
+
+fn add_script(alloc: Global, line: u32, cause: u8, inner: u8, text: &mut Text) -> Result<(), Memory>
+    ensures { OnOk result (text.new ≡ text.old ++ (codes "script line " ++ decimal line
+        ++ codes " cause " ++ decimal cause ++ codes " inner " ++ decimal inner)) }
+{
+    add_number(alloc, "script line ", u64::from(line), text)?;
+    add_number(alloc, " cause ", u64::from(cause), text)?;
+    add_number(alloc, " inner ", u64::from(inner), text)
+}
+
+// Appends a cause and its place, each behind its text.
+fn add_refusal(
+    alloc: Global,
+    front: &str,
+    cause: u8,
+    middle: &str,
+    place: u32,
+    text: &mut Text,
+) -> Result<(), Memory>
+    ensures { OnOk result (text.new ≡ text.old
+        ++ (front.now ++ decimal cause ++ middle.now ++ decimal place)) }
+{
+    add_number(alloc, front, u64::from(cause), text)?;
+    add_number(alloc, middle, u64::from(place), text)
+}
+
+// Appends a number behind its text.
+fn add_number(alloc: Global, front: &str, number: u64, text: &mut Text) -> Result<(), Memory>
+    ensures { OnOk result (text.new ≡ text.old ++ (front.now ++ decimal number)) }
+{
+    let words = format!(in alloc; "{front}{number}")?;
+    add(text, words.as_str())
 }
 
 fn add(text: &mut Text, words: &str) -> Result<(), Memory>

@@ -1,5 +1,5 @@
 //! What events print by rules.
-ghost use Rattle.std.specs.Prelude.{◌≡◌, ◌++◌, None, OnErr, OnOk};
+ghost use Rattle.std.specs.Prelude.{◌≡◌, ◌++◌, None, IfOk, OnErr, OnOk};
 ghost use Rattle.defmt_decode.specs.Event.{line_with};
 ghost use Rattle.defmt_recording.specs.Shown.{by_rules, screening, shown_line};
 
@@ -7,7 +7,7 @@ use crate::host_listener::HostListener;
 use crate::output::{
     add_gap, add_gap_of_text, add_line, add_line_of_text, gap_between, is_fault, last_behind,
 };
-use defmt_decode::{Event, Origin, shows, shows_line};
+use defmt_decode::{Event, Host, Origin, shows, shows_line};
 use defmt_hooks::Rules;
 use defmt_intern::Table;
 use defmt_listen::{Passing, Reporter};
@@ -87,6 +87,15 @@ impl<'a> Screened<'a> {
             last: None,
         }
     }
+}
+
+/// The host as a listener, and a reporter by these rules and a copy of its table, which saw no line yet.
+pub fn shown_by<'a>(rules: &'a Rules, host: Host) -> Result<(HostListener, Screened<'a>), Memory>
+    ensures host { IfOk result (λ r. r.0.host ≡ host) }
+    ensures reporter { IfOk result (λ r. r.1 ≡ screening rules.now host.table.entries None) }
+{
+    let table = host.table().copy()?;
+    Ok((HostListener { host }, Screened::new(rules, table)))
 }
 
 #[tactic(auto, unfolding(crate::specs::Output::is_fault, crate::specs::Output::last_behind, crate::specs::Output::gapped_line, crate::specs::Output::gap_before, crate::specs::Output::event_line, crate::specs::Shown::shown_line))]
