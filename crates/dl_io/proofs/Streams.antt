@@ -72,6 +72,12 @@ pub read_filled : {E : Type 0} (old new : Option (List ℕ)) (r : Result ℕ E) 
 read_filled old new (Ok n) buf got filled k within bound given = (take n got, take_filled buf got filled n k within bound.0, given.0)
 read_filled old new (Err e) buf got filled k within bound given = tt
 
+-- a read behind the bytes that were taken before
+pub read_goes_on : (a b c : Option (List ℕ)) (before buf got : List ℕ) (filled count : ℕ) → Consumes a b before → take filled buf ≡ before
+    → Took b c (λ taken. take (filled + count) got ≡ take filled buf ++ taken) → Consumes a c (take (filled + count) got)
+read_goes_on a b c before buf got filled count first same more =
+    subst (λ (l : List ℕ). Consumes a c l) (sym (more.1 ∙ ap (λ (l : List ℕ). l ++ more.0) same)) (consumes_then a b c before more.0 first more.2)
+
 -- what a fetch behind what is filled leaves in the buffer
 abbrev pub FetchedMore : List ℕ → List ℕ → ℕ → ℕ → List ℕ → Type 0
 FetchedMore buf new filled count file =
