@@ -1,8 +1,7 @@
 //! Kinds of parameters.
 
-ghost use Rattle.std.specs.Prelude.{◌≡◌};
-ghost use Rattle.std.specs.Prelude.{◌-◌};
-ghost use Rattle.defmt_grammar.specs.Kind.{named_kind, count_of, bits_of, array_len, kind_of};
+ghost use Rattle.std.specs.Prelude.{◌≡◌, ◌-◌, take, drop};
+ghost use Rattle.defmt_grammar.specs.Kind.{kind_names, at_word, named_kind, count_of, bits_of, array_len, kind_of};
 
 use crate::parts::{behind, behind_text, cut, number_of, skip_spaces};
 
@@ -54,9 +53,9 @@ pub enum Kind {
     Bits { lo: u8, hi: u8 },
 }
 
-// The kind of a text that is a word of its own.
-fn named_kind(text: &str) -> Option<Kind>
-    ensures { result ≡ named_kind text.now }
+// The kind of an unsigned integer's name.
+fn unsigned_kind(text: &str) -> Option<Kind>
+    ensures { result ≡ at_word text.now (take 6 kind_names) }
 {
     match text {
         "u8" => Some(Kind::Uint(IntSize::W8)),
@@ -65,12 +64,30 @@ fn named_kind(text: &str) -> Option<Kind>
         "u64" => Some(Kind::Uint(IntSize::W64)),
         "u128" => Some(Kind::Uint(IntSize::W128)),
         "usize" => Some(Kind::Uint(IntSize::Native)),
+        _ => None,
+    }
+}
+
+// The kind of a signed integer's name.
+fn signed_kind(text: &str) -> Option<Kind>
+    ensures { result ≡ at_word text.now (take 6 (drop 6 kind_names)) }
+{
+    match text {
         "i8" => Some(Kind::Int(IntSize::W8)),
         "i16" => Some(Kind::Int(IntSize::W16)),
         "i32" => Some(Kind::Int(IntSize::W32)),
         "i64" => Some(Kind::Int(IntSize::W64)),
         "i128" => Some(Kind::Int(IntSize::W128)),
         "isize" => Some(Kind::Int(IntSize::Native)),
+        _ => None,
+    }
+}
+
+// The kind of a text that is a word of its own, and names no integer.
+fn other_kind(text: &str) -> Option<Kind>
+    ensures { result ≡ at_word text.now (drop 12 kind_names) }
+{
+    match text {
         "bool" => Some(Kind::Bool),
         "char" => Some(Kind::Char),
         "str" => Some(Kind::Str),
@@ -79,6 +96,19 @@ fn named_kind(text: &str) -> Option<Kind>
         "?" => Some(Kind::Format),
         "[?]" => Some(Kind::FormatSlice),
         _ => None,
+    }
+}
+
+// The kind of a text that is a word of its own.
+fn named_kind(text: &str) -> Option<Kind>
+    ensures { result ≡ named_kind text.now }
+{
+    if let Some(kind) = unsigned_kind(text) {
+        Some(kind)
+    } else if let Some(kind) = signed_kind(text) {
+        Some(kind)
+    } else {
+        other_kind(text)
     }
 }
 
