@@ -2,13 +2,13 @@
 
 ghost use Rattle.std.specs.Prelude.{◌≡◌, ◌≤◌, ◌<◌, ◌^◌, List, length, IfOk};
 ghost use Rattle.defmt_intern.specs.declared.table.Profile.{Profile as AnyProfile};
-ghost use Rattle.elf_section.specs.Checks.{Passed, ProfileIs, Refusal, Refused};
+ghost use Rattle.elf_section.specs.Checks.{Passed, ProfileIs, Refusal, Refused, Tells};
 ghost use Rattle.elf_section.specs.File.{IsDefmt};
 ghost use Rattle.elf_section.specs.Listed.{Lists, HasProfile, Carries, Gets, ReadsSymbols, ReadsProfile, ReadsListing, GivesOnly, TellsOnly, ListsOnly, RefusesOnly, is_listed, symbol_of, symbols_below};
 ghost use Rattle.elf_section.specs.Symbol.{PlainSymbol, plain, plain_all};
 ghost use Rattle.elf_section.specs.Table.{IsOpen};
 
-use crate::fault::ElfFault;
+use crate::fault::{ElfFault, Fault};
 use crate::front::check_front;
 use crate::markers::{check_markers, check_profile};
 use crate::sections::{check_names, check_section_names, find_defmt, find_symbols, names_of};
@@ -98,6 +98,16 @@ fn defmt_of(alloc: Global, file: &[u8]) -> Result<u64, ElfFault>
     Ok(find_defmt(file, &names)?)
 }
 
+// The profile that the symbols of an open table say, behind the checks of their names and of the markers.
+fn profile_in(file: &[u8], table: &SymbolTable<'_>) -> Result<Profile, Fault>
+    requires { IsOpen file.now table.now }
+    ensures { Tells file.now result }
+{
+    check_symbol_names(file, table)?;
+    check_markers(file, table)?;
+    check_profile(file, table)
+}
+
 // The symbol table and the profile, behind all checks.
 fn table_of(alloc: Global, file: &[u8]) -> Result<Checked<'_>, ElfFault>
     requires short { length file.now < 2 ^ 32 }
@@ -109,20 +119,8 @@ fn table_of(alloc: Global, file: &[u8]) -> Result<Checked<'_>, ElfFault>
     let number = find_symbols(file)?;
     check_table(file, number)?;
     let table = open_table(alloc, file, number)?;
-    check_symbol_names(file, &table)?;
-    check_markers(file, &table)?;
-    let profile = check_profile(file, &table)?;
+    let profile = profile_in(file, &table)?;
     Ok(Checked { table, profile })
-}
-
-fn symbols_of(alloc: Global, file: &[u8]) -> Result<Vec<Symbol>, ElfFault>
-    requires { length file.now < 2 ^ 32 }
-    ensures answer { ReadsSymbols file.now result }
-    ensures few { IfOk result (λ v. length v.items ≤ length file.now) }
-{
-    let defmt = defmt_of(alloc, file)?;
-    let checked = table_of(alloc, file)?;
-    Ok(collect(alloc, file, defmt, &checked.table)?)
 }
 
 fn profile_of(alloc: Global, file: &[u8]) -> Result<Profile, ElfFault>
@@ -146,6 +144,15 @@ fn listing_of(alloc: Global, file: &[u8]) -> Result<Listing, ElfFault>
         symbols,
         profile: checked.profile,
     })
+}
+
+fn symbols_of(alloc: Global, file: &[u8]) -> Result<Vec<Symbol>, ElfFault>
+    requires { length file.now < 2 ^ 32 }
+    ensures answer { ReadsSymbols file.now result }
+    ensures few { IfOk result (λ v. length v.items ≤ length file.now) }
+{
+    let listing = listing_of(alloc, file)?;
+    Ok(listing.symbols)
 }
 
 /// The symbols of the section `.defmt` whose names begin with `{`, in the order of the symbol table,

@@ -29,6 +29,15 @@ fn push_word(out: &mut Bytes, number: u32) -> Result<(), Memory>
     out.extend_from_slice(&bytes)
 }
 
+// Two numbers of four bytes.
+fn push_words(out: &mut Bytes, numbers: (u32, u32)) -> Result<(), Memory>
+    ensures { OnOk result (out.new.items ≡ (out.old.items ++ word numbers.0) ++ word numbers.1) }
+{
+    push_word(out, numbers.0)?;
+    push_word(out, numbers.1)?;
+    Ok(())
+}
+
 // The ELF header, with the place of the section headers.
 #[tactic(auto, unfolding(crate::specs::Written::half, crate::specs::Written::word))]
 fn push_header(out: &mut Bytes, shoff: u32) -> Result<(), Memory>
@@ -48,11 +57,9 @@ fn push_header(out: &mut Bytes, shoff: u32) -> Result<(), Memory>
 fn push_symbol(out: &mut Bytes, name: u32, value: u32, info: u8, section: u16) -> Result<(), Memory>
     ensures { OnOk result (out.new.items ≡ out.old.items ++ symbol_bytes name value info section) }
 {
-    push_word(out, name)?;
-    push_word(out, value)?;
+    push_words(out, (name, value))?;
     push_word(out, 0)?;
-    out.push(info)?;
-    out.push(0)?;
+    out.extend_from_slice(&[info, 0])?;
     push_half(out, section)?;
     Ok(())
 }
@@ -69,16 +76,11 @@ fn push_section(
     ensures { OnOk result (out.new.items ≡ out.old.items
         ++ section_bytes name.0 name.1 part.0 part.1 links.0 links.1 units.0 units.1) }
 {
-    push_word(out, name.0)?;
-    push_word(out, name.1)?;
-    push_word(out, 0)?;
-    push_word(out, 0)?;
-    push_word(out, part.0)?;
-    push_word(out, part.1)?;
-    push_word(out, links.0)?;
-    push_word(out, links.1)?;
-    push_word(out, units.0)?;
-    push_word(out, units.1)?;
+    push_words(out, name)?;
+    push_words(out, (0, 0))?;
+    push_words(out, part)?;
+    push_words(out, links)?;
+    push_words(out, units)?;
     Ok(())
 }
 
