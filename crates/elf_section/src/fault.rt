@@ -28,7 +28,7 @@ pub enum Part {
 }
 
 /// Why a file is refused.
-#[derive(Clone, Copy, Debug, Drop, PartialEq, Eq)]
+#[derive(Clone, Copy, Drop)]
 pub enum Cause {
     Magic,
     Class,
@@ -84,7 +84,7 @@ impl Cause {
 }
 
 /// A refusal.
-#[derive(Clone, Copy, Debug, Drop, PartialEq, Eq)]
+#[derive(Clone, Copy, Drop)]
 pub struct Fault {
     pub cause: Cause,
     pub part: Part,

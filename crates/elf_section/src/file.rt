@@ -14,7 +14,7 @@ pub const SHT_STRTAB: u64 = 3;
 pub const SHF_COMPRESSED: u64 = 0x800;
 
 /// What the ELF header says of the sections.
-#[derive(Clone, Copy, Debug, Drop)]
+#[derive(Clone, Copy, Drop)]
 pub struct Header {
     pub shoff: u64,
     pub shentsize: u64,
@@ -23,7 +23,7 @@ pub struct Header {
 }
 
 /// What a section header says.
-#[derive(Clone, Copy, Debug, Drop)]
+#[derive(Clone, Copy, Drop)]
 pub struct Section {
     pub name: u64,
     pub kind: u64,
@@ -35,7 +35,7 @@ pub struct Section {
 }
 
 /// An entry of the symbol table: the place of its name, its value and its section.
-#[derive(Clone, Copy, Debug, Drop)]
+#[derive(Clone, Copy, Drop)]
 pub struct RawSymbol {
     pub name: u64,
     pub value: u64,
