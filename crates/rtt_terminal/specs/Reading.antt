@@ -4,6 +4,8 @@ use Rattle.std.specs.Borrow.{Bor}
 use Rattle.rtt_terminal.specs.declared.fault.Cause.{Cause}
 use Rattle.rtt_terminal.specs.declared.item.Item.{Item as Found}
 use Rattle.rtt_terminal.specs.declared.item.Item.TheVariants.{Switch, Line}
+use Rattle.rtt_terminal.specs.declared.fault.TermFault.{TermFault}
+use Rattle.rtt_terminal.specs.Answers.{Reads}
 use Rattle.rtt_terminal.specs.Stream.{Item, switch_item, line_item, item_bytes, IsItem, StartsBadly}
 
 -- the terminal of a digit
@@ -31,3 +33,8 @@ item_of (Line line) = line_item line.now
 abbrev pub Takes : List ℕ → Result (Found × Bor (List ℕ)) Cause → Type 0
 Takes bytes (Ok found) = (bytes ≡ item_bytes (item_of found.0) ++ found.1.now) × IsItem (item_of found.0)
 Takes bytes (Err cause) = StartsBadly cause bytes
+
+-- the screens show what the bytes show, or what isn't right in these is told
+abbrev pub Fills : List ℕ → List (List (List ℕ)) → Result (Unit {0}) TermFault → Type 0
+Fills bytes shown (Ok done) = Reads bytes (Ok shown)
+Fills bytes shown (Err fault) = Reads bytes (Err fault)

@@ -1,20 +1,21 @@
 //! A stream as lines for terminals.
-ghost use Rattle.std.specs.Prelude.{◌<◌, ◌^◌, ℕ, List, length};
+ghost use Rattle.std.specs.Prelude.{◌≡◌, ◌<◌, ◌^◌, ℕ, List, [], length};
 ghost use Rattle.rtt_terminal.specs.declared.fault.Cause.{Cause as AnyCause};
-ghost use Rattle.rtt_terminal.specs.Stream.{Shows, HasFault};
+ghost use Rattle.rtt_terminal.specs.Stream.{Shows, HasFault, screens};
 ghost use Rattle.rtt_terminal.specs.Answers.{Reads, GivesOnly, RefusesOnly};
+ghost use Rattle.rtt_terminal.specs.Reading.{Fills};
 
 use crate::fault::TermFault;
 use crate::item::{Item, next_item};
 use crate::screens::Screens;
 use std::alloc::Global;
 
-// As `read_terminals`.
-fn screens_of(alloc: Global, bytes: &[u8]) -> Result<Screens, TermFault>
-    requires { length bytes.now < 2 ^ 32 }
-    ensures { Reads bytes.now result }
+// Puts the lines of bytes on screens that have none, as `read_terminals`.
+fn put_lines(alloc: Global, bytes: &[u8], shown: &mut Screens) -> Result<(), TermFault>
+    requires none { shown.old ≡ screens [] }
+    requires short { length bytes.now < 2 ^ 32 }
+    ensures { Fills bytes.now shown.new result }
 {
-    let mut screens = Screens::new(alloc)?;
     let mut current = 0u8;
     let mut rest = bytes;
     'items: while !rest.is_empty() {
@@ -24,7 +25,7 @@ fn screens_of(alloc: Global, bytes: &[u8]) -> Result<Screens, TermFault>
                 rest = after;
             }
             Ok((Item::Line(text), after)) => {
-                screens.push(alloc, current, text)?;
+                shown.push(alloc, current, text)?;
                 rest = after;
             }
             Err(cause) => {
@@ -35,6 +36,16 @@ fn screens_of(alloc: Global, bytes: &[u8]) -> Result<Screens, TermFault>
             }
         }
     }
+    Ok(())
+}
+
+// As `read_terminals`.
+fn screens_of(alloc: Global, bytes: &[u8]) -> Result<Screens, TermFault>
+    requires { length bytes.now < 2 ^ 32 }
+    ensures { Reads bytes.now result }
+{
+    let mut screens = Screens::new(alloc)?;
+    put_lines(alloc, bytes, &mut screens)?;
     Ok(screens)
 }
 

@@ -97,11 +97,18 @@ impl Sayings {
     pub fn copy(&self, alloc: Global) -> Result<Sayings, Memory>
         ensures { IfOk result (λ copy. copy ≡ self.now) }
     {
-        let mut sayings = Vec::new(alloc);
+        let mut copy = Sayings::new(alloc);
         for saying in &self.sayings {
-            sayings.push(Saying::new(alloc, saying.behind(), saying.terminal(), saying.text())?)?;
+            copy.push_copy(alloc, saying)?;
         }
-        Ok(Sayings { sayings })
+        Ok(copy)
+    }
+
+    fn push_copy(&mut self, alloc: Global, item: &Saying) -> Result<(), Memory>
+        ensures { OnOk result (self.new ≡ self.old ++ item.now ∷ []) }
+    {
+        let copy = Saying::new(alloc, item.behind(), item.terminal(), item.text())?;
+        self.push(copy)
     }
 
     /// Puts one more behind the others. On `Memory` they stay.

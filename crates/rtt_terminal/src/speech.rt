@@ -1,5 +1,5 @@
 //! What eight writers have to say.
-ghost use Rattle.std.specs.Prelude.{◌≡◌, ◌<◌, IfOk, OnErr, OnOk, Some, slice_get};
+ghost use Rattle.std.specs.Prelude.{◌≡◌, ◌<◌, ◌++◌, ◌∷◌, [], IfOk, OnErr, OnOk, Some, slice_get};
 ghost use Rattle.std.specs.Option.{option_copied};
 ghost use Rattle.rtt_terminal.specs.Speech.{CanBeSaid, IsSpeech, count_said, count_texts, said_by, saying, silence, texts_limit, with_saying};
 ghost use Rattle.rtt_terminal.specs.Stream.{IsSayable};
@@ -32,6 +32,14 @@ impl Model for Speech {
     ghost invariant = { λ s. HoldsOfSpeech s.writers.items };
 }
 
+fn push_copy(writers: &mut Vec<Sayings>, alloc: Global, sayings: &Sayings) -> Result<(), Memory>
+    ensures { OnOk result (writers.new.items ≡ writers.old.items ++ sayings.now ∷ []) }
+{
+    let copy = sayings.copy(alloc)?;
+    writers.push(copy)?;
+    Ok(())
+}
+
 impl Speech {
     /// No writer has anything to say. What they have grows by this allocator.
     pub fn new(alloc: Global) -> Result<Speech, Memory>
@@ -50,7 +58,7 @@ impl Speech {
     {
         let mut writers = Vec::new(alloc);
         for sayings in &self.writers {
-            writers.push(sayings.copy(alloc)?)?;
+            push_copy(&mut writers, alloc, sayings)?;
         }
         Ok(Speech { alloc, writers })
     }
