@@ -15,8 +15,9 @@ use Rattle.defmt_values.specs.Entries.{Place, look, places_of}
 use Rattle.defmt_values.specs.Fits.{Fits, FitsVals}
 use Rattle.defmt_values.specs.Plain.{Val, Vals, no_vals, val, snoc, vals_len}
 use Rattle.defmt_values.specs.Scan.{own_form, own_in}
-use Rattle.defmt_macros.specs.Frames.{FitSlots, Grows, GrowsByAll, Holds, buffer_of, bytes_put, count_put, slots_left, head_of, stamp_bytes}
+use Rattle.defmt_macros.specs.Frames.{FitSlots, Grows, GrowsByAll, Holds, buffer_of, bytes_put, count_put, slots_left, head_of, stamp_bytes, whole_of}
 use Rattle.defmt_macros.specs.Sites.{IsSite}
+use Rattle.defmt_macros.specs.Spot.{Spot}
 use Rattle.defmt_macros.specs.Stamps.{StampSuits, slots_for}
 use Rattle.defmt_macros.specs.declared.frame.Frame.{Frame}
 use Rattle.defmt_macros.proofs.Places.{own}
@@ -122,20 +123,19 @@ fitting t index tag slots vs f site =
 
 -- ---- all values at once
 
-module _ (t : Map) (index : ℕ) (tag : Tag) (slots : List Slot) (place stamp : Option ℕ) (vs : Vals) (site : IsSite t index tag slots) where
-  pub all_fit : (left : List Slot) → left ≡ slots → Fits t index vs → FitSlots t left vs
-  all_fit left e f =
+module _ (t : Map) (site : Spot) (place stamp : Option ℕ) (vs : Vals) (left : List Slot) (e : left ≡ site.slots) where
+  pub all_fit : FitSlots t site.slots vs → FitSlots t left vs
+  all_fit f =
       let P : List Slot → Type 0 = λ ss. FitSlots t ss vs in
-      subst P (sym e) (fitting t index tag slots vs f site)
+      subst P (sym e) f
 
-  module _ (suits : StampSuits t stamp) (left : List Slot) (e : left ≡ slots) where
-    in_parts : message_of t place (stamp_args stamp) index vs ≡ head_of index place stamp ++ bytes_vals t left vs
-    in_parts = parts t index tag slots place stamp vs site suits ∙ ap (λ (ss : List Slot). head_of index place stamp ++ bytes_vals t ss vs) (sym e)
+  in_parts : whole_of t site place stamp vs ≡ head_of site.index place stamp ++ bytes_vals t left vs
+  in_parts = ap (λ (ss : List Slot). head_of site.index place stamp ++ bytes_vals t ss vs) (sym e)
 
-    pub whole_length : (at : ℕ) → at ≡ length (head_of index place stamp) → at + length (bytes_vals t left vs) ≡ length (message_of t place (stamp_args stamp) index vs)
-    whole_length at c = ap (λ (k : ℕ). k + length (bytes_vals t left vs)) c ∙ sym (length-append (head_of index place stamp) (bytes_vals t left vs)) ∙ ap length (sym in_parts)
+  pub whole_length : (at : ℕ) → at ≡ length (head_of site.index place stamp) → at + length (bytes_vals t left vs) ≡ length (whole_of t site place stamp vs)
+  whole_length at c = ap (λ (k : ℕ). k + length (bytes_vals t left vs)) c ∙ sym (length-append (head_of site.index place stamp) (bytes_vals t left vs)) ∙ ap length (sym in_parts)
 
-    pub whole_message : (old new : Frame) (n : ℕ) (out : List ℕ) → bytes_put old ≡ head_of index place stamp → GrowsByAll old new (bytes_vals t left vs) → n ≡ new.at → out ≡ new.buf.now → take n out ≡ message_of t place (stamp_args stamp) index vs
-    whole_message old new n out b g count same =
-        let taken : take n out ≡ bytes_put new = ap (λ (k : ℕ). take k out) count ∙ ap (λ (x : List ℕ). take new.at x) same in
-        taken ∙ g.bytes_are ∙ ap (λ (x : List ℕ). x ++ bytes_vals t left vs) b ∙ sym in_parts
+  pub whole_message : (old new : Frame) (n : ℕ) (out : List ℕ) → bytes_put old ≡ head_of site.index place stamp → GrowsByAll old new (bytes_vals t left vs) → n ≡ new.at → out ≡ new.buf.now → take n out ≡ whole_of t site place stamp vs
+  whole_message old new n out b g count same =
+      let taken : take n out ≡ bytes_put new = ap (λ (k : ℕ). take k out) count ∙ ap (λ (x : List ℕ). take new.at x) same in
+      taken ∙ g.bytes_are ∙ ap (λ (x : List ℕ). x ++ bytes_vals t left vs) b ∙ sym in_parts

@@ -1,5 +1,5 @@
 -- What holds of sites and of the places where lists of slots differ.
-use Rattle.std.proofs.Common.{◌≡◌, ℕ, ◌+◌, Bool, true, false, cond, List, [], ◌∷◌, Option, Some, None, refl, sym, ap, ◌∙◌, subst, inl, inr}
+use Rattle.std.proofs.Common.{◌≡◌, ◌≤◌, ℕ, ◌+◌, length, arith, Bool, true, false, cond, List, [], ◌∷◌, Option, Some, None, refl, sym, ap, ◌∙◌, subst, inl, inr}
 use Rattle.defmt_encode.specs.Carry.{slots_in, own_slots}
 use Rattle.defmt_grammar.specs.declared.slot.Slot.{Slot}
 use Rattle.defmt_intern.specs.Body.{body_of}
@@ -27,6 +27,38 @@ pub alike : (xs : List Slot) (p : ℕ) → DifferAt xs xs p → ⊥
 alike [] p d = d
 alike (x ∷ xs) p (inl d) = d.1 refl
 alike (x ∷ xs) p (inr d) = alike xs d.0 d.3
+
+-- ---- the first slots
+
+-- where the first are alike, the lists are alike as those behind, and differ one place later
+pub alike_more : (xs ys own given : List Slot) (x y : Slot) → xs ≡ x ∷ own → ys ≡ y ∷ given → x ≡ y → own ≡ given → xs ≡ ys
+alike_more xs ys own given x y p q e same = cc
+
+pub differ_more : (xs ys own given : List Slot) (x y : Slot) (n : ℕ) → xs ≡ x ∷ own → ys ≡ y ∷ given → x ≡ y → DifferAt own given n → n ≤ length own → DifferAt xs ys (n + 1) × (n + 1 ≤ length xs)
+differ_more [] ys own given x y n p q e d le = absurd (cc)
+differ_more (z ∷ xs) [] own given x y n p q e d le = absurd (cc)
+differ_more (z ∷ xs) (w ∷ ys) own given x y n p q e d le =
+    let behind : own ≡ xs = cc in
+    let others : given ≡ ys = cc in
+    let same : z ≡ w = cc in
+    let later : DifferAt xs ys n = subst (λ (l : List Slot). DifferAt l ys n) behind (subst (λ (l : List Slot). DifferAt own l n) others d) in
+    (inr (n, refl, same, later), omega (arith, ap length behind))
+
+pub differ_first : (xs ys own given : List Slot) (x y : Slot) → xs ≡ x ∷ own → ys ≡ y ∷ given → (x ≡ y → ⊥) → DifferAt xs ys 0 × (0 ≤ length xs)
+differ_first [] ys own given x y p q differ = absurd (cc)
+differ_first (z ∷ xs) [] own given x y p q differ = absurd (cc)
+differ_first (z ∷ xs) (w ∷ ys) own given x y p q differ = (inl (refl, λ e. differ (let same : x ≡ y = cc in same)), omega arith)
+
+-- where one has ended and the other has not, they differ there
+pub differ_ended : (xs ys given : List Slot) (y : Slot) → xs ≡ [] → ys ≡ y ∷ given → DifferAt xs ys 0 × (0 ≤ length xs)
+differ_ended [] [] given y p q = absurd (cc)
+differ_ended [] (w ∷ ys) given y p q = (refl, omega arith)
+differ_ended (z ∷ xs) ys given y p q = absurd (cc)
+
+pub differ_further : (xs ys own : List Slot) (x : Slot) → xs ≡ x ∷ own → ys ≡ [] → DifferAt xs ys 0 × (0 ≤ length xs)
+differ_further [] ys own x p q = absurd (cc)
+differ_further (z ∷ xs) [] own x p q = (refl, omega arith)
+differ_further (z ∷ xs) (w ∷ ys) own x p q = absurd (cc)
 
 -- ---- sites
 

@@ -7,6 +7,7 @@ use Rattle.defmt_intern.specs.Table.{Map}
 use Rattle.defmt_values.specs.Fits.{FitsVal}
 use Rattle.defmt_values.specs.Plain.{Vals, no_vals, val, vals_len}
 use Rattle.defmt_encode.specs.Carry.{bytes_vals, message_head}
+use Rattle.defmt_macros.specs.Spot.{Spot}
 use Rattle.defmt_macros.specs.declared.frame.Frame.{Frame}
 
 -- the buffer that it puts into
@@ -49,6 +50,10 @@ stamp_bytes (Some n) = little_bytes 8 n
 -- the head of a message whose stamp is sent so
 abbrev pub head_of : ℕ → Option ℕ → Option ℕ → List ℕ
 head_of index place stamp = message_head index place (stamp_bytes stamp)
+
+-- the whole message of a site with these values
+abbrev pub whole_of : Map → Spot → Option ℕ → Option ℕ → Vals → List ℕ
+whole_of t site place stamp vs = head_of site.index place stamp ++ bytes_vals t site.slots vs
 
 -- these bytes were put behind the others, what lies behind them is as before, and the slot is no more
 -- to come

@@ -18,6 +18,6 @@ mod slots;
 pub use defmt_grammar::IntSize;
 pub use defmt_intern::Tag;
 pub use frame::Frame;
-pub use logging::log;
+pub use logging::{log, put_message};
 pub use site::{Site, SiteFault, stamp_suits};
 pub use slots::Slots;

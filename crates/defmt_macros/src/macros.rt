@@ -79,9 +79,7 @@ macro_rules! message_of {
         let stamp = $stamp;
         let site = $site;
         site.suits(table, &$crate::Tag::$tag, place, stamp);
-        let mut frame = $crate::Frame::begin($buf, site, place, stamp);
-        frame.put_all(table, $args);
-        frame.end()
+        $crate::put_message($buf, table, site, place, stamp, $args)
     }};
     ($tag:ident, $buf:expr, $table:expr, $site:expr, $place:expr, $stamp:expr; $($kind:ident $arg:expr),* $(,)?) => {{
         let table = $table;
