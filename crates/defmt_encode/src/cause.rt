@@ -60,7 +60,7 @@ pub fn fault_name(number: u8) -> &'static str
 }
 
 /// Why bytes are no message, in the order of the events' numbers.
-#[derive(Clone, Copy, Debug, PartialEq, Eq)]
+#[derive(Clone, Copy)]
 pub enum Cause {
     /// An index isn't in the table.
     NoEntry,
@@ -108,7 +108,7 @@ impl Cause {
 }
 
 /// Why nothing is read: a cause that stands in the bytes, or want of memory.
-#[derive(Clone, Copy, Debug, PartialEq, Eq)]
+#[derive(Clone, Copy)]
 pub enum Fault {
     Bad(Cause),
     Memory,

@@ -15,7 +15,6 @@ use defmt_values::{Args, Item, Items, Value, cut};
 /// Puts the bytes of a text behind the first `at` of a message, their number in four bytes in front. The buffer has at least 2,000 bytes, of
 /// which `at` are put. Answers how many are put then, or `Long` where these would be more than 2,000: then some of the first are put, or
 /// none, and all else is as before. Takes no memory.
-#[tactic(auto, using(crate::proofs::Chain::refused_more))]
 pub fn put_text(out: &mut [u8], at: usize, bytes: &[u8]) -> Result<usize, Long>
     requires { (2000 ≤ length out.old) × (at ≤ 2000) }
     ensures { Puts out.old out.new at result (little_bytes 4 (length bytes.now) ++ bytes.now) }
@@ -58,7 +57,6 @@ fn put_variant(out: &mut [u8], at: usize, variant: Option<u8>) -> Result<usize, 
     }
 }
 
-#[tactic(auto, using(crate::proofs::Chain::refused_more))]
 fn put_head(out: &mut [u8], at: usize, index: u16, variant: Option<u8>) -> Result<usize, Long>
     requires { (2000 ≤ length out.old) × (at ≤ 2000) }
     ensures { Puts out.old out.new at result (little_bytes 2 index ++ variant_byte variant) }
@@ -87,7 +85,6 @@ fn put_index(out: &mut [u8], at: usize, index: Option<u16>) -> Result<usize, Lon
     }
 }
 
-#[tactic(auto, using(crate::proofs::Chain::refused_more))]
 fn put_list_head(
     out: &mut [u8],
     at: usize,
@@ -106,7 +103,7 @@ fn put_list_head(
 /// which `at` are put. Answers how many are put then, or `Long` where these would be more than 2,000: then some of the first are put, or
 /// none, and all else is as before. Takes no memory.
 #[cycle(put)]
-#[tactic(auto, unfolding(crate::specs::Carry::bytes_val), using(crate::proofs::Chain::refused_more))]
+#[tactic(auto, unfolding(crate::specs::Carry::bytes_val))]
 pub fn put_value(
     table: &Table,
     slot: Slot,
@@ -172,7 +169,6 @@ pub fn put_args(
 }
 
 #[cycle(put)]
-#[tactic(auto, using(crate::proofs::Chain::refused_more))]
 fn put_item(
     table: &Table,
     index: u16,

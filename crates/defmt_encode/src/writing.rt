@@ -45,7 +45,6 @@ fn put_place(out: &mut [u8], at: usize, place: Option<u16>) -> Result<usize, Lon
 }
 
 // Puts a place and then a stamp.
-#[tactic(auto, using(crate::proofs::Chain::refused_more))]
 fn put_place_and_stamp(
     table: &Table,
     place: Option<u16>,

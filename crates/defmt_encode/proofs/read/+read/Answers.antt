@@ -1,6 +1,7 @@
 use Rattle.std.proofs.Common.{ap, ◌∙◌, ◌*◌, arith}
 use Rattle.std.proofs.lemmas.Result.{err_from_is_err_and}
 use Rattle.defmt_values.proofs.Scans.{few_left}
+use Rattle.defmt_encode.specs.Read.{below}
 use Rattle.defmt_encode.proofs.Joins as joins
 use Rattle.defmt_encode.proofs.read.+read.Goals as goal
 
@@ -35,3 +36,9 @@ read_items-each-preserved t c = record {
 pub read_items-returns-clause-value : goal.read_items-returns-clause-value
 read_items-returns-clause-value t c =
     joins.elems_ended c.args.table.now.entries c.args.left c.args.weight c.args.form.now c.args.count c.each.counter c.each.items c.each.total c.each.rest.now (omega arith) ∙ c.each.invariant.same
+
+pub read_value-returns-in_default : goal.read_value-returns-in_default
+read_value-returns-in_default t c = record {
+  value = c.read_leaf.ensures.value (below c.args.table.now.entries c.args.left) c.args.weight;
+  small = c.read_leaf.ensures.small;
+}

@@ -69,6 +69,12 @@ index_is : (o : Option ℕ) → unwrap_or o 0 ≡ index_or o
 index_is None = refl
 index_is (Some i) = refl
 
+pub put_item-returns-in_err-at : goal.put_item-returns-in_err-at
+put_item-returns-in_err-at t c =
+    let p = err_from_is_err_and c.from_residual.result c.from_residual.ensures.1 in
+    rw p.1
+    (refused_more c.args.out.now c.put_variant.new.out c.args.at (variant_byte c.args.item.now.variant) (bytes_vals c.args.table.now.entries (node_slots c.args.table.now.entries c.args.index c.args.item.now.variant) c.args.item.now.args) c.in_err-at.ensures)
+
 pub put_item-returns : goal.put_item-returns
 put_item-returns t c =
     let args = rw c.node_slots.ensures at c.put_args.ensures in
@@ -87,6 +93,14 @@ put_value-returns-in_ok-at-in-Format t c =
     let args = rw c.node_slots.ensures at c.put_args.ensures in
     rw c.in-Format.is
     (chain c.args.out.now c.put_head.new.out c.put_args.new.out c.args.at c.in_ok-at-in-Format.at c.put_args.result (little_bytes 2 c.in-Format.node.index ++ variant_byte c.in-Format.node.variant) (bytes_vals c.args.table.now.entries (node_slots c.args.table.now.entries c.in-Format.node.index c.in-Format.node.variant) c.in-Format.node.args) c.in_ok-at-in-Format.ensures args)
+
+pub put_value-returns-in_err-at-in-Seq : goal.put_value-returns-in_err-at-in-Seq
+unfolding bytes_val
+put_value-returns-in_err-at-in-Seq t c =
+    let p = err_from_is_err_and c.from_residual-in_err-at-in-Seq.result c.from_residual-in_err-at-in-Seq.ensures.1 in
+    let head = rw c.len.ensures at c.in_err-at-in-Seq.ensures in
+    rw (p.1, c.in-Seq.is)
+    (refused_more c.args.out.now c.put_list_head.new.out c.args.at (count_bytes c.args.slot (elems_len c.in-Seq.seq.items) ++ index_bytes c.in-Seq.seq.index) (bytes_elems c.args.table.now.entries (index_or c.in-Seq.seq.index) c.in-Seq.seq.items) head)
 
 pub put_value-returns-in_ok-at-in-Seq : goal.put_value-returns-in_ok-at-in-Seq
 unfolding bytes_val
