@@ -46,10 +46,10 @@ fn decode_job(alloc: Global, matches: &ArgMatches<'_>) -> Result<Option<Job>, Me
     let Some(name) = value_of(matches, "table") else {
         return Ok(None);
     };
-    let table = text_of(alloc, name)?;
     let Some(only) = only_by(alloc, matches)? else {
         return Ok(None);
     };
+    let table = text_of(alloc, name)?;
     Ok(Some(Job::Decode(DecodeOptions { table, only })))
 }
 
@@ -87,10 +87,10 @@ fn dump_job(alloc: Global, matches: &ArgMatches<'_>) -> Result<Option<Job>, Memo
     let Some(up) = up_of(matches) else {
         return Ok(None);
     };
-    let table = text_of(alloc, name)?;
     let Some(only) = only_by(alloc, matches)? else {
         return Ok(None);
     };
+    let table = text_of(alloc, name)?;
     let old = is_set(matches, "old");
     Ok(Some(Job::Dump(DumpOptions {
         table,
