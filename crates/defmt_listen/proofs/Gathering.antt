@@ -1,5 +1,7 @@
--- What is gathered in lines and behind them in a buffer.
-use Rattle.std.proofs.Common.{◌≡◌, ◌≤◌, ◌+◌, ℕ, List, [], ◌∷◌, ◌++◌, length, take, drop, sym, ◌∙◌, ap, append_assoc, arith, length-take}
+-- What is gathered in lines and behind them in a buffer, and how many faults are counted.
+use Rattle.std.proofs.Common.{◌≡◌, ◌≤◌, ◌+◌, ℕ, Bool, true, false, List, [], ◌∷◌, ◌++◌, length, take, drop, refl, sym, ◌∙◌, ap, append_assoc, arith, length-take}
+use Rattle.std.proofs.lemmas.List.{append-nil}
+use Rattle.std.specs.Prelude.{filter}
 use Rattle.std.proofs.Math.Seq.{take-add}
 
 -- a buffer that keeps its front is as long as that
@@ -12,3 +14,20 @@ pub line_ended : (lines text new : List ℕ) (end size : ℕ) → take (end + si
 line_ended lines text new end size e =
     ap (λ (l : List ℕ). lines ++ l) (e ∙ ap (λ (l : List ℕ). l ++ 10 ∷ []) (take-add end size text) ∙ append_assoc (take end text) (take size (drop end text)) (10 ∷ []))
     ∙ sym (append_assoc lines (take end text) (take size (drop end text) ++ 10 ∷ []))
+
+-- what is gathered was put aside, and a line behind it
+pub told_behind : (gathered lines out text line : List ℕ) (end : ℕ) → lines ≡ gathered → end ≡ 0 → out ≡ lines ++ line
+    → out ++ take end text ≡ gathered ++ (line ++ [])
+told_behind gathered lines out text line end same none appended =
+    ap (λ (n : ℕ). out ++ take n text) none ∙ append-nil out ∙ appended ∙ ap (λ (l : List ℕ). l ++ line) same
+    ∙ ap (λ (l : List ℕ). gathered ++ l) (sym (append-nil line))
+
+-- one event more is counted, where it is a fault
+pub counted_one : {E : Type 0} (is_fault : E → Bool) (event : E) (now before : ℕ) → true ≡ is_fault event → now ≡ before
+    → now + 1 ≡ before + length (filter is_fault (event ∷ []))
+counted_one is_fault event now before bad same = rw (← bad, same) refl
+
+-- and isn't where it is none
+pub counted_none : {E : Type 0} (is_fault : E → Bool) (event : E) (now before : ℕ) → false ≡ is_fault event → now ≡ before
+    → now ≡ before + length (filter is_fault (event ∷ []))
+counted_none is_fault event now before fine same = rw (← fine, same) (omega arith)

@@ -48,8 +48,8 @@ pub fn listen<S: Source, K: Sink, L: Listener + Drop, R: Reporter<L> + Drop>(
 {
     let mut listener = listener;
     let mut reporter = reporter;
-    let mut report = Report::new(alloc);
     let mut buf = part_buffer(alloc)?;
+    let mut report = Report::new(alloc);
     let mut taken = 0usize;
     'parts: loop {
         let count = next_part(src, &mut buf, taken)?;

@@ -76,3 +76,15 @@ returns-clause-heard g c =
     (output_of g.K.Sink.held g.K.Sink.faults c.args.out.now c.write_lines.new.out) c.args.report.now.faults
     c.parts.reporter (g.L.Listener.framing c.parts.listener) c.parts.rest.now (g.K.Sink.held c.parts.out) (gathered c.parts.report) c.parts.report.faults
     c.parts.invariant.hearing (eqb-true _ 0 (sym c.is_empty.ensures ∙ c.parts-test.false)) c.in_ok-write_lines.ensures.ok)
+
+pub add_noticed-requires-clause-room : goal.add_noticed-requires-clause-room
+add_noticed-requires-clause-room g c = omega (arith, c.requires.few, c.parts.invariant.hearing.fits, some_left c.parts.rest.now _ c.is_empty.ensures c.parts-test.true)
+
+pub add_noticed-requires-clause-text : goal.add_noticed-requires-clause-text
+add_noticed-requires-clause-text g c = c.in-Ok.ensures.text
+
+pub returns-in-Err-clause-fault : goal.returns-in-Err-clause-fault
+returns-in-Err-clause-fault g c = tt
+
+pub returns-clause-few : goal.returns-clause-few
+returns-clause-few g c = omega (arith, c.write_lines.ensures.faults, c.parts.invariant.hearing.fits)
