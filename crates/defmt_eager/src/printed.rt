@@ -1,5 +1,5 @@
 //! The printed line of a statement.
-ghost use Rattle.std.specs.Prelude.{◌≡◌, ◌≤◌, ◌++◌, [], length, IfOk, IfSome, OnOk};
+ghost use Rattle.std.specs.Prelude.{◌≡◌, ◌≤◌, ◌++◌, [], codes, length, IfOk, IfSome, OnOk};
 ghost use Rattle.std.specs.Option.{option_map, ForSome};
 ghost use Rattle.defmt_eager.specs.Answers.{Shows, GivesFront, GivesLine};
 ghost use Rattle.defmt_eager.specs.Line.{level_text, level_at, stamp_text, stamp_space, printed_limit};
@@ -68,6 +68,15 @@ fn push_space(out: &mut Text, at: Option<u16>) -> Result<(), Memory>
     }
 }
 
+// Appends the name of a level between two spaces, the first only where there is a timestamp's entry.
+fn push_level(out: &mut Text, at: Option<u16>, level: &str) -> Result<(), Memory>
+    ensures { OnOk result (out.new ≡ (out.old ++ stamp_space at) ++ (level.now ++ codes " ")) }
+{
+    push_space(out, at)?;
+    out.push_str(level)?;
+    out.push(' ')
+}
+
 // An empty text with room for most lines.
 fn roomy(alloc: Global) -> Result<Text, Memory>
     ensures { IfOk result (λ text. text ≡ []) }
@@ -92,9 +101,7 @@ fn front_of(
     let Some(level) = level else {
         return Ok(Text::new(alloc));
     };
-    push_space(&mut out, at)?;
-    out.push_str(level)?;
-    out.push(' ')?;
+    push_level(&mut out, at, level)?;
     Ok(out)
 }
 
