@@ -1,5 +1,5 @@
 -- One text behind another.
-use Rattle.std.proofs.Common.{Option, Some, None, ◌≡◌, ◌≤◌, ◌+◌, ℕ, List, [], ◌++◌, length, take, refl, sym, ap, ◌∙◌, arith, append_assoc, length-append}
+use Rattle.std.proofs.Common.{Option, Some, None, IfNone, ◌≡◌, ◌≤◌, ◌<◌, ◌+◌, ℕ, List, [], ◌++◌, length, take, refl, sym, ap, ◌∙◌, arith, append_assoc, length-append}
 use Rattle.std.proofs.lemmas.Grind.{common_steps}
 use Rattle.std.proofs.lemmas.List.{append-nil, length-take-le, take_at}
 use Rattle.defmt_put.specs.Written.{Kept, Written, Writes}
@@ -44,3 +44,17 @@ writes_two (Some end) old mid new at m a b le v w = written_two old mid new at m
 -- a failure behind a text that was written
 pub kept_behind : (old mid new : List ℕ) (at m : ℕ) (a : List ℕ) → at ≤ length old → Written old at mid m a → Kept mid m new → Kept old at new
 kept_behind old mid new at m a le v k = kept_two old mid new at m (omega (arith, written_end old mid at m a le v)) (kept_written old mid at m a le v) k
+
+-- ---- where a text doesn't fit
+
+-- where the first of two texts doesn't, both don't
+pub full_front : (old : List ℕ) (at : ℕ) (a b : List ℕ) → length old < at + length a → length old < at + length (a ++ b)
+full_front old at a b over = omega (arith, over, length-append a b)
+
+-- nor where the second doesn't behind the first
+pub full_behind : (old mid : List ℕ) (at m : ℕ) (a b : List ℕ) → at ≤ length old → Written old at mid m a → length mid < m + length b → length old < at + length (a ++ b)
+full_behind old mid at m a b le v over = omega (arith, over, v.long, written_end old mid at m a le v, length-append a b)
+
+pub full_two : (r : Option ℕ) (old mid : List ℕ) (at m : ℕ) (a b : List ℕ) → at ≤ length old → Written old at mid m a → IfNone r (length mid < m + length b) → IfNone r (length old < at + length (a ++ b))
+full_two None old mid at m a b le v over = full_behind old mid at m a b le v over
+full_two (Some end) old mid at m a b le v over = over

@@ -1,9 +1,9 @@
 -- Digits written from the last to the first.
-use Rattle.std.proofs.Common.{◌≡◌, ◌<◌, ◌≤◌, ◌+◌, ◌-◌, ◌/◌, ◌%◌, ◌^◌, ℕ, max, Bool, true, false, eqb, List, [], ◌∷◌, ◌++◌, length, map, set, take, drop, refl, sym, ap, subst, ◌∙◌, arith, append_assoc, length-set}
+use Rattle.std.proofs.Common.{◌≡◌, ◌<◌, ◌≤◌, ◌+◌, ◌-◌, ◌/◌, ◌%◌, ◌^◌, ℕ, max, Bool, true, false, eqb, List, [], ◌∷◌, ◌++◌, length, map, set, take, drop, refl, sym, ap, subst, ◌∙◌, arith, append_assoc, length-append, length-set}
 use Rattle.std.proofs.lemmas.Bool.{eqb-true}
 use Rattle.std.proofs.lemmas.Grind.{replicate_next}
 use Rattle.std.proofs.lemmas.Int.Digits.{digits_of_step, length-digits_of_step, length-digits_of-le}
-use Rattle.std.proofs.lemmas.List.{append-nil, length-map, map_push, drop-set, take-set}
+use Rattle.std.proofs.lemmas.List.{append-nil, length-map, length-replicate, map_push, drop-set, take-set}
 use Rattle.std.proofs.Math.Nat.{pow-le-pow_left, div-eq_of_lt, mod-eq_of_lt}
 use Rattle.std.specs.Fmt.{digit_glyph}
 use Rattle.std.specs.Int.Digits.{digits_of}
@@ -138,3 +138,16 @@ filling_all base upper number width old at end place rest out h two le most over
     let text : h.tail ≡ zero_filled width (number_text base upper number) = sym tail_is ∙ padded_text base upper number width (end - at) (eqb number 0) refl two (omega (arith, e)) in
     let ends : at + length h.tail ≡ end = omega (arith, h.size, here) in
     subst (λ (t : List ℕ). Written old at out end t) text (written_here old out h.tail at place end le most h.long ends h.size h.done h.front)
+
+-- how long they are
+pub filled_size : (base : ℕ) (upper : Bool) (number width long : ℕ) → 2 ≤ base → long ≡ max (length (digits_of base number)) (max width 1) → length (zero_filled width (number_text base upper number)) ≡ long
+filled_size base upper number width long two size =
+    let zeros : List ℕ = replicate (long - length (digits_of base number)) 48 in
+    omega (
+      arith,
+      size,
+      ap length (padded_text base upper number width long (eqb number 0) refl two size),
+      length-append zeros (map (digit_glyph upper) (digits_of base number)),
+      length-replicate {A = ℕ} (long - length (digits_of base number)) 48,
+      length-map (digits_of base number) (digit_glyph upper),
+    )

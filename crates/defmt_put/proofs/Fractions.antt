@@ -16,6 +16,10 @@ filled_long : (k : ℕ) (text : List ℕ) → length text ≤ k → length (zero
 unfolding zero_filled
 filled_long k text le = omega (arith, le, length-append (replicate (k - length text) 48) text, length-replicate {A = ℕ} (k - length text) 48)
 
+-- a point and the digits of the parts
+pub parts_long : (k p : ℕ) → 0 < k → p < 10 ^ k → length (codes "." ++ zero_filled k (decimal_text p)) ≡ k + 1
+parts_long k p some lt = omega (arith, filled_long k (decimal_text p) (text_fits 10 k p false (omega arith) some lt), length-append (codes ".") (zero_filled k (decimal_text p)))
+
 -- the sum has one digit more than the parts
 pub sum_long : (k p : ℕ) → 0 < k → p < 10 ^ k → 10 ^ k + p < 2 ^ 64 → length (decimal (10 ^ k + p)) ≡ k + 1
 sum_long k p some lt small =

@@ -1,15 +1,21 @@
 -- Texts that end at a place.
-use Rattle.std.proofs.Common.{◌≡◌, ◌<◌, ◌≤◌, ◌+◌, ◌/◌, ◌%◌, ◌^◌, ℕ, List, [], ◌∷◌, ◌++◌, length, take, drop, length-append, refl, ap, ◌∙◌, arith}
+use Rattle.std.proofs.Common.{◌≡◌, ◌<◌, ◌≤◌, ◌+◌, ◌/◌, ◌%◌, ◌^◌, ℕ, List, [], ◌∷◌, ◌++◌, length, take, drop, length-append, refl, sym, ap, ◌∙◌, arith}
 use Rattle.std.proofs.Math.Seq.{take-add}
 use Rattle.std.proofs.lemmas.List.{take_at}
 use Rattle.std.proofs.lemmas.Fmt.{decimal_step, decimal_digit}
 use Rattle.std.specs.Fmt.{decimal}
+use Rattle.defmt_hints.proofs.Decimals.{std_decimal}
+use Rattle.defmt_hints.specs.Printed.{decimal_text}
 use Rattle.defmt_put.specs.Written.{Written}
 
 -- ---- decimal digits
 
 pub one_digit : (n : ℕ) → n < 10 → length (decimal n) ≡ 1
 one_digit n h = rw (decimal_digit n h) refl
+
+-- a single digit as a text
+pub digit_text : (n : ℕ) → n < 10 → (48 + n) ∷ [] ≡ decimal_text n
+digit_text n h = sym (decimal_digit n h) ∙ std_decimal n (omega (arith, h))
 
 pub more_digits : (n : ℕ) → 10 ≤ n → n < 2 ^ 64 → length (decimal n) ≡ length (decimal (n / 10)) + 1
 more_digits n h lt = ap length (decimal_step n h lt) ∙ length-append (decimal (n / 10)) ((48 + n % 10) ∷ [])

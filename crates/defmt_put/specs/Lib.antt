@@ -1,3 +1,4 @@
+pub mod Left
 pub mod Lists
 pub mod Signed
 pub mod Written

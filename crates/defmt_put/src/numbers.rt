@@ -1,6 +1,6 @@
 //! Numbers.
 
-ghost use Rattle.std.specs.Prelude.{◌≡◌, ◌≤◌, ◌<◌, ◌*◌, ◌-◌, ◌^◌, length, decimal, IfSome};
+ghost use Rattle.std.specs.Prelude.{◌≡◌, ◌≤◌, ◌<◌, ◌+◌, ◌*◌, ◌-◌, ◌^◌, length, decimal, IfNone, IfSome};
 ghost use Rattle.defmt_grammar.specs.Sizes.{size_bits};
 ghost use Rattle.defmt_hints.specs.Printed.{decimal_text, signed_text, printed_uint};
 ghost use Rattle.defmt_put.specs.Signed.{signed_by, printed_by};
@@ -45,7 +45,8 @@ fn short_count(number: u64) -> usize
 /// Writes a number in decimal.
 pub fn put_decimal(out: &mut [u8], at: usize, number: u64) -> Option<usize>
     requires { at ≤ length out.old }
-    ensures { Writes result out.old at out.new (decimal_text number) }
+    ensures written { Writes result out.old at out.new (decimal_text number) }
+    ensures full { IfNone result (length out.old < at + length (decimal_text number)) }
 {
     if number < 10 {
         return put(out, at, &[b'0' + number as u8]);
@@ -57,7 +58,8 @@ pub fn put_decimal(out: &mut [u8], at: usize, number: u64) -> Option<usize>
 #[inline(never)]
 fn put_all_digits(out: &mut [u8], at: usize, number: u64) -> Option<usize>
     requires { at ≤ length out.old }
-    ensures { Writes result out.old at out.new (decimal_text number) }
+    ensures written { Writes result out.old at out.new (decimal_text number) }
+    ensures full { IfNone result (length out.old < at + length (decimal_text number)) }
 {
     let count = digit_count(number);
     if out.len() - at < count {
@@ -71,7 +73,8 @@ fn put_all_digits(out: &mut [u8], at: usize, number: u64) -> Option<usize>
 /// Writes a number under a hint.
 pub fn put_uint(out: &mut [u8], at: usize, number: u64, hint: Hint) -> Option<usize>
     requires { at ≤ length out.old }
-    ensures { Writes result out.old at out.new (printed_uint number hint) }
+    ensures written { Writes result out.old at out.new (printed_uint number hint) }
+    ensures full { IfNone result (length out.old < at + length (printed_uint number hint)) }
 {
     match hint {
         Hint::Plain | Hint::Debug | Hint::Ascii => put_decimal(out, at, number),
@@ -83,7 +86,8 @@ pub fn put_uint(out: &mut [u8], at: usize, number: u64, hint: Hint) -> Option<us
 
 /// Half of the numbers of a size of up to 64 bits: in two's complement those below it stand for themselves.
 pub fn half_of(size: IntSize) -> Option<u64>
-    ensures { IfSome result (λ half. half ≡ 2 ^ (size_bits size - 1)) }
+    ensures half { IfSome result (λ half. half ≡ 2 ^ (size_bits size - 1)) }
+    ensures wide { IfNone result (size ≡ IntSize.W128) }
 {
     match size {
         IntSize::W8 => Some(0x80),
@@ -98,7 +102,9 @@ pub fn half_of(size: IntSize) -> Option<u64>
 fn put_signed(out: &mut [u8], at: usize, number: u64, half: u64) -> Option<usize>
     requires place { at ≤ length out.old }
     requires small { number < 2 * half }
-    ensures { Writes result out.old at out.new (signed_text (signed_by half number)) }
+    ensures written { Writes result out.old at out.new (signed_text (signed_by half number)) }
+    ensures full { IfNone result (length out.old < at
+        + length (signed_text (signed_by half number))) }
 {
     if number < half {
         return put_decimal(out, at, number);
@@ -111,7 +117,8 @@ fn put_signed(out: &mut [u8], at: usize, number: u64, half: u64) -> Option<usize
 pub fn put_int(out: &mut [u8], at: usize, number: u64, half: u64, hint: Hint) -> Option<usize>
     requires place { at ≤ length out.old }
     requires small { number < 2 * half }
-    ensures { Writes result out.old at out.new (printed_by half number hint) }
+    ensures written { Writes result out.old at out.new (printed_by half number hint) }
+    ensures full { IfNone result (length out.old < at + length (printed_by half number hint)) }
 {
     match hint {
         Hint::Radix { base, alt, width } => put_radix(out, at, number, base, alt, width),

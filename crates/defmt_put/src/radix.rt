@@ -1,6 +1,6 @@
 //! Numbers in a base, written at a place.
 
-ghost use Rattle.std.specs.Prelude.{◌≡◌, ◌≤◌, ◌<◌, ◌^◌, length};
+ghost use Rattle.std.specs.Prelude.{◌≡◌, ◌≤◌, ◌<◌, ◌+◌, ◌^◌, length, IfNone};
 ghost use Rattle.std.specs.Fmt.{digit_glyph};
 ghost use Rattle.std.specs.Int.Digits.{digits_of};
 ghost use Rattle.defmt_hints.specs.Digits.{number_text, zero_filled};
@@ -55,7 +55,10 @@ fn put_digits(
     requires place { at ≤ length out.old }
     requires least { 2 ≤ base }
     requires most { base ≤ 16 }
-    ensures { Writes result out.old at out.new (zero_filled width (number_text base upper number)) }
+    ensures written { Writes result out.old at out.new
+        (zero_filled width (number_text base upper number)) }
+    ensures full { IfNone result (length out.old < at
+        + length (zero_filled width (number_text base upper number))) }
 {
     let long = count_in(number, base).max(usize::from(width.max(1)));
     if out.len() - at < long {
@@ -86,7 +89,9 @@ fn prefix_of(base: Base) -> &'static str
 // Writes a byte in two hexadecimal digits.
 fn put_pair(out: &mut [u8], at: usize, byte: u8, upper: bool) -> Option<usize>
     requires { at ≤ length out.old }
-    ensures { Writes result out.old at out.new (zero_filled 2 (number_text 16 upper byte)) }
+    ensures written { Writes result out.old at out.new (zero_filled 2 (number_text 16 upper byte)) }
+    ensures full { IfNone result (length out.old < at
+        + length (zero_filled 2 (number_text 16 upper byte))) }
 {
     let pair = [glyph(byte / 16, upper), glyph(byte % 16, upper)];
     put(out, at, &pair)
@@ -95,7 +100,10 @@ fn put_pair(out: &mut [u8], at: usize, byte: u8, upper: bool) -> Option<usize>
 // Writes the digits in base 16, with zeros in front up to a width.
 fn put_hex(out: &mut [u8], at: usize, number: u64, upper: bool, width: u8) -> Option<usize>
     requires { at ≤ length out.old }
-    ensures { Writes result out.old at out.new (zero_filled width (number_text 16 upper number)) }
+    ensures written { Writes result out.old at out.new
+        (zero_filled width (number_text 16 upper number)) }
+    ensures full { IfNone result (length out.old < at
+        + length (zero_filled width (number_text 16 upper number))) }
 {
     if width == 2 && number < 256 {
         put_pair(out, at, number as u8, upper)
@@ -108,7 +116,10 @@ fn put_hex(out: &mut [u8], at: usize, number: u64, upper: bool, width: u8) -> Op
 #[inline(never)]
 fn put_in_base(out: &mut [u8], at: usize, number: u64, base: Base, width: u8) -> Option<usize>
     requires { at ≤ length out.old }
-    ensures { Writes result out.old at out.new (zero_filled width (number_text (base_number base) (is_upper base) number)) }
+    ensures written { Writes result out.old at out.new
+        (zero_filled width (number_text (base_number base) (is_upper base) number)) }
+    ensures full { IfNone result (length out.old < at
+        + length (zero_filled width (number_text (base_number base) (is_upper base) number))) }
 {
     match base {
         Base::Hex => put_hex(out, at, number, false, width),
@@ -128,7 +139,8 @@ pub(crate) fn put_radix(
     width: u8,
 ) -> Option<usize>
     requires { at ≤ length out.old }
-    ensures { Writes result out.old at out.new (radix_text base alt width number) }
+    ensures written { Writes result out.old at out.new (radix_text base alt width number) }
+    ensures full { IfNone result (length out.old < at + length (radix_text base alt width number)) }
 {
     if !alt {
         return put_in_base(out, at, number, base, width);
@@ -153,7 +165,8 @@ pub(crate) fn put_fraction(
     requires some { 0 < places }
     requires unit { unit ≡ 10 ^ places }
     requires small { unit ≤ 1000000 }
-    ensures { Writes result out.old at out.new (fraction_text unit places number) }
+    ensures written { Writes result out.old at out.new (fraction_text unit places number) }
+    ensures full { IfNone result (length out.old < at + length (fraction_text unit places number)) }
 {
     let point = put_decimal(out, at, number / unit)?;
     let count = usize::from(places) + 1;

@@ -1,6 +1,6 @@
 //! Numbers of microseconds, printed as seconds with six digits behind the point.
 
-ghost use Rattle.std.specs.Prelude.{◌≤◌, ◌<◌, ◌+◌, ◌/◌, ◌%◌, ◌∷◌, [], ◌++◌, codes, length};
+ghost use Rattle.std.specs.Prelude.{◌≤◌, ◌<◌, ◌+◌, ◌/◌, ◌%◌, ◌∷◌, [], ◌++◌, codes, length, IfNone};
 ghost use Rattle.defmt_hints.specs.Digits.{zero_filled};
 ghost use Rattle.defmt_hints.specs.Printed.{decimal_text, fraction_text};
 ghost use Rattle.defmt_put.specs.Written.{Writes, Written};
@@ -35,7 +35,10 @@ fn write_pair(pair: u64, buf: &mut [u8], at: usize)
 fn put_parts(out: &mut [u8], at: usize, parts: u64) -> Option<usize>
     requires place { at ≤ length out.old }
     requires few { parts < 1000000 }
-    ensures { Writes result out.old at out.new (codes "." ++ zero_filled 6 (decimal_text parts)) }
+    ensures written { Writes result out.old at out.new
+        (codes "." ++ zero_filled 6 (decimal_text parts)) }
+    ensures full { IfNone result (length out.old < at
+        + length (codes "." ++ zero_filled 6 (decimal_text parts))) }
 {
     if out.len() - at < PARTS_LENGTH {
         return None;
@@ -57,8 +60,10 @@ fn put_short(out: &mut [u8], at: usize, whole: u64, parts: u64) -> Option<usize>
     requires place { at ≤ length out.old }
     requires digit { whole < 10 }
     requires few { parts < 1000000 }
-    ensures { Writes result out.old at out.new
+    ensures written { Writes result out.old at out.new
         (decimal_text whole ++ (codes "." ++ zero_filled 6 (decimal_text parts))) }
+    ensures full { IfNone result (length out.old < at
+        + length (decimal_text whole ++ (codes "." ++ zero_filled 6 (decimal_text parts)))) }
 {
     let point = put(out, at, &[b'0' + whole as u8])?;
     put_parts(out, point, parts)
@@ -69,8 +74,10 @@ fn put_short(out: &mut [u8], at: usize, whole: u64, parts: u64) -> Option<usize>
 fn put_long(out: &mut [u8], at: usize, whole: u64, parts: u64) -> Option<usize>
     requires place { at ≤ length out.old }
     requires few { parts < 1000000 }
-    ensures { Writes result out.old at out.new
+    ensures written { Writes result out.old at out.new
         (decimal_text whole ++ (codes "." ++ zero_filled 6 (decimal_text parts))) }
+    ensures full { IfNone result (length out.old < at
+        + length (decimal_text whole ++ (codes "." ++ zero_filled 6 (decimal_text parts)))) }
 {
     let point = put_decimal(out, at, whole)?;
     put_parts(out, point, parts)
@@ -79,7 +86,8 @@ fn put_long(out: &mut [u8], at: usize, whole: u64, parts: u64) -> Option<usize>
 // Writes microseconds as seconds.
 pub(crate) fn put_micros(out: &mut [u8], at: usize, number: u64) -> Option<usize>
     requires { at ≤ length out.old }
-    ensures { Writes result out.old at out.new (fraction_text 1000000 6 number) }
+    ensures written { Writes result out.old at out.new (fraction_text 1000000 6 number) }
+    ensures full { IfNone result (length out.old < at + length (fraction_text 1000000 6 number)) }
 {
     let whole = number / SECOND;
     let parts = number % SECOND;

@@ -1,7 +1,8 @@
 //! Truth values, characters and texts.
 
-ghost use Rattle.std.specs.Prelude.{◌≤◌, length};
+ghost use Rattle.std.specs.Prelude.{◌≡◌, ◌≤◌, ◌<◌, ◌+◌, true, false, None, length, IfNone};
 ghost use Rattle.defmt_hints.specs.Printed.{printed_bool, printed_char, printed_str};
+ghost use Rattle.defmt_put.specs.Left.{leaves_char, leaves_str};
 ghost use Rattle.defmt_put.specs.Written.{Writes};
 
 use crate::quoted::put_quoted;
@@ -11,7 +12,8 @@ use defmt_grammar::Hint;
 #[inline(always)]
 pub fn put(out: &mut [u8], at: usize, text: &[u8]) -> Option<usize>
     requires { at ≤ length out.old }
-    ensures { Writes result out.old at out.new text.now }
+    ensures written { Writes result out.old at out.new text.now }
+    ensures full { IfNone result (length out.old < at + length text.now) }
 {
     if out.len() - at < text.len() {
         return None;
@@ -25,7 +27,8 @@ pub fn put(out: &mut [u8], at: usize, text: &[u8]) -> Option<usize>
 #[inline(never)]
 pub fn put_text(out: &mut [u8], at: usize, text: &[u8]) -> Option<usize>
     requires { at ≤ length out.old }
-    ensures { Writes result out.old at out.new text.now }
+    ensures written { Writes result out.old at out.new text.now }
+    ensures full { IfNone result (length out.old < at + length text.now) }
 {
     put(out, at, text)
 }
@@ -33,7 +36,8 @@ pub fn put_text(out: &mut [u8], at: usize, text: &[u8]) -> Option<usize>
 /// Writes `true` or `false`.
 pub fn put_bool(out: &mut [u8], at: usize, value: bool) -> Option<usize>
     requires { at ≤ length out.old }
-    ensures { Writes result out.old at out.new (printed_bool value) }
+    ensures written { Writes result out.old at out.new (printed_bool value) }
+    ensures full { IfNone result (length out.old < at + length (printed_bool value)) }
 {
     if value {
         put(out, at, b"true")
@@ -45,7 +49,10 @@ pub fn put_bool(out: &mut [u8], at: usize, value: bool) -> Option<usize>
 /// Writes a character under a hint, where that is none that puts it into quotes.
 pub fn put_char(out: &mut [u8], at: usize, character: char, hint: Hint) -> Option<usize>
     requires { at ≤ length out.old }
-    ensures { Writes result out.old at out.new (printed_char character hint) }
+    ensures written { Writes result out.old at out.new (printed_char character hint) }
+    ensures left { leaves_char hint ≡ true → result ≡ None }
+    ensures full { leaves_char hint ≡ false
+        → IfNone result (length out.old < at + length (printed_char character hint)) }
 {
     let mut buffer = [0; 4];
     let text = character.encode_utf8(&mut buffer);
@@ -60,7 +67,10 @@ pub fn put_char(out: &mut [u8], at: usize, character: char, hint: Hint) -> Optio
 /// Writes a text under a hint, where no byte of it is to be escaped.
 pub fn put_str(out: &mut [u8], at: usize, text: &str, hint: Hint) -> Option<usize>
     requires { at ≤ length out.old }
-    ensures { Writes result out.old at out.new (printed_str text.now hint) }
+    ensures written { Writes result out.old at out.new (printed_str text.now hint) }
+    ensures left { leaves_str text.now hint ≡ true → result ≡ None }
+    ensures full { leaves_str text.now hint ≡ false
+        → IfNone result (length out.old < at + length (printed_str text.now hint)) }
 {
     match hint {
         Hint::Debug => put_quoted(out, at, text),

@@ -13,5 +13,5 @@ returns-then-number-lt0 c =
     let negative : c.args.number <ℤ pos 0 = grind (arith, ints) in
     let same : c.unsigned_abs-magnitude.result ≡ unsigned_abs c.args.number = first_of (search rules, grind (arith, ints), grind (arith, common_steps)) in
     rw (negative_text c.args.number negative)
-    (writes_two c.put_decimal.result c.args.out.now c.put.new.out c.put_decimal.new.out c.args.at c.in_ok-digits.digits (codes "-") (decimal_text (unsigned_abs c.args.number)) c.requires c.in_ok-digits.ensures
-    (subst (λ (n : ℕ). Writes c.put_decimal.result c.put.new.out c.in_ok-digits.digits c.put_decimal.new.out (decimal_text n)) same c.put_decimal.ensures))
+    (writes_two c.put_decimal.result c.args.out.now c.put.new.out c.put_decimal.new.out c.args.at c.in_ok-digits.digits (codes "-") (decimal_text (unsigned_abs c.args.number)) c.requires c.in_ok-digits.ensures.written
+    (subst (λ (n : ℕ). Writes c.put_decimal.result c.put.new.out c.in_ok-digits.digits c.put_decimal.new.out (decimal_text n)) same c.put_decimal.ensures.written))

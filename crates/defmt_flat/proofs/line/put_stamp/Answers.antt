@@ -8,4 +8,4 @@ use Rattle.defmt_flat.proofs.line.put_stamp.Goals as goal
 pub returns : goal.returns
 returns c =
     some_stamp c.args.table.now.entries c.args.stamp c.in-Some.index c.in-Some-stamp.number c.put.result c.args.out.now c.put.new.out c.args.at c.in-Some.ensures c.in-Some-stamp.is
-    (writes_two c.put.result c.args.out.now c.put_stamped.new.out c.put.new.out c.args.at c.in_ok-behind.behind (stamp_text c.args.table.now.entries (Some c.in-Some.index) (stamp_args (Some c.in-Some-stamp.number))) (codes " ") c.requires c.in_ok-behind.ensures c.put.ensures)
+    (writes_two c.put.result c.args.out.now c.put_stamped.new.out c.put.new.out c.args.at c.in_ok-behind.behind (stamp_text c.args.table.now.entries (Some c.in-Some.index) (stamp_args (Some c.in-Some-stamp.number))) (codes " ") c.requires c.in_ok-behind.ensures c.put.ensures.written)

@@ -14,4 +14,4 @@ returns-else-param-ne0 c = λ t.
     (ap (printed_uint c.args.number) c.acting.ensures
     ∙ stamp_param t c.args.number c.in-Param.param.position c.in-Param.param.kind c.in-Param.param.hint c.if-param-ne0.false
     ∙ sym (ap (λ (p : Piece). piece_text hints.Plain p (shows t (stamp_args (Some c.args.number)))) c.in-Param.is))
-    c.put_uint.ensures
+    c.put_uint.ensures.written

@@ -21,11 +21,11 @@ put_value-returns-in-Int t c = first_of (search rules, grind (arith, common_step
 
 pub put_value-returns-in-Bool : goal.put_value-returns-in-Bool
 unfolding show_val
-put_value-returns-in-Bool t c = rw c.in-Bool.is c.put_bool.ensures
+put_value-returns-in-Bool t c = rw c.in-Bool.is c.put_bool.ensures.written
 
 pub put_value-returns-in-Char : goal.put_value-returns-in-Char
 unfolding show_val
-put_value-returns-in-Char t c = rw c.in-Char.is c.put_char.ensures
+put_value-returns-in-Char t c = rw c.in-Char.is c.put_char.ensures.written
 
 pub put_value-returns-in-Bits : goal.put_value-returns-in-Bits
 unfolding show_val
@@ -33,15 +33,15 @@ put_value-returns-in-Bits t c = rw c.in-Bits.is c.put_bits.ensures
 
 pub put_value-returns-in-Str : goal.put_value-returns-in-Str
 unfolding show_val
-put_value-returns-in-Str t c = rw c.in-Str.is (rw c.as_str.ensures.text at c.put_str.ensures)
+put_value-returns-in-Str t c = rw c.in-Str.is (rw c.as_str.ensures.text at c.put_str.ensures.written)
 
 pub put_value-returns-in-Istr : goal.put_value-returns-in-Istr
 unfolding show_val
-put_value-returns-in-Istr t c = rw c.in-Istr.is (rw c.interned_text.ensures at c.put_str-in-Istr.ensures)
+put_value-returns-in-Istr t c = rw c.in-Istr.is (rw c.interned_text.ensures at c.put_str-in-Istr.ensures.written)
 
 pub put_value-returns-in-Bytes : goal.put_value-returns-in-Bytes
 unfolding show_val
-put_value-returns-in-Bytes t c = rw c.in-Bytes.is (rw c.as_slice.ensures at c.put_bytes.ensures)
+put_value-returns-in-Bytes t c = rw c.in-Bytes.is (rw c.as_slice.ensures at c.put_bytes.ensures.written)
 
 pub put_value-returns-in-Format : goal.put_value-returns-in-Format
 unfolding show_val
@@ -77,7 +77,7 @@ pub put_item-returns : goal.put_item-returns
 put_item-returns t c =
     writes_two c.put_pieces.result c.args.out.now c.put.new.out c.put_pieces.new.out c.args.at c.in_ok-behind.behind (comma c.args.first)
     (pieces_text c.args.hint (node_pieces c.args.table.now.entries c.args.index c.args.item.now.variant) (shows c.args.table.now.entries c.args.item.now.args))
-    c.requires (rw (c.as_bytes.ensures.value, c.comma.ensures) at c.in_ok-behind.ensures) (rw c.node_pieces-pieces.ensures at c.put_pieces.ensures)
+    c.requires (rw (c.as_bytes.ensures.value, c.comma.ensures) at c.in_ok-behind.ensures.written) (rw c.node_pieces-pieces.ensures at c.put_pieces.ensures)
 
 pub put_items-each-preserved : goal.put_items-each-preserved
 put_items-each-preserved t c = record {
@@ -98,5 +98,5 @@ pub put_list-returns : goal.put_list-returns
 unfolding list_text
 put_list-returns t c =
     let xs : List (List ℕ) = show_elems c.args.table.now.entries c.args.index c.args.hint c.args.items.now in
-    writes_two c.put-2.result c.args.out.now c.put.new.out c.put-2.new.out c.args.at c.in_ok-open.open (codes "[") (parted xs ++ codes "]") c.requires c.in_ok-open.ensures
-    (writes_two c.put-2.result c.put.new.out c.put_items.new.out c.put-2.new.out c.in_ok-open.open c.in_ok-behind.behind (parted xs) (codes "]") (omega (arith, c.in_ok-open.ensures.within, c.in_ok-open.ensures.long)) c.in_ok-behind.ensures c.put-2.ensures)
+    writes_two c.put-2.result c.args.out.now c.put.new.out c.put-2.new.out c.args.at c.in_ok-open.open (codes "[") (parted xs ++ codes "]") c.requires c.in_ok-open.ensures.written
+    (writes_two c.put-2.result c.put.new.out c.put_items.new.out c.put-2.new.out c.in_ok-open.open c.in_ok-behind.behind (parted xs) (codes "]") (omega (arith, c.in_ok-open.ensures.written.within, c.in_ok-open.ensures.written.long)) c.in_ok-behind.ensures c.put-2.ensures.written)

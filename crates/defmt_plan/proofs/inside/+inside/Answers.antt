@@ -40,7 +40,7 @@ pass_steps-pass_step-requires t c =
 
 pub pass_step-returns-in_ok-written-in-Text : goal.pass_step-returns-in_ok-written-in-Text
 pass_step-returns-in_ok-written-in-Text t c = λ u are.
-    rw c.in-Text.is (text_by u c.args.left c.args.outer c.in-Text.text c.args.bytes.now c.args.before c.args.out.now c.put_text.new.out c.in_ok-written-in-Text.written (rw (c.as_bytes.ensures.value, c.as_str.ensures.text) at c.in_ok-written-in-Text.ensures))
+    rw c.in-Text.is (text_by u c.args.left c.args.outer c.in-Text.text c.args.bytes.now c.args.before c.args.out.now c.put_text.new.out c.in_ok-written-in-Text.written (rw (c.as_bytes.ensures.value, c.as_str.ensures.text) at c.in_ok-written-in-Text.ensures.written))
 
 pub pass_step-returns-in-Value : goal.pass_step-returns-in-Value
 pass_step-returns-in-Value t c = λ u are.
@@ -86,19 +86,19 @@ pass_any-pass_list-requires t c = (
 pub pass_list-returns : goal.pass_list-returns
 pass_list-returns t c = λ u kind are.
     list_by u c.args.left kind c.args.hint c.args.bytes.now c.args.before (record { read = c.args.before.read; written = c.in_ok-open.open; opened = c.args.before.opened }) c.in_ok-all.all (record { read = c.in_ok-all.all.read; written = c.in_ok-close.close; opened = c.in_ok-all.all.opened }) c.args.out.now c.put.new.out c.pass_some.new.out c.put-2.new.out c.args.count refl refl
-    c.in_ok-open.ensures (c.in_ok-all.ensures u are) c.in_ok-close.ensures refl refl
+    c.in_ok-open.ensures.written (c.in_ok-all.ensures u are) c.in_ok-close.ensures.written refl refl
 
 pub pass_list-returns-in_err-all : goal.pass_list-returns-in_err-all
-pass_list-returns-in_err-all t c = λ u kind are. rw c.from_residual-in_err-all.ensures (kept_behind c.args.out.now c.put.new.out c.pass_some.new.out c.args.before.written c.in_ok-open.open (codes "[") c.requires.written c.in_ok-open.ensures (c.in_err-all.ensures u are))
+pass_list-returns-in_err-all t c = λ u kind are. rw c.from_residual-in_err-all.ensures (kept_behind c.args.out.now c.put.new.out c.pass_some.new.out c.args.before.written c.in_ok-open.open (codes "[") c.requires.written c.in_ok-open.ensures.written (c.in_err-all.ensures u are))
 
 pub pass_list-returns-in_err-close : goal.pass_list-returns-in_err-close
 pass_list-returns-in_err-close t c = λ u kind are.
     rw c.from_residual-in_err-close.ensures
     (kept_behind c.args.out.now c.pass_some.new.out c.put-2.new.out c.args.before.written c.in_ok-all.all.written _ c.requires.written
-    (written_two c.args.out.now c.put.new.out c.pass_some.new.out c.args.before.written c.in_ok-open.open c.in_ok-all.all.written (codes "[") _ c.in_ok-open.ensures (c.in_ok-all.ensures u are).written) c.in_err-close.ensures)
+    (written_two c.args.out.now c.put.new.out c.pass_some.new.out c.args.before.written c.in_ok-open.open c.in_ok-all.all.written (codes "[") _ c.in_ok-open.ensures.written (c.in_ok-all.ensures u are).written) c.in_err-close.ensures.written)
 
 pub pass_list-pass_some-requires : goal.pass_list-pass_some-requires
-pass_list-pass_some-requires t c = (omega arith, (c.requires.read, (omega (arith, c.in_ok-open.ensures.within, c.in_ok-open.ensures.long), (c.requires.few, c.requires.planned))))
+pass_list-pass_some-requires t c = (omega arith, (c.requires.read, (omega (arith, c.in_ok-open.ensures.written.within, c.in_ok-open.ensures.written.long), (c.requires.few, c.requires.planned))))
 
 pub pass_list-put-requires-2 : goal.pass_list-put-requires-2
 pass_list-put-requires-2 t c = let p = c.in_ok-all.ensures c.requires.planned.table c.requires.planned.are in omega (arith, p.written.within, p.written.long)
@@ -192,20 +192,20 @@ pass_elements-loop-number-init t c = λ u what are s. counting_none u c.args.lef
 pub pass_elements-loop-number-preserved : goal.pass_elements-loop-number-preserved
 pass_elements-loop-number-preserved t c = λ u what are s.
     counting_more u c.args.left what c.args.form.now.index c.args.hint c.args.count c.args.bytes.now c.args.before c.args.out.now c.loop-number.number c.loop-number.reach (record { read = c.loop-number.reach.read; written = c.in_ok-parted.parted; opened = c.loop-number.reach.opened }) c.in_ok-reach.reach c.loop-number.out c.put.new.out c.pass_form.new.out c.loop-number-test.true (c.loop-number.invariant u what are s) refl refl
-    (rw (c.as_bytes.ensures.value, c.comma.ensures) at c.in_ok-parted.ensures) (c.in_ok-reach.ensures u what are s)
+    (rw (c.as_bytes.ensures.value, c.comma.ensures) at c.in_ok-parted.ensures.written) (c.in_ok-reach.ensures u what are s)
 
 pub pass_elements-returns : goal.pass_elements-returns
 pass_elements-returns t c = λ u what are s. counting_all u c.args.left what c.args.form.now.index c.args.hint c.args.count c.args.bytes.now c.args.before c.args.out.now c.loop-number.number c.loop-number.reach c.loop-number.out (omega (arith, c.loop-number-test.false)) (c.loop-number.invariant u what are s)
 
 pub pass_elements-returns-in_err-parted : goal.pass_elements-returns-in_err-parted
 pass_elements-returns-in_err-parted t c = λ u what are s.
-    rw c.from_residual.ensures (counting_fails u c.args.left what c.args.form.now.index c.args.hint c.args.count c.args.bytes.now c.args.before c.args.out.now c.loop-number.number c.loop-number.reach c.loop-number.out c.put.new.out (c.loop-number.invariant u what are s) c.in_err-parted.ensures)
+    rw c.from_residual.ensures (counting_fails u c.args.left what c.args.form.now.index c.args.hint c.args.count c.args.bytes.now c.args.before c.args.out.now c.loop-number.number c.loop-number.reach c.loop-number.out c.put.new.out (c.loop-number.invariant u what are s) c.in_err-parted.ensures.written)
 
 pub pass_elements-returns-in_err-reach : goal.pass_elements-returns-in_err-reach
 pass_elements-returns-in_err-reach t c = λ u what are s.
     let h = c.loop-number.invariant u what are s in
     rw c.from_residual-in_err-reach.ensures (counting_fails u c.args.left what c.args.form.now.index c.args.hint c.args.count c.args.bytes.now c.args.before c.args.out.now c.loop-number.number c.loop-number.reach c.loop-number.out c.pass_form.new.out h
-    (kept_behind c.loop-number.out c.put.new.out c.pass_form.new.out c.loop-number.reach.written c.in_ok-parted.parted _ h.written c.in_ok-parted.ensures (c.in_err-reach.ensures u what are s)))
+    (kept_behind c.loop-number.out c.put.new.out c.pass_form.new.out c.loop-number.reach.written c.in_ok-parted.parted _ h.written c.in_ok-parted.ensures.written (c.in_err-reach.ensures u what are s)))
 
 -- what the next element may rest on
 pub pass_elements-put-requires : goal.pass_elements-put-requires
@@ -218,4 +218,4 @@ pub pass_elements-pass_form-requires : goal.pass_elements-pass_form-requires
 pass_elements-pass_form-requires t c =
     let own = c.requires.planned in
     let h = c.loop-number.invariant own.table (body_of own.is.entry) own.are (stands own.table c.args.form.now own.is) in
-    (omega arith, (h.read, (omega (arith, c.in_ok-parted.ensures.within, c.in_ok-parted.ensures.long), (h.few, own))))
+    (omega arith, (h.read, (omega (arith, c.in_ok-parted.ensures.written.within, c.in_ok-parted.ensures.written.long), (h.few, own))))

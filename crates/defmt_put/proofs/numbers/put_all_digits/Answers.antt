@@ -1,4 +1,4 @@
-use Rattle.std.proofs.Common.{◌≡◌, subst, ◌+◌, arith, List, ℕ}
+use Rattle.std.proofs.Common.{◌≡◌, subst, ◌+◌, arith, List, ℕ, length, ap}
 use Rattle.std.specs.Fmt.{decimal}
 use Rattle.defmt_hints.proofs.Decimals.{std_decimal}
 use Rattle.defmt_hints.specs.Printed.{decimal_text}
@@ -6,8 +6,11 @@ use Rattle.defmt_put.proofs.Places.{written_here}
 use Rattle.defmt_put.specs.Written.{Written}
 use Rattle.defmt_put.proofs.numbers.put_all_digits.Goals as goal
 
-pub returns : goal.returns
-returns c =
+pub returns-then-out-at-clause-full : goal.returns-then-out-at-clause-full
+returns-then-out-at-clause-full c = omega (arith, ap length (std_decimal c.args.number (omega arith)))
+
+pub returns-clause-written : goal.returns-clause-written
+returns-clause-written c =
     let e : decimal c.args.number ≡ decimal_text c.args.number = std_decimal c.args.number (omega arith) in
     subst (λ (t : List ℕ). Written c.args.out.now c.args.at c.write_digits.new.buf (c.args.at + c.digit_count-count.result) t) e
     (written_here c.args.out.now c.write_digits.new.buf (decimal c.args.number) c.args.at c.write_digits.result (c.args.at + c.digit_count-count.result) (omega arith) (omega arith) c.write_digits.auto.buf (omega arith) c.write_digits.ensures.start c.write_digits.ensures.written c.write_digits.ensures.before)

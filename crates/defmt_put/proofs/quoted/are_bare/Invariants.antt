@@ -1,6 +1,6 @@
-use Rattle.std.proofs.Common.{◌≡◌, ◌<◌, ℕ, get_or, None}
-use Rattle.defmt_hints.specs.Escapes.{escape_of}
+use Rattle.std.proofs.Common.{◌≡◌, drop}
 use Rattle.defmt_put.proofs.quoted.are_bare.Given as goal
+use Rattle.defmt_put.specs.Left.{has_escape}
 
 abbrev pub invariant-loop-byte : goal.invariant-loop-byte
-invariant-loop-byte l = (k : ℕ) → k < l.byte-index → escape_of 34 (get_or l.bytes k 0) ≡ None
+invariant-loop-byte l = has_escape (drop l.byte-index l.bytes) ≡ has_escape l.bytes

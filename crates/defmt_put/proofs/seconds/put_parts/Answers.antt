@@ -1,12 +1,16 @@
 use Rattle.std.proofs.Common.{◌+◌, ◌/◌, ◌%◌, ◌∷◌, [], ◌++◌, ℕ, List, set, codes, refl, sym, subst, arith}
 use Rattle.itoa.proofs.Decimal.{pair}
 use Rattle.defmt_put.proofs.Chains.{written_two}
+use Rattle.defmt_put.proofs.Fractions.{parts_long}
 use Rattle.defmt_put.proofs.TwoDigits.{byte_written, six_digits}
 use Rattle.defmt_put.specs.Written.{Written}
 use Rattle.defmt_put.proofs.seconds.put_parts.Goals as goal
 
-pub returns : goal.returns
-returns c =
+pub returns-then-out-at-lt-PARTS_LENGTH-clause-full : goal.returns-then-out-at-lt-PARTS_LENGTH-clause-full
+returns-then-out-at-lt-PARTS_LENGTH-clause-full c = omega (arith, parts_long 6 c.args.parts (omega arith) c.requires.few)
+
+pub returns-clause-written : goal.returns-clause-written
+returns-clause-written c =
     let old : List ℕ = c.args.out.now in
     let at : ℕ = c.args.at in
     let end : ℕ = at + 1 + 2 + 2 + 2 in
