@@ -1,6 +1,5 @@
-use Rattle.std.proofs.Common.{◌≡◌, ◌≤◌, ◌+◌, ℕ, List, Option, arith, ap, ◌∙◌, refl, sym, subst, take, length, inr}
+use Rattle.std.proofs.Common.{◌≡◌, ◌≤◌, ◌+◌, ℕ, List, Option, arith, ap, ◌∙◌, refl, subst, take, length, inr}
 use Rattle.dl_io.specs.Outside.{HasFile}
-use Rattle.dl_io.proofs.Faults.{given_refused, cause_is, cause_told, failed_long, failed_memory, long_memory}
 use Rattle.dl_io.proofs.Streams.{IsFront, FetchedMore, fetch_goes_on, written_over, front_kept}
 use Rattle.dl_io.proofs.calls.fetch_all.Goals as goal
 use Rattle.dl_io.proofs.calls.fetch_all.Goals.{then-fetched-len+in_ok-grow, else-fetched-len}
@@ -33,21 +32,3 @@ loop-fetched-preserved g c =
       same = c.in-Ok.ensures.same ∙ before.same;
       later = omega (arith, c.in-Ok.ensures.later, before.later);
     }
-
-pub returns-in_err-grow-clause-long : goal.returns-in_err-grow-clause-long
-returns-in_err-grow-clause-long g c = λ taken e. long_memory (sym (cause_told c.from_residual.result c.from_residual.ensures.1 e))
-
-pub returns-in_err-grow-clause-failed : goal.returns-in_err-grow-clause-failed
-returns-in_err-grow-clause-failed g c = λ e. failed_memory (sym (cause_told c.from_residual.result c.from_residual.ensures.1 e))
-
-pub returns-in-Ok-eq0-clause-long : goal.returns-in-Ok-eq0-clause-long
-returns-in-Ok-eq0-clause-long g c = λ taken e. given_refused e
-
-pub returns-in-Ok-eq0-clause-failed : goal.returns-in-Ok-eq0-clause-failed
-returns-in-Ok-eq0-clause-failed g c = λ e. given_refused e
-
-pub returns-in-Err-clause-long : goal.returns-in-Err-clause-long
-returns-in-Err-clause-long g c = λ taken e. failed_long (cause_is e)
-
-pub returns-clause-failed : goal.returns-clause-failed
-returns-clause-failed g c = λ e. failed_long (sym (cause_is e))
