@@ -96,7 +96,7 @@ impl<E: Names, K: Naming, U: UpEnd + Drop> Booth<Eight<Named<E>>, EachText<K>, S
         ensures p7 { IfOk result (λ r. r.1.p7.place ≡ 0) }
     {
         let totals = totals_of(speech);
-        let stand = Stand::start(alloc, speech.copy(alloc)?, up)?;
+        let stand = Stand::start(alloc, speech, up)?;
         let speaking = Speaking {
             stand,
             of: PhantomData,

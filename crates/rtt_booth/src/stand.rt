@@ -94,6 +94,26 @@ fn new_said(alloc: Global) -> Result<Said, Memory>
     Ok(said)
 }
 
+// What a stand has of its own before anything is said.
+struct Prepared {
+    speech: Speech,
+    said: Said,
+    line: Vec<u8>,
+}
+
+// A copy of what writers have to say, no words, and the buffer for a line.
+fn prepare(alloc: Global, speech: &Speech) -> Result<Prepared, Memory>
+    ensures speech { IfOk result (λ p. p.speech ≡ speech.now) }
+    ensures words { IfOk result (λ p. p.said.words ≡ []) }
+    ensures room { IfOk result (λ p. p.said.room ≡ 4096) }
+    ensures line { IfOk result (λ p. length p.line.items ≡ 2003) }
+{
+    let line = vec![in alloc; 0u8; LINE_SIZE]?;
+    let said = new_said(alloc)?;
+    let speech = speech.copy(alloc)?;
+    Ok(Prepared { speech, said, line })
+}
+
 impl<U: UpEnd> Stand<U> {
     /// Says the next text of a writer that has one left: its line goes to the ring in blocking mode, and its word to those
     /// that were said. It may wait for the reader. Takes no memory.
@@ -129,16 +149,16 @@ impl<U: UpEnd> Stand<U> {
 }
 
 impl<U: UpEnd + Drop> Stand<U> {
-    // A stand at which nothing was said, with room for all that will be.
-    pub(crate) fn start(alloc: Global, speech: Speech, up: U) -> Result<Stand<U>, Memory>
+    // A stand at which nothing was said, with a copy of what writers have to say and room for all that will be.
+    pub(crate) fn start(alloc: Global, speech: &Speech, up: U) -> Result<Stand<U>, Memory>
         requires fresh { U.view up ≡ new_up (U.view up).split (U.view up).size (U.view up).tells }
-        ensures speech { IfOk result (λ stand. stand.speech ≡ speech) }
+        ensures speech { IfOk result (λ stand. stand.speech ≡ speech.now) }
         ensures words { IfOk result (λ stand. stand.said.words ≡ []) }
         ensures up { IfOk result (λ stand. stand.up ≡ U.view up) }
         ensures kept { IfOk result IsKept }
     {
-        let said = new_said(alloc)?;
-        let line = vec![in alloc; 0u8; LINE_SIZE]?;
+        let own = prepare(alloc, speech)?;
+        let Prepared { speech, said, line } = own;
         Ok(Stand {
             speech,
             said,

@@ -1,4 +1,4 @@
-use Rattle.std.proofs.Common.{rules, ◌≡◌, ◌++◌, [], ◌∷◌, subst, arith}
+use Rattle.std.proofs.Common.{◌≡◌, ◌++◌, [], ◌∷◌, subst, arith}
 use Rattle.std.proofs.lemmas.Grind.{common_steps}
 use Rattle.rtt_booth.proofs.Next.{Next, more_left, next_is, place_below, place_small, room_left}
 use Rattle.rtt_booth.specs.Kept.{Sheet, word}
@@ -33,7 +33,7 @@ invariant_of-self g c =
       counts = n.counts;
       current_is = n.current_is;
       current_below = n.current_below;
-      size = first_of (search rules, grind (arith, common_steps));
+      size = grind (arith, common_steps);
     }
 
 pub returns-clause-words : goal.returns-clause-words
