@@ -83,9 +83,13 @@ impl Reading {
         }
     }
 
-    // The writer of a statement, and the index of its name.
+    // The writer of a statement, and the index of its name, which is a message's: there is room.
     fn admit_statement(&self, line: &ActionLine<'_>) -> Result<(u8, u16), Cause>
-        ensures { result ≡ admits_statement self.now line.now.writer line.now.field.now }
+        ensures value { result ≡ admits_statement self.now line.now.writer line.now.field.now }
+        ensures writer { IfOk result (λ p. p.0 < 8) }
+        ensures message { IfOk result (λ p. is_message self.now.script.table p.1 ≡ true) }
+        ensures room { IfOk result
+            (λ p. count_statements self.now.script < statements_limit) }
     {
         let Some(writer) = line.writer else {
             return Err(Cause::Writer);

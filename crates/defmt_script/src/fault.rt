@@ -25,23 +25,12 @@ impl From<Memory> for ScriptFault {
 }
 
 /// Why a line isn't taken.
-#[derive(Clone, Copy, Debug, PartialEq, Eq)]
+#[derive(Clone, Copy)]
 pub enum LineFault {
     /// It is refused.
     Refused(Cause),
     /// Want of memory.
     Memory,
-}
-
-impl From<Cause> for LineFault {
-    ghost use Rattle.std.specs.Prelude.{◌≡◌};
-    ghost use Rattle.defmt_script.specs.declared.fault.LineFault.TheVariants.{Refused};
-
-    ghost from_gives = { λ cause e. e ≡ Refused cause };
-
-    fn from(cause: Cause) -> Self {
-        LineFault::Refused(cause)
-    }
 }
 
 impl From<Memory> for LineFault {
