@@ -26,8 +26,8 @@ lacks() { if [[ $2 != *"$3"* ]]; then pass; else fail "$1: '$3' is in '$2'"; fi;
 # ---- the kit
 
 kit=$work/kit
-mkdir -p "$kit/bin" "$kit/toolchain/bin" "$kit/toolchain/lib" "$kit/c" "$work/path"
-touch "$kit/START-HERE.md" "$kit/bin/rtlib.py" "$kit/bin/rattle" "$kit/toolchain/bin/clang"
+mkdir -p "$kit/bin" "$kit/toolchain/bin" "$kit/toolchain/lib" "$kit/rattle" "$kit/c" "$work/path"
+touch "$kit/START-HERE.md" "$kit/rattle/logic" "$kit/bin/rtlib.py" "$kit/toolchain/bin/clang"
 
 # The program writes which text of defmt_run it was built of to the standard error, and does what its first word says.
 cat > "$kit/program" << 'PROGRAM'
@@ -45,9 +45,9 @@ case $1 in
 esac
 PROGRAM
 
-# Each crate that is proved is a line of $KIT/proved, and each call one of $KIT/calls; $KIT/events says when each proof begins and ends. $KIT/seconds
-# says how long a proof takes, and $KIT/slow/NAME how long one takes that takes another time. A file $KIT/refuses names a crate that can't be proved,
-# $KIT/killed/NAME how a crate's rt ends once, and $KIT/lasts/NAME how long one takes still when its first part is kept, which $KIT/kept then names.
+# Each crate that is proved is a line of $KIT/proved, each call one of $KIT/calls, and each of the prover one of $KIT/provers; $KIT/events says when each
+# proof begins and ends. $KIT/seconds says how long a proof takes, and $KIT/slow/NAME how long one takes that takes another time. A file $KIT/refuses
+# names a crate that can't be proved, and $KIT/killed/NAME how a crate's rt ends once.
 cat > "$kit/bin/rt" << 'RT'
 #!/bin/bash
 KIT=${0%/bin/rt}
@@ -61,30 +61,27 @@ prove() {
     for each in $(sed -n "s/^$1\( [^:]*\)*://p" ../../crates.txt); do
         [ "$each" = std ] || [ -f "../$each/out/rlib/stamp" ] || { echo "error: $each is not built"; return 1; }
     done
+    [ -f "${0%/bin/rt}/rattle/logic" ] && [ -f "${0%/bin/rt}/toolchain/bin/clang" ] || { echo 'error: the kit is not whole'; return 1; }
     echo "begin $1" >> "$KIT/events"
-    rm -rf out/rlib; mkdir -p out/rlib out/incremental
+    rm -rf out/rlib; mkdir -p out/rlib
     case $(cat "$KIT/killed/$1" 2> /dev/null) in
         '') ;;
         9) rm "$KIT/killed/$1"; kill -9 $$ ;;
         *) read -r status < "$KIT/killed/$1"; rm "$KIT/killed/$1"; return "$status" ;;
     esac
-    if [ ! -f "out/incremental/$(text)" ]; then
-        pause "$(cat "$KIT/slow/$1" 2> /dev/null || cat "$KIT/seconds")"
-        : > "out/incremental/$(text)"
-        echo "$1" >> "$KIT/kept"
-    fi
-    [ ! -f "$KIT/lasts/$1" ] || pause "$(< "$KIT/lasts/$1")"
+    pause "$(cat "$KIT/slow/$1" 2> /dev/null || cat "$KIT/seconds")"
     echo "end $1" >> "$KIT/events"
     [ "$(cat "$KIT/refuses" 2> /dev/null)" != "$1" ] || { echo "error: $1 is not proved"; return 1; }
+    "${0%/rt}/rattle" build --crate-name "$1" --incremental 'out/a b' --links "$1=" -o "$2" || return
     echo "$1" >> "$KIT/proved"
     text > out/rlib/stamp
 }
 case $1 in
     doc) echo "$KIT/START-HERE.md" ;;
-    lib) prove "${PWD##*/}" ;;
+    lib) prove "${PWD##*/}" "$PWD/out/rlib/${PWD##*/}.rlib" ;;
     run)
-        [ -n "$(ls ../defmt_run/out/incremental)" ] || { echo 'error: a pass over all sources'; exit 1; }
-        (cd ../defmt_run && prove defmt_run) && prove defmt_cli || exit
+        [ -f ../defmt_run/out/rlib/stamp ] || { echo 'error: defmt_run is not built'; exit 1; }
+        prove defmt_cli out/defmt_cli.o || exit
         sed "s/TEXT/proved $(cat ../defmt_run/src/lib.rt)/" "$KIT/program" > out/defmt_cli && chmod +x out/defmt_cli ;;
     try)
         [ "$(cat "$KIT/refuses" 2> /dev/null)" != try ] || { echo 'error: the program is not read'; exit 2; }
@@ -92,11 +89,12 @@ case $1 in
         "${0%/bin/rt}/toolchain/bin/ld.lld" -o "$KIT/tried" defmt_run && "$KIT/tried" run < /dev/null ;;
 esac
 RT
+printf '#!/bin/bash\nprintf "%%s|" "$@" >> "%s"\necho >> "%s"\n' "$kit/provers" "$kit/provers" > "$kit/bin/rattle"
 cat > "$kit/toolchain/bin/ld.lld" << 'LINKER'
 #!/bin/bash
 sed "s/TEXT/unproved $(cat "../$3/src/lib.rt")/" "${0%/toolchain/*}/program" > "$2" && chmod +x "$2"
 LINKER
-chmod +x "$kit/bin/rt" "$kit/toolchain/bin/ld.lld"
+chmod +x "$kit/bin/rt" "$kit/bin/rattle" "$kit/toolchain/bin/ld.lld"
 echo "$kit" > "$kit/home"
 ln -s "$kit/bin/rt" "$work/path/rt"
 sed -i "s|^KIT=.*|KIT=$kit|" "$kit/bin/rt"
@@ -108,9 +106,9 @@ PATH=$work/path:$PATH
 
 # begin SECONDS: a repository in which nothing was built, and a proof takes so long
 begin() {
-    rm -rf "$work/top" "$kit/refuses" "$kit/slow" "$kit/killed" "$kit/lasts"
-    mkdir "$kit/slow" "$kit/killed" "$kit/lasts"
-    for it in calls proved events kept sleeps; do : > "$kit/$it"; done
+    rm -rf "$work/top" "$kit/refuses" "$kit/slow" "$kit/killed"
+    mkdir "$kit/slow" "$kit/killed"
+    for it in calls provers proved events sleeps; do : > "$kit/$it"; done
     echo "$1" > "$kit/seconds"; echo 4 > "$kit/processors"; echo 16 > "$kit/memory"
     mkdir "$work/top" && cd "$work/top" || exit 2
     cp "$top/defmtl" .
@@ -128,12 +126,13 @@ call() {
     status=$?
     said=$(< "$work/said")
 }
-calls() { grep -vc '^$' "$kit/calls"; }
+# (but for those that ask where the kit is)
+calls() { grep -vc '^$\| doc$' "$kit/calls"; }
 proofs() { sort "$kit/proved" | tr '\n' ' '; }
 strays() {
-    find . ! -type d ! -path './crates/*/src/*' ! -regex '\./crates/[^/]*/out/\(rlib\|incremental\)/[^/]*' ! -name crates.txt ! -name HANDLES ! -name defmtl \
+    find . ! -type d ! -path './crates/*/src/*' ! -path './crates/defmt_cli/out/libraries/*/stamp' ! -name crates.txt ! -name HANDLES ! -name defmtl \
         ! -name 'defmt_cli*' ! -name launcher.lock
-    find . -name rooms
+    find . -name rooms -o -name kit -o -name out ! -path './crates/defmt_cli/*'
     find "$TMPDIR" -mindepth 1 -maxdepth 1
 }
 all_crates='defmt_cli defmt_run left low right top '
@@ -158,8 +157,10 @@ has 'how long it will take' "$said" 'About '
 has 'how long the first build takes' "$said" 'twenty to forty minutes on four processors, twice that on two'
 is 'a crate that stands alone has two jobs, and the program one' "$(grep -c '^low lib --jobs 2$\|^top lib --jobs 2$\|^defmt_cli run --jobs 1 ' "$kit/calls")" 3
 is 'two side by side share the processors' "$(grep '^left\|^right' "$kit/calls" | grep -o '[0-9]*$' | sort | tr '\n' ' ')" '2 2 '
-is 'each crate has one call, but the last library has none of its own' "$(calls)" 5
-is 'nothing else is kept of the last library' "$(find crates/defmt_run/out/incremental -type f | wc -l)" 1
+is 'each crate has one call' "$(calls)" 6
+is 'each library is built of its statements, and nothing is kept of a part of it' \
+    "$(grep -c '^build|--crate-name|\([a-z_]*\)|--links|\1=|-o|/[^|]*/\1\.rlib|--statements|$' "$kit/provers")" 5
+is 'the program is built as rt has it' "$(grep -c '^build|--crate-name|defmt_cli|--incremental|out/a b|--links|defmt_cli=|-o|out/defmt_cli.o|$' "$kit/provers")" 1
 until_true is_tidy
 is 'no file is left behind' "$(strays)" ''
 : > "$kit/calls"
@@ -268,7 +269,7 @@ for crate in left right; do
     long "$crate"
     call run < /dev/null
     is "the longest chain comes first, which is that of $crate" "$(sed -n 's/^begin //p' "$kit/events" | sed -n 2p)" "$crate"
-    is 'on one processor each crate has one job' "$(grep -vc ' --jobs 1' "$kit/calls")" 0
+    is 'on one processor each crate has one job' "$(grep -v ' doc$' "$kit/calls" | grep -vc ' --jobs 1')" 0
     begin 0.1
     echo 3 > "$kit/processors"
     long "$crate"
@@ -279,7 +280,7 @@ done
 begin 0.1
 echo 2 > "$kit/memory"
 call run < /dev/null
-is 'with little memory each crate has one job' "$(grep -vc ' --jobs 1' "$kit/calls")" 0
+is 'with little memory each crate has one job' "$(grep -v ' doc$' "$kit/calls" | grep -vc ' --jobs 1')" 0
 if grep -A 1 '^begin \(left\|right\)' "$kit/events" | tr '\n' ' ' | grep -q '^begin [a-z]* begin'; then fail "with little memory two crates are proved side by side: $(events)"; else pass; fi
 
 for end in 9 247; do
@@ -292,19 +293,20 @@ for end in 9 247; do
 done
 
 begin 0.1
-flock -o crates/left sleep 10 &
+flock -o crates/defmt_cli sleep 10 &
 holder=$!
-until_true eval '! flock -n crates/left true'
+until_true eval '! flock -n crates/defmt_cli true'
 ./defmtl run < /dev/null 2> "$work/said" > /dev/null &
 first=$!
 until_true grep -q waiting "$work/said"
 kill "$holder"
 until_true grep -q low "$kit/proved"
-if flock -n crates/low true; then fail "a build does not keep other rt's out of its crates"; else pass; fi
+if flock -n crates/defmt_cli true; then fail "a build does not keep rt ci out"; else pass; fi
+if flock -n crates/low true; then pass; else fail "a build keeps other rt's out of the crates that it doesn't write to"; fi
 wait "$first"
 is 'a build that waits for another rt' "$?" 0
-has 'a build that waits for another rt says so' "$(cat "$work/said")" "waiting for another rt to finish in $work/top/crates/left"
-if flock -n crates/low true && flock -n crates/defmt_cli true; then pass; else fail "a build that is done keeps other rt's out"; fi
+has 'a build that waits for another rt says so' "$(cat "$work/said")" "waiting for another rt to finish in $work/top/crates/defmt_cli"
+if flock -n crates/defmt_cli true; then pass; else fail "a build that is done keeps other rt's out"; fi
 
 # ---- sources that change
 
@@ -378,14 +380,14 @@ stopped 'a build that is interrupted' INT 130
 stopped 'a build that is hung up' HUP 129
 stopped 'a build that is killed' KILL 137
 
-# interrupted WHAT SIGNAL: what was kept in the room of a crate that was under way is where the crate's own rt looks for it, and the next call uses it
+# interrupted WHAT SIGNAL: of crates that were under way nothing is left, and the next call proves these and those above them
 interrupted() {
     begin 0.1
-    echo 30 > "$kit/lasts/right"; echo 30 > "$kit/slow/left"
+    echo 30 > "$kit/slow/right"; echo 30 > "$kit/slow/left"
     ./defmtl run < /dev/null > /dev/null 2> "$work/said" &
     local launcher=$!
-    until_true grep -q right "$kit/kept"
-    until_true has_begun 4
+    until_true grep -q 'begin right' "$kit/events"
+    until_true has_begun 3
     kill "-$2" "$launcher"
     wait "$launcher" 2> /dev/null
     for it in $(< "$kit/sleeps"); do
@@ -393,20 +395,20 @@ interrupted() {
     done
     until_true test ! -e crates/defmt_cli/out/rooms
     is "$1: no file is left behind" "$(strays | grep -v launcher.log)" ''
-    is "$1: what was kept is the crate's own" "$(find crates/right/out/incremental -type f | wc -l)" 1
-    is "$1: what was not proved is not built" "$(find crates/right crates/left -name stamp)" ''
-    rm "$kit/lasts/right" "$kit/slow/left"
+    is "$1: what was not proved is not built" "$(ls crates/defmt_cli/out/libraries)" low
+    rm "$kit/slow/right" "$kit/slow/left"
     call run < /dev/null
-    is "$1: it goes on where the other stopped" "$status $(sort "$kit/kept" | tr '\n' ' ')" "0 $all_crates"
+    is "$1: it goes on with the crates that were not done" "$status $(proofs)" "0 $all_crates"
 }
 interrupted 'two crates that are ended' TERM
 interrupted 'two crates that are killed' KILL
 
 begin 0.1
-mkdir -p crates/defmt_cli/out/rooms/right/crates/right/out/{incremental,rlib} crates/defmt_cli/out/rooms/left/crates/left/src
-: > "crates/defmt_cli/out/rooms/right/crates/right/out/incremental/$(cat crates/right/src/* | cksum)"
+mkdir -p crates/defmt_cli/out/rooms/low/crates/low/out/rlib crates/defmt_cli/out/rooms/left/crates/left/{src,out/rlib}
+cat crates/low/src/* | cksum > crates/defmt_cli/out/rooms/low/crates/low/out/rlib/stamp
 call run < /dev/null
-is 'what lies in a room that nobody cleared is used' "$status $(sort "$kit/kept" | tr '\n' ' ')" '0 defmt_cli defmt_run left low top '
+is 'a library that lies in a room that nobody cleared is used' "$status $(proofs)" '0 defmt_cli defmt_run left right top '
+until_true is_tidy
 is 'and the room is cleared' "$(strays)" ''
 
 # ---- calls that wait
