@@ -14,7 +14,7 @@ use defmt_script::Script;
 use dl_io::Memory;
 use rtt_modes::Relief;
 use rtt_ring::UpEnd;
-use shared_work::{Blanks, Books, Eight, HasBook, Named, Names, Pen, Pens, Quota, Shared, Work};
+use shared_work::{Blanks, Books, Eight, HasBook, Names, Pen, Pens, Quota, Shared, Work};
 use std::alloc::Global;
 use std::marker::PhantomData;
 use std::sync::Wait;
@@ -73,7 +73,7 @@ fn totals_of(script: &Script) -> [u32; 8]
 }
 
 impl<E: Names, K: Naming, U: UpEnd + Drop, C: Clock + Drop> Logger<
-    Eight<Named<E>>,
+    Eight<E>,
     EachStatement<K>,
     Logging<K, U, C>,
 > {
@@ -90,7 +90,7 @@ impl<E: Names, K: Naming, U: UpEnd + Drop, C: Clock + Drop> Logger<
         script: Script,
         stamp: Stamp<C>,
         up: U,
-    ) -> Result<(Self, Pens<Named<E>, EachStatement<K>>), Memory>
+    ) -> Result<(Self, Pens<E, EachStatement<K>>), Memory>
         requires pace { stamp ≡ pace_of script.settings.stamp }
         requires fresh { U.view up
             ≡ new_up (U.view up).split script.settings.ring (U.view up).tells }
@@ -120,7 +120,7 @@ impl<E: Names, K: Naming, U: UpEnd + Drop, C: Clock + Drop> Logger<
     ///
     /// The script is the one that `start` took, and the end comes from the same split as the one that `start` took. Each
     /// writer has as many marks as its pen's place.
-    pub fn close(self, pens: Pens<Named<E>, EachStatement<K>>) -> (Tape, U, Script)
+    pub fn close(self, pens: Pens<E, EachStatement<K>>) -> (Tape, U, Script)
         ensures script { result.2 ≡ K.script }
         ensures split { (U.view result.1).split ≡ K.split }
         ensures kept { IsKept

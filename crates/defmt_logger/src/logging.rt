@@ -1,4 +1,12 @@
 //! What a logger's writers share.
+ghost use Rattle.std.specs.Prelude.{◌≡◌, ℕ, List, []};
+ghost use Rattle.defmt_frames.specs.Frames.{count};
+ghost use Rattle.defmt_logger.specs.Codes.{coded_sheet};
+ghost use Rattle.defmt_logger.specs.Kept.{Sheet};
+ghost use Rattle.defmt_logger.specs.Tape.{marks_of};
+ghost use Rattle.defmt_script.specs.Script.{Script};
+ghost use Rattle.defmt_script.specs.State.{empty_script};
+
 use crate::desk::Desk;
 use defmt_hooks::Clock;
 use rtt_modes::Relief;
@@ -9,9 +17,6 @@ use std::sync::Wait;
 
 /// Which script a logger has, and from which split of a ring its end comes. Whoever starts a logger picks the two.
 pub trait Naming {
-    ghost use Rattle.std.specs.Prelude.{ℕ, List};
-    ghost use Rattle.defmt_script.specs.Script.{Script};
-
     /// The script.
     ghost script: { Script };
 
@@ -20,9 +25,6 @@ pub trait Naming {
 }
 
 impl Naming for Brand {
-    ghost use Rattle.std.specs.Prelude.{[]};
-    ghost use Rattle.defmt_script.specs.State.{empty_script};
-
     ghost script = { empty_script };
 
     ghost split = { [] };
@@ -35,8 +37,6 @@ pub struct EachStatement<K> {
 }
 
 impl<K: Naming> Quota for EachStatement<K> {
-    ghost use Rattle.defmt_frames.specs.Frames.{count};
-
     ghost quota = { λ w. count K.script w };
 }
 
@@ -48,10 +48,6 @@ pub struct Logging<K: Naming, U: UpEnd, C: Clock> {
 }
 
 impl<K: Naming, U: UpEnd, C: Clock> Model for Logging<K, U, C> {
-    ghost use Rattle.std.specs.Prelude.{◌≡◌};
-    ghost use Rattle.defmt_logger.specs.Kept.{Sheet};
-    ghost use Rattle.defmt_logger.specs.Codes.{coded_sheet};
-
     ghost Value = { Sheet };
 
     ghost coded = { coded_sheet };
@@ -62,8 +58,6 @@ impl<K: Naming, U: UpEnd, C: Clock> Model for Logging<K, U, C> {
 }
 
 impl<K: Naming, U: UpEnd, C: Clock> Work<EachStatement<K>> for Logging<K, U, C> {
-    ghost use Rattle.defmt_logger.specs.Tape.{marks_of};
-
     ghost done = { λ l w. marks_of w l.tape.marks };
 
     fn step<R: Relief, W: Wait>(&mut self, rt: &W, writer: u8, relief: &mut R) {

@@ -7,12 +7,12 @@ ghost use Rattle.rtt_ring.specs.Views.{UpKept, new_up};
 
 use crate::counting::FrameCount;
 use defmt_hooks::Level;
-use defmt_writers::Gate;
 use dl_io::Bytes;
 use rtt_down::order_bytes;
 use rtt_modes::{Relief, skip};
 use rtt_ring::{DownEnd, UpEnd};
 use std::marker::{Brand, PhantomData};
+use writer_threads::Gate;
 
 // The most bytes that one take moves.
 const PIECE: usize = 256;

@@ -10,15 +10,16 @@ ghost use Rattle.shared_work.specs.Names.{AreNamed};
 use crate::host::{HostEnds, Hosting, OrderSender, order_sender};
 use defmt_hooks::{Clock, Level, Stamp};
 use defmt_script::Script;
-use defmt_writers::{Gate, RingEnds, SettledRing, finish, prepare, run_threads, settle};
+use defmt_writers::{RingEnds, SettledRing, prepare, settle, split_ring};
 use dl_io::{Bytes, Memory};
 use rtt_down::{EachTurn, Naming, Steered, Steering, Turns};
-use rtt_ring::{Channel, RingFault, Settled};
-use shared_work::{Blanks, Eight, Named, Names};
+use rtt_ring::{Channel, Settled};
+use shared_work::{Blanks, Eight, Names};
 use std::alloc::Global;
 use std::marker::Brand;
 use std::sync::Wait;
 use std::thread::Threads;
+use writer_threads::{Gate, finish, run_threads};
 
 // How many bytes the ring of orders has.
 const RING_SIZE: u32 = 256;
@@ -158,7 +159,7 @@ fn run_hosted<
     } = ends;
     let host = order_sender::<N, H::Up, H::Down, G>(reads, captured, sends, orders, gate);
     let (steered, mut helms) = Steered::<
-        Eight<Named<E>>,
+        Eight<E>,
         EachTurn<K>,
         Steering<K, H::Up, H::Down, C>,
     >::start(alloc, blanks, script, stamp, up, down)?;
@@ -181,19 +182,6 @@ fn orders_of(alloc: Global, script: &Script) -> Result<Vec<(u32, Level)>, Memory
         number += 1;
     }
     Ok(orders)
-}
-
-// The two ends of a new ring for orders, whose size no ring refuses.
-fn split_orders<H: Channel>(alloc: Global) -> Result<(H::Up, H::Down), Memory>
-    requires { H.tells ≡ true }
-    ensures sends { IfOk result (λ e. H.Up.view e.0 ≡ new_up (H.Up.view e.0).split 256 true) }
-    ensures down { IfOk result (λ e. H.Down.view e.1 ≡ new_down (H.Up.view e.0).split 256) }
-{
-    match H::split(alloc, RING_SIZE) {
-        Ok(ends) => Ok(ends),
-        Err(RingFault::Memory) => Err(Memory),
-        Err(RingFault::Size) => unreachable!(),
-    }
 }
 
 // The orders of a script, the ends of the ring of frames, and those of the ring of orders.
@@ -222,7 +210,7 @@ fn prepare_steered<H: Channel>(
 {
     let orders = orders_of(alloc, script)?;
     let ends = prepare::<H>(alloc, script)?;
-    let order_ends = split_orders::<H>(alloc)?;
+    let order_ends = split_ring::<H>(alloc, RING_SIZE)?;
     Ok((orders, ends, order_ends))
 }
 

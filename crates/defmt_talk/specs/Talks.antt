@@ -1,9 +1,9 @@
 -- What a run of a script's texts for terminals answers.
-use Rattle.std.specs.Prelude.{◌≡◌, ℕ, ◌<◌, List, ◌++◌, Option, Some, None}
+use Rattle.std.specs.Prelude.{◌≡◌, ℕ, ◌<◌, List, ◌++◌}
 use Rattle.rtt_booth.specs.Said.{IsLawful, spoken_by, words_of}
 use Rattle.rtt_booth.specs.declared.said.Word.{Word}
 use Rattle.rtt_ring.specs.Account.{Account}
-use Rattle.rtt_terminal.specs.Speech.{Saying, Speech, count_said}
+use Rattle.rtt_terminal.specs.Speech.{Speech, count_said}
 
 -- Every text is among the lawful words, what they speak went to the ring, and what was captured and the rest are what was sent.
 -- What was captured is what the reader took.
@@ -14,10 +14,3 @@ pub record IsTalk (speech : Speech) (words : List Word) (account : Account)
   pub sends : account.sent ≡ spoken_by speech words
   pub takes : account.got ≡ captured
   pub whole : account.sent ≡ captured ++ rest
-
--- ---- for private clauses
-
--- how many statements stand in front of a text, none where there is no text
-abbrev pub in_front : Option Saying → ℕ
-in_front None = 0
-in_front (Some s) = s.behind

@@ -7,10 +7,10 @@ ghost use Rattle.rtt_booth.specs.declared.said.Word.{Word};
 ghost use Rattle.rtt_ring.specs.Views.{new_down, new_up};
 
 use defmt_script::Script;
-use defmt_writers::{RingEnds, empty_capture, prepare};
+use defmt_writers::{RingEnds, new_ends, prepare};
 use dl_io::Memory;
 use rtt_booth::spoken_is_short;
-use rtt_ring::{Channel, RingFault};
+use rtt_ring::Channel;
 use rtt_terminal::Speech;
 use std::alloc::Global;
 
@@ -28,36 +28,6 @@ fn talk_size(speech: &Speech) -> usize
     spoken_is_short();
     speech.lawful();
     speech.len() as usize * LINE_SIZE
-}
-
-// The two ends of a new ring for terminals, whose size no ring refuses.
-fn split_ring<H: Channel>(alloc: Global) -> Result<(H::Up, H::Down), Memory>
-    ensures up { IfOk result (λ e. H.Up.view e.0
-        ≡ new_up (H.Up.view e.0).split (H.Up.view e.0).size (H.Up.view e.0).tells) }
-    ensures down { IfOk result (λ e. H.Down.view e.1
-        ≡ new_down (H.Up.view e.0).split (H.Up.view e.0).size) }
-{
-    match H::split(alloc, RING_SIZE) {
-        Ok(ends) => Ok(ends),
-        Err(RingFault::Memory) => Err(Memory),
-        Err(RingFault::Size) => unreachable!(),
-    }
-}
-
-// The two ends of a new ring for terminals, and the room for what its reader takes, with nothing in it.
-fn prepare_talk<H: Channel>(
-    alloc: Global,
-    speech: &Speech,
-) -> Result<RingEnds<H::Up, H::Down>, Memory>
-    ensures up { IfOk result (λ e. H.Up.view e.up
-        ≡ new_up (H.Up.view e.up).split (H.Up.view e.up).size (H.Up.view e.up).tells) }
-    ensures down { IfOk result (λ e. H.Down.view e.down
-        ≡ new_down (H.Up.view e.up).split (H.Up.view e.up).size) }
-    ensures captured { IfOk result (λ e. e.captured.items ≡ []) }
-{
-    let captured = empty_capture(alloc, talk_size(speech))?;
-    let (up, down) = split_ring::<H>(alloc)?;
-    Ok(RingEnds { up, down, captured })
 }
 
 // What the writers have to say, and the ends of both rings.
@@ -82,6 +52,6 @@ pub(crate) fn prepare_both<H: Channel>(
 {
     let speech = script.speech().copy(alloc)?;
     let ends = prepare::<H>(alloc, script)?;
-    let text_ends = prepare_talk::<H>(alloc, &speech)?;
+    let text_ends = new_ends::<H>(alloc, RING_SIZE, talk_size(&speech))?;
     Ok((speech, ends, text_ends))
 }

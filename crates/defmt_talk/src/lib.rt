@@ -9,11 +9,9 @@
 //! over the one ring and 20 over the other (device_tests, `talks`).
 #![tactic(auto)]
 
-mod all_writers;
 mod ends;
 mod settling;
 mod starting;
 mod talk_run;
-mod talking;
 
 pub use talk_run::{Talk, run_terminals};

@@ -11,14 +11,13 @@ ghost use Rattle.rtt_terminal.specs.Speech.{count_said};
 use crate::talk_run::Talk;
 use defmt_logger::{Naming, Tape};
 use defmt_script::Script;
-use defmt_writers::{
-    Drain, FromSplit, Gate, OpenGate, Reader, Run, SettledRing, settle, settle_run,
-};
+use defmt_writers::{Drain, FromSplit, Reader, Run, SettledRing, settle, settle_run};
 use dl_io::Memory;
 use rtt_booth::Said;
 use rtt_modes::Both;
 use rtt_ring::Channel;
 use std::alloc::Global;
+use writer_threads::{Gate, OpenGate};
 
 // Settles the terminals' ring of a run of which every text was said.
 fn settle_talk<H: Channel, M: FromSplit, V: rtt_booth::Naming>(

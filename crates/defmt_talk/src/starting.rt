@@ -13,19 +13,19 @@ use dl_io::Memory;
 use rtt_booth::{Booth, EachText, Speaking};
 use rtt_ring::UpEnd;
 use rtt_terminal::Speech;
-use shared_work::{Blanks, Eight, Named, Names, Pens};
+use shared_work::{Blanks, Eight, Names, Pens};
 use std::alloc::Global;
 
 // A logger of a run and its pens.
 pub(crate) type Logs<E, K, U, C> = (
-    Logger<Eight<Named<E>>, EachStatement<K>, Logging<K, U, C>>,
-    Pens<Named<E>, EachStatement<K>>,
+    Logger<Eight<E>, EachStatement<K>, Logging<K, U, C>>,
+    Pens<E, EachStatement<K>>,
 );
 
 // A booth of a run and its voices.
 pub(crate) type Booths<F, V, U> = (
-    Booth<Eight<Named<F>>, EachText<V>, Speaking<V, U>>,
-    Pens<Named<F>, EachText<V>>,
+    Booth<Eight<F>, EachText<V>, Speaking<V, U>>,
+    Pens<F, EachText<V>>,
 );
 
 // Starts a logger and a booth, each over the upper end of its ring, under their names.
@@ -56,10 +56,10 @@ pub(crate) fn start_both<
     requires text_names { (V.speech ≡ speech.now) × (V.split ≡ (U.view text_up).split) }
     requires text_ledgers { AreNamed text_blanks F.names }
 {
-    let logs = Logger::<Eight<Named<E>>, EachStatement<K>, Logging<K, U, C>>::start(
+    let logs = Logger::<Eight<E>, EachStatement<K>, Logging<K, U, C>>::start(
         alloc, blanks, script, stamp, up,
     );
-    let booths = Booth::<Eight<Named<F>>, EachText<V>, Speaking<V, U>>::start(
+    let booths = Booth::<Eight<F>, EachText<V>, Speaking<V, U>>::start(
         alloc,
         text_blanks,
         speech,

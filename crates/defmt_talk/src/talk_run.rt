@@ -7,15 +7,13 @@ ghost use Rattle.defmt_talk.specs.Talks.{IsTalk};
 ghost use Rattle.rtt_ring.specs.Views.{new_down, new_up};
 ghost use Rattle.shared_work.specs.Names.{AreNamed};
 
-use crate::all_writers::run_all;
 use crate::ends::prepare_both;
 use crate::settling::settle_both;
 use crate::starting::{Booths, Logs, start_both};
-use crate::talking::Stage;
 use defmt_hooks::{Clock, Stamp};
 use defmt_logger::Naming;
 use defmt_script::Script;
-use defmt_writers::{Drain, FromSplit, Gate, OpenGate, Reader, RingEnds, Run, drain_of};
+use defmt_writers::{Drain, FromSplit, Reader, RingEnds, Run, drain_of};
 use dl_io::{Bytes, Memory};
 use rtt_booth::Said;
 use rtt_modes::Both;
@@ -26,6 +24,8 @@ use std::alloc::Global;
 use std::marker::{Brand, PhantomData};
 use std::sync::Wait;
 use std::thread::Threads;
+use talk_threads::{Stage, run_all};
+use writer_threads::{Gate, OpenGate};
 
 /// What was said on terminals.
 #[derive(Drop)]

@@ -2,12 +2,12 @@
 ghost use Rattle.std.specs.Prelude.{◌≡◌, true, false, []};
 ghost use Rattle.defmt_writers.specs.Takes.{Takes};
 
-use crate::gate::Gate;
 use crate::reader::{FromSplit, Reader};
 use defmt_logger::Naming;
 use rtt_modes::Relief;
 use rtt_ring::DownEnd;
 use std::marker::PhantomData;
+use writer_threads::Gate;
 
 /// A reader that is late where the script says so, and then takes nothing.
 #[derive(Drop)]

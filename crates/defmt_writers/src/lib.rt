@@ -10,17 +10,16 @@
 #![tactic(auto)]
 
 mod drain;
-mod gate;
 mod reader;
+mod ring_ends;
 mod script_run;
 mod serving;
-mod writers;
 
 pub use drain::Drain;
-pub use gate::{Gate, OpenGate};
 pub use reader::{FromSplit, Reader};
-pub use script_run::{
-    RingEnds, Run, SettledRing, drain_of, empty_capture, prepare, run_script, settle, settle_run,
-};
+pub use ring_ends::{RingEnds, SettledRing, empty_capture, new_ends, prepare, settle, split_ring};
+pub use script_run::{Run, drain_of, run_script, settle_run};
 pub use serving::serve_here;
-pub use writers::{Yields, ease_on, finish, log_all, log_until, run_threads};
+pub use writer_threads::{
+    Gate, OpenGate, Yields, ease_on, finish, log_all, log_until, run_threads,
+};

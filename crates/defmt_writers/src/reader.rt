@@ -1,12 +1,12 @@
 //! A reader of a ring.
-ghost use Rattle.std.specs.Prelude.{◌≡◌, ◌+◌};
+ghost use Rattle.std.specs.Prelude.{◌≡◌, ℕ, ◌+◌, List, []};
 ghost use Rattle.defmt_writers.specs.Takes.{Takes};
 
-use crate::gate::Gate;
 use dl_io::Bytes;
 use rtt_modes::Relief;
 use rtt_ring::DownEnd;
 use std::marker::{Brand, PhantomData};
+use writer_threads::Gate;
 
 // The most bytes that one take moves.
 const PIECE: usize = 256;
@@ -32,15 +32,11 @@ pub(crate) fn take<D: DownEnd, G: Gate>(down: &mut D, capture: &mut Bytes, gate:
 
 /// From which split of a ring a reader's end comes.
 pub trait FromSplit {
-    ghost use Rattle.std.specs.Prelude.{ℕ, List};
-
     /// The name of the split.
     ghost split: { List ℕ };
 }
 
 impl FromSplit for Brand {
-    ghost use Rattle.std.specs.Prelude.{[]};
-
     ghost split = { [] };
 }
 

@@ -1,9 +1,7 @@
 //! A reader that reads while its own thread logs.
-ghost use Rattle.std.specs.Prelude.{◌≡◌};
+ghost use Rattle.std.specs.Prelude.{◌≡◌, ℕ, List, []};
 
-use crate::gate::Gate;
 use crate::reader::take;
-use crate::writers::log_all;
 use defmt_logger::Logger;
 use dl_io::Bytes;
 use rtt_modes::Relief;
@@ -12,11 +10,10 @@ use shared_work::{Books, HasBook, Pen, Quota, Shared, Work};
 use std::marker::{Brand, PhantomData};
 use std::sync::Wait;
 use std::sync::ledger::Ledger;
+use writer_threads::{Gate, log_all};
 
 // Which lower end and which capture were lent, and the name of the end's split when they were.
 trait Lent {
-    ghost use Rattle.std.specs.Prelude.{ℕ, List};
-
     // The names of the two loans.
     ghost down: { ℕ };
 
@@ -27,8 +24,6 @@ trait Lent {
 }
 
 impl Lent for Brand {
-    ghost use Rattle.std.specs.Prelude.{[]};
-
     ghost down = { 0 };
 
     ghost capture = { 0 };

@@ -17,7 +17,7 @@ use defmt_script::Script;
 use dl_io::Bytes;
 use rtt_modes::Relief;
 use rtt_ring::PlainRing;
-use shared_work::{Blanks, Books, Eight, HasBook, Named, Names, Pen, Quota, Work};
+use shared_work::{Blanks, Books, Eight, HasBook, Names, Pen, Quota, Work};
 use std::alloc::Global;
 use std::fmt::Write;
 use std::marker::Brand;
@@ -164,11 +164,9 @@ fn log_by_pens<E: Names, K: Naming, C: Clock + Drop, W: Wait>(
     requires names { (K.script ≡ script) × (K.split ≡ (up_of ring).split) }
     requires ledgers { AreNamed blanks E.names }
 {
-    let (logger, mut pens) = Logger::<
-        Eight<Named<E>>,
-        EachStatement<K>,
-        Logging<K, PlainRing, C>,
-    >::start(alloc, blanks, script, stamp, ring)?;
+    let (logger, mut pens) = Logger::<Eight<E>, EachStatement<K>, Logging<K, PlainRing, C>>::start(
+        alloc, blanks, script, stamp, ring,
+    )?;
     log_by(rt, &logger, &mut pens.p1);
     log_three_by(rt, &logger, &mut pens.p0);
     let dropped = drop_frame_of(alloc, table);

@@ -15,7 +15,7 @@ use dl_io::Bytes;
 use rtt_down::{EachTurn, Ear, Naming, Steered, Steering, Turn, Turns, order_bytes};
 use rtt_modes::skip;
 use rtt_ring::{Channel, PlainRing, WordDown, WordRing, WordUp};
-use shared_work::{Blanks, Books, Eight, HasBook, Named, Names, Pen, Quota, Work};
+use shared_work::{Blanks, Books, Eight, HasBook, Names, Pen, Quota, Work};
 use std::alloc::Global;
 use std::fmt::Write;
 use std::marker::Brand;
@@ -196,7 +196,7 @@ fn steer_by_helms<E: Names, K: Naming, C: Clock + Drop, W: Wait>(
     requires ledgers { AreNamed blanks E.names }
 {
     let (logger, mut helms) = Steered::<
-        Eight<Named<E>>,
+        Eight<E>,
         EachTurn<K>,
         Steering<K, PlainRing, WordDown, C>,
     >::start(alloc, blanks, script, stamp, ring, down)?;

@@ -14,7 +14,7 @@ use defmt_script::{RingMode, Script};
 use defmt_writers::{Gate, OpenGate, Run, run_script, serve_here};
 use dl_io::Bytes;
 use rtt_ring::{Channel, QueueRing, WordRing};
-use shared_work::{Blanks, Eight, Named, Names};
+use shared_work::{Blanks, Eight, Names};
 use std::alloc::Global;
 use std::fmt::Write;
 use std::marker::Brand;
@@ -339,11 +339,9 @@ fn serve_alone<H: Channel, E: Names, K: Naming, C: Clock + Drop, W: Wait>(
     requires names { (K.script ≡ script) × (K.split ≡ (H.Up.view up).split) }
     requires ledgers { AreNamed blanks E.names }
 {
-    let (logger, mut pens) = Logger::<
-        Eight<Named<E>>,
-        EachStatement<K>,
-        Logging<K, H::Up, C>,
-    >::start(alloc, blanks, script, stamp, up)?;
+    let (logger, mut pens) = Logger::<Eight<E>, EachStatement<K>, Logging<K, H::Up, C>>::start(
+        alloc, blanks, script, stamp, up,
+    )?;
     let count = pens.p0.total();
     serve_here::<H, _, _, _, _, _, _, _>(
         rt,

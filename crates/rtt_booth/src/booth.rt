@@ -12,7 +12,7 @@ use dl_io::Memory;
 use rtt_modes::Relief;
 use rtt_ring::UpEnd;
 use rtt_terminal::Speech;
-use shared_work::{Blanks, Books, Eight, HasBook, Named, Names, Pen, Pens, Quota, Shared, Work};
+use shared_work::{Blanks, Books, Eight, HasBook, Names, Pen, Pens, Quota, Shared, Work};
 use std::alloc::Global;
 use std::marker::PhantomData;
 use std::sync::Wait;
@@ -70,7 +70,7 @@ fn totals_of(speech: &Speech) -> [u32; 8]
     ]
 }
 
-impl<E: Names, K: Naming, U: UpEnd + Drop> Booth<Eight<Named<E>>, EachText<K>, Speaking<K, U>> {
+impl<E: Names, K: Naming, U: UpEnd + Drop> Booth<Eight<E>, EachText<K>, Speaking<K, U>> {
     /// A booth with a copy of what the writers have to say, of which nothing was said, and the voices of the writers 0 to 7.
     ///
     /// The end is as its split gave it. Each blank is of its writer's ledger.
@@ -82,7 +82,7 @@ impl<E: Names, K: Naming, U: UpEnd + Drop> Booth<Eight<Named<E>>, EachText<K>, S
         blanks: Blanks,
         speech: &Speech,
         up: U,
-    ) -> Result<(Self, Pens<Named<E>, EachText<K>>), Memory>
+    ) -> Result<(Self, Pens<E, EachText<K>>), Memory>
         requires fresh { U.view up ≡ new_up (U.view up).split (U.view up).size (U.view up).tells }
         requires names { (K.speech ≡ speech.now) × (K.split ≡ (U.view up).split) }
         requires ledgers { AreNamed blanks E.names }
@@ -109,7 +109,7 @@ impl<E: Names, K: Naming, U: UpEnd + Drop> Booth<Eight<Named<E>>, EachText<K>, S
     ///
     /// The words are lawful for what `start` took, the end comes from the same split as the one that `start` took and was
     /// sent what the words speak, and nothing is staged. Each writer has as many words as its voice's place.
-    pub fn close(self, voices: Pens<Named<E>, EachText<K>>) -> (Said, U)
+    pub fn close(self, voices: Pens<E, EachText<K>>) -> (Said, U)
         ensures lawful { IsLawful K.speech result.0.words }
         ensures split { (U.view result.1).split ≡ K.split }
         ensures sent { (U.view result.1).sent ≡ spoken_by K.speech result.0.words }

@@ -14,7 +14,7 @@ use defmt_script::Script;
 use dl_io::Memory;
 use rtt_modes::Relief;
 use rtt_ring::{DownEnd, UpEnd};
-use shared_work::{Blanks, Books, Eight, HasBook, Named, Names, Pen, Pens, Quota, Shared, Work};
+use shared_work::{Blanks, Books, Eight, HasBook, Names, Pen, Pens, Quota, Shared, Work};
 use std::alloc::Global;
 use std::marker::PhantomData;
 use std::sync::Wait;
@@ -73,7 +73,7 @@ fn totals_of(script: &Script) -> [u32; 8]
 }
 
 impl<E: Names, K: Naming, U: UpEnd + Drop, D: DownEnd + Drop, C: Clock + Drop> Steered<
-    Eight<Named<E>>,
+    Eight<E>,
     EachTurn<K>,
     Steering<K, U, D, C>,
 > {
@@ -91,7 +91,7 @@ impl<E: Names, K: Naming, U: UpEnd + Drop, D: DownEnd + Drop, C: Clock + Drop> S
         stamp: Stamp<C>,
         up: U,
         down: D,
-    ) -> Result<(Self, Pens<Named<E>, EachTurn<K>>), Memory>
+    ) -> Result<(Self, Pens<E, EachTurn<K>>), Memory>
         requires pace { stamp ≡ pace_of script.settings.stamp }
         requires up { U.view up ≡ new_up (U.view up).split (U.view up).size (U.view up).tells }
         requires down { D.view down ≡ new_down (D.view down).split (D.view down).size }
@@ -121,7 +121,7 @@ impl<E: Names, K: Naming, U: UpEnd + Drop, D: DownEnd + Drop, C: Clock + Drop> S
     ///
     /// The script is the one that `start` took, and the ends come from the same splits as those that `start` took. Each
     /// writer has as many turns as its helm's place.
-    pub fn close(self, helms: Pens<Named<E>, EachTurn<K>>) -> (Turns, U, D, Script)
+    pub fn close(self, helms: Pens<E, EachTurn<K>>) -> (Turns, U, D, Script)
         ensures script { result.3 ≡ K.script }
         ensures up { (U.view result.1).split ≡ K.up }
         ensures down { (D.view result.2).split ≡ K.down }

@@ -15,11 +15,24 @@ raised xs n w there =
       | inr s ↦ get_or-set_other xs n w more 0 (λ j. s.1 (sym j)) ∙ none ∙ ap at (sym s.0)
     ]
 
--- none more
-pub kept : (xs : List ℕ) (n : ℕ) → slice_set xs n (slice_index_or xs n 0 + 0) ≡ xs
-kept [] n = refl
-kept (x ∷ xs) zero = ap (λ (y : ℕ). y ∷ xs) (omega arith)
-kept (x ∷ xs) (suc n) = ap (λ (l : List ℕ). x ∷ l) (kept xs n)
+-- a writer's step is counted in its book, by the number n or m
+pub stepped : (xs ys : List ℕ) (n m w d e : ℕ) → n < length xs → ys ≡ slice_set xs n (slice_index_or xs n 0 + 1) → slice_index_or xs w 0 ≡ d → m ≡ n → e ≡ d + (if m == w then 1 else 0) → slice_index_or ys w 0 ≡ e
+stepped xs ys n m w d e there set counted same done =
+    ap (λ (l : List ℕ). slice_index_or l w 0) set ∙ raised xs n w (λ _. there)
+    ∙ ap (λ (k : ℕ). k + (if n == w then 1 else 0)) counted
+    ∙ ap (λ (k : ℕ). d + (if k == w then 1 else 0)) (sym same) ∙ sym done
+
+-- eight counts of 0 tell 0 of each writer
+pub all_zero : (a b c d e f g h : ℕ) → a ≡ 0 → b ≡ 0 → c ≡ 0 → d ≡ 0 → e ≡ 0 → f ≡ 0 → g ≡ 0 → h ≡ 0 → (w : ℕ) → slice_index_or (a ∷ b ∷ c ∷ d ∷ e ∷ f ∷ g ∷ h ∷ []) w 0 ≡ 0
+all_zero a b c d e f g h ea eb ec ed ee ef eg eh zero = ea
+all_zero a b c d e f g h ea eb ec ed ee ef eg eh (suc zero) = eb
+all_zero a b c d e f g h ea eb ec ed ee ef eg eh (suc (suc zero)) = ec
+all_zero a b c d e f g h ea eb ec ed ee ef eg eh (suc (suc (suc zero))) = ed
+all_zero a b c d e f g h ea eb ec ed ee ef eg eh (suc (suc (suc (suc zero)))) = ee
+all_zero a b c d e f g h ea eb ec ed ee ef eg eh (suc (suc (suc (suc (suc zero))))) = ef
+all_zero a b c d e f g h ea eb ec ed ee ef eg eh (suc (suc (suc (suc (suc (suc zero)))))) = eg
+all_zero a b c d e f g h ea eb ec ed ee ef eg eh (suc (suc (suc (suc (suc (suc (suc zero))))))) = eh
+all_zero a b c d e f g h ea eb ec ed ee ef eg eh (suc (suc (suc (suc (suc (suc (suc (suc w)))))))) = refl
 
 -- zeros tell 0 of each writer
 pub zeros : (n w : ℕ) → ◌≡◌ {A = ℕ} (slice_index_or (replicate n 0) w 0) 0

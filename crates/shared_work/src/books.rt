@@ -31,57 +31,6 @@ pub trait HasBook<B: Books, L: Ledger>: Writer {
         ensures number { (Self.NUMBER < 8) × (length (B.totals books.old) ≡ 8) };
 }
 
-/// The ledgers of the writers 0 to 7.
-pub trait Ledgers {
-    type L0: Ledger;
-
-    type L1: Ledger;
-
-    type L2: Ledger;
-
-    type L3: Ledger;
-
-    type L4: Ledger;
-
-    type L5: Ledger;
-
-    type L6: Ledger;
-
-    type L7: Ledger;
-}
-
-/// The books of eight writers.
-#[derive(Drop)]
-pub struct Eight<E: Ledgers> {
-    /// The book of the writer 0.
-    pub b0: Book<E::L0>,
-
-    /// The book of the writer 1.
-    pub b1: Book<E::L1>,
-
-    /// The book of the writer 2.
-    pub b2: Book<E::L2>,
-
-    /// The book of the writer 3.
-    pub b3: Book<E::L3>,
-
-    /// The book of the writer 4.
-    pub b4: Book<E::L4>,
-
-    /// The book of the writer 5.
-    pub b5: Book<E::L5>,
-
-    /// The book of the writer 6.
-    pub b6: Book<E::L6>,
-
-    /// The book of the writer 7.
-    pub b7: Book<E::L7>,
-}
-
-impl<E: Ledgers> Books for Eight<E> {
-    ghost totals = { λ b. b.b0.total ∷ b.b1.total ∷ b.b2.total ∷ b.b3.total ∷ b.b4.total ∷ b.b5.total ∷ b.b6.total ∷ b.b7.total ∷ [] };
-}
-
 /// The names of eight ledgers. Whoever starts a work picks them.
 pub trait Names {
     /// By the writer's number.
@@ -102,30 +51,6 @@ impl<S: Writer, E: Names> Ledger for LedgerOf<S, E> {
     ghost name = { E.names S.NUMBER };
 
     ghost parts = { 1 };
-}
-
-/// The ledgers with these names.
-#[derive(Drop)]
-pub struct Named<E> {
-    of: PhantomData<E>,
-}
-
-impl<E: Names> Ledgers for Named<E> {
-    type L0 = LedgerOf<W0, E>;
-
-    type L1 = LedgerOf<W1, E>;
-
-    type L2 = LedgerOf<W2, E>;
-
-    type L3 = LedgerOf<W3, E>;
-
-    type L4 = LedgerOf<W4, E>;
-
-    type L5 = LedgerOf<W5, E>;
-
-    type L6 = LedgerOf<W6, E>;
-
-    type L7 = LedgerOf<W7, E>;
 }
 
 /// The writer with a number from 0 to 7.
@@ -162,6 +87,38 @@ pub type W6 = Numbered<6>;
 /// The writer 7.
 pub type W7 = Numbered<7>;
 
+/// The books of eight writers, of ledgers with these names.
+#[derive(Drop)]
+pub struct Eight<E: Names> {
+    /// The book of the writer 0.
+    pub b0: Book<LedgerOf<W0, E>>,
+
+    /// The book of the writer 1.
+    pub b1: Book<LedgerOf<W1, E>>,
+
+    /// The book of the writer 2.
+    pub b2: Book<LedgerOf<W2, E>>,
+
+    /// The book of the writer 3.
+    pub b3: Book<LedgerOf<W3, E>>,
+
+    /// The book of the writer 4.
+    pub b4: Book<LedgerOf<W4, E>>,
+
+    /// The book of the writer 5.
+    pub b5: Book<LedgerOf<W5, E>>,
+
+    /// The book of the writer 6.
+    pub b6: Book<LedgerOf<W6, E>>,
+
+    /// The book of the writer 7.
+    pub b7: Book<LedgerOf<W7, E>>,
+}
+
+impl<E: Names> Books for Eight<E> {
+    ghost totals = { λ b. b.b0.total ∷ b.b1.total ∷ b.b2.total ∷ b.b3.total ∷ b.b4.total ∷ b.b5.total ∷ b.b6.total ∷ b.b7.total ∷ [] };
+}
+
 // Counts so many steps more in a ledger of one part: in its book, and in the share that has the part.
 fn count_in<L: Ledger>(book: &mut Book<L>, share: &mut Share<L>, more: u64)
     requires whole { (L.parts ≡ 1) × (share.old.parts ≡ 1) }
@@ -174,50 +131,50 @@ fn count_in<L: Ledger>(book: &mut Book<L>, share: &mut Share<L>, more: u64)
     book.add(share, more)
 }
 
-impl<E: Names> HasBook<Eight<Named<E>>, LedgerOf<W0, E>> for W0 {
-    fn count(books: &mut Eight<Named<E>>, share: &mut Share<LedgerOf<W0, E>>, more: u64) {
+impl<E: Names> HasBook<Eight<E>, LedgerOf<W0, E>> for W0 {
+    fn count(books: &mut Eight<E>, share: &mut Share<LedgerOf<W0, E>>, more: u64) {
         count_in(&mut books.b0, share, more)
     }
 }
 
-impl<E: Names> HasBook<Eight<Named<E>>, LedgerOf<W1, E>> for W1 {
-    fn count(books: &mut Eight<Named<E>>, share: &mut Share<LedgerOf<W1, E>>, more: u64) {
+impl<E: Names> HasBook<Eight<E>, LedgerOf<W1, E>> for W1 {
+    fn count(books: &mut Eight<E>, share: &mut Share<LedgerOf<W1, E>>, more: u64) {
         count_in(&mut books.b1, share, more)
     }
 }
 
-impl<E: Names> HasBook<Eight<Named<E>>, LedgerOf<W2, E>> for W2 {
-    fn count(books: &mut Eight<Named<E>>, share: &mut Share<LedgerOf<W2, E>>, more: u64) {
+impl<E: Names> HasBook<Eight<E>, LedgerOf<W2, E>> for W2 {
+    fn count(books: &mut Eight<E>, share: &mut Share<LedgerOf<W2, E>>, more: u64) {
         count_in(&mut books.b2, share, more)
     }
 }
 
-impl<E: Names> HasBook<Eight<Named<E>>, LedgerOf<W3, E>> for W3 {
-    fn count(books: &mut Eight<Named<E>>, share: &mut Share<LedgerOf<W3, E>>, more: u64) {
+impl<E: Names> HasBook<Eight<E>, LedgerOf<W3, E>> for W3 {
+    fn count(books: &mut Eight<E>, share: &mut Share<LedgerOf<W3, E>>, more: u64) {
         count_in(&mut books.b3, share, more)
     }
 }
 
-impl<E: Names> HasBook<Eight<Named<E>>, LedgerOf<W4, E>> for W4 {
-    fn count(books: &mut Eight<Named<E>>, share: &mut Share<LedgerOf<W4, E>>, more: u64) {
+impl<E: Names> HasBook<Eight<E>, LedgerOf<W4, E>> for W4 {
+    fn count(books: &mut Eight<E>, share: &mut Share<LedgerOf<W4, E>>, more: u64) {
         count_in(&mut books.b4, share, more)
     }
 }
 
-impl<E: Names> HasBook<Eight<Named<E>>, LedgerOf<W5, E>> for W5 {
-    fn count(books: &mut Eight<Named<E>>, share: &mut Share<LedgerOf<W5, E>>, more: u64) {
+impl<E: Names> HasBook<Eight<E>, LedgerOf<W5, E>> for W5 {
+    fn count(books: &mut Eight<E>, share: &mut Share<LedgerOf<W5, E>>, more: u64) {
         count_in(&mut books.b5, share, more)
     }
 }
 
-impl<E: Names> HasBook<Eight<Named<E>>, LedgerOf<W6, E>> for W6 {
-    fn count(books: &mut Eight<Named<E>>, share: &mut Share<LedgerOf<W6, E>>, more: u64) {
+impl<E: Names> HasBook<Eight<E>, LedgerOf<W6, E>> for W6 {
+    fn count(books: &mut Eight<E>, share: &mut Share<LedgerOf<W6, E>>, more: u64) {
         count_in(&mut books.b6, share, more)
     }
 }
 
-impl<E: Names> HasBook<Eight<Named<E>>, LedgerOf<W7, E>> for W7 {
-    fn count(books: &mut Eight<Named<E>>, share: &mut Share<LedgerOf<W7, E>>, more: u64) {
+impl<E: Names> HasBook<Eight<E>, LedgerOf<W7, E>> for W7 {
+    fn count(books: &mut Eight<E>, share: &mut Share<LedgerOf<W7, E>>, more: u64) {
         count_in(&mut books.b7, share, more)
     }
 }

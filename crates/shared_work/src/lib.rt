@@ -17,8 +17,7 @@ mod shared;
 mod work;
 
 pub use books::{
-    Books, Eight, HasBook, LedgerOf, Ledgers, Named, Names, Numbered, W0, W1, W2, W3, W4, W5, W6,
-    W7, Writer,
+    Books, Eight, HasBook, LedgerOf, Names, Numbered, W0, W1, W2, W3, W4, W5, W6, W7, Writer,
 };
 pub use pen::{Blanks, Pen, Pens};
 pub use shared::Shared;

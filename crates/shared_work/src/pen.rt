@@ -1,7 +1,7 @@
 //! Pens.
 ghost use Rattle.std.specs.Prelude.{◌≡◌, ◌≤◌};
 
-use crate::books::{Ledgers, W0, W1, W2, W3, W4, W5, W6, W7, Writer};
+use crate::books::{LedgerOf, Names, W0, W1, W2, W3, W4, W5, W6, W7, Writer};
 use crate::work::Quota;
 use std::marker::PhantomData;
 use std::sync::ledger::{Blank, Book, Ledger, Share};
@@ -40,6 +40,16 @@ impl<S: Writer, L: Ledger, Q: Quota> Pen<S, L, Q> {
             of: PhantomData,
         };
         (book, pen)
+    }
+
+    // Tells that a pen's place is what the book of its ledger has counted, and gives both up.
+    pub(crate) fn audit(self, book: Book<L>)
+        requires { L.parts ≡ 1 }
+        ensures { book.total ≡ self.place }
+    {
+        let mut book = book;
+        let Pen { mut share, .. } = self;
+        book.audit(&mut share);
     }
 
     /// The number of the pen's writer, from 0 to 7. Takes no memory.
@@ -96,21 +106,29 @@ impl Blanks {
 
 /// The pens of the writers 0 to 7.
 #[derive(Drop)]
-pub struct Pens<E: Ledgers, Q: Quota> {
+pub struct Pens<E: Names, Q: Quota> {
     /// The pen of the writer 0.
-    pub p0: Pen<W0, E::L0, Q>,
+    pub p0: Pen<W0, LedgerOf<W0, E>, Q>,
     /// The pen of the writer 1.
-    pub p1: Pen<W1, E::L1, Q>,
+    pub p1: Pen<W1, LedgerOf<W1, E>, Q>,
     /// The pen of the writer 2.
-    pub p2: Pen<W2, E::L2, Q>,
+    pub p2: Pen<W2, LedgerOf<W2, E>, Q>,
     /// The pen of the writer 3.
-    pub p3: Pen<W3, E::L3, Q>,
+    pub p3: Pen<W3, LedgerOf<W3, E>, Q>,
     /// The pen of the writer 4.
-    pub p4: Pen<W4, E::L4, Q>,
+    pub p4: Pen<W4, LedgerOf<W4, E>, Q>,
     /// The pen of the writer 5.
-    pub p5: Pen<W5, E::L5, Q>,
+    pub p5: Pen<W5, LedgerOf<W5, E>, Q>,
     /// The pen of the writer 6.
-    pub p6: Pen<W6, E::L6, Q>,
+    pub p6: Pen<W6, LedgerOf<W6, E>, Q>,
     /// The pen of the writer 7.
-    pub p7: Pen<W7, E::L7, Q>,
+    pub p7: Pen<W7, LedgerOf<W7, E>, Q>,
+}
+
+/// Pens of the writers 0 to 7, as a pattern or as a value.
+#[macro_export]
+macro_rules! pens {
+    ($p0:ident, $p1:ident, $p2:ident, $p3:ident, $p4:ident, $p5:ident, $p6:ident, $p7:ident) => {
+        $crate::Pens { p0: $p0, p1: $p1, p2: $p2, p3: $p3, p4: $p4, p5: $p5, p6: $p6, p7: $p7 }
+    };
 }

@@ -2,13 +2,19 @@
 ghost use Rattle.std.specs.Prelude.{◌≡◌, ℕ, ◌+◌, ◌<◌, [], ◌∷◌, slice_index_or};
 ghost use Rattle.shared_work.specs.Names.{AreNamed};
 
-use crate::books::{Books, Eight, HasBook, LedgerOf, Named, Names, W0, W1, W2, W3, W4, W5, W6, W7};
+use crate::books::{Books, Eight, HasBook, Names};
 use crate::pen::{Blanks, Pen, Pens};
+use crate::pens;
 use crate::work::{Quota, Work};
 use rtt_modes::Relief;
 use std::marker::PhantomData;
 use std::sync::ledger::Ledger;
 use std::sync::{Mutex, Wait};
+
+// A struct of eight fields, by their names, as a pattern or as a value.
+macro_rules! eight {
+    ($name:ident: $($field:ident),+) => { $name { $($field),+ } };
+}
 
 // A work and the writers' books, which count their steps.
 #[derive(Drop)]
@@ -45,17 +51,6 @@ impl<B: Books, Q: Quota, T: Work<Q>> Locked<B, Q, T> {
         work.step(rt, S::NUMBER, relief);
         *place += 1;
     }
-
-    // Tells that the pen's place is the number of its writer's steps. Changes neither.
-    fn audit<S: HasBook<B, L>, L: Ledger>(&mut self, pen: &mut Pen<S, L, Q>)
-        ensures steps { T.done self.new.work S.NUMBER ≡ pen.old.place }
-        ensures work { self.new.work ≡ self.old.work }
-        ensures place { pen.new.place ≡ pen.old.place }
-    {
-        let Locked { books, .. } = self;
-        let Pen { share, .. } = pen;
-        S::count(books, share, 0);
-    }
 }
 
 /// A work that threads share. Each does the steps of its own pen.
@@ -83,10 +78,10 @@ impl<B: Books, Q: Quota, T: Work<Q>> Shared<B, Q, T> {
     }
 }
 
-impl<E: Names, Q: Quota, T: Work<Q> + Drop> Shared<Eight<Named<E>>, Q, T> {
+impl<E: Names, Q: Quota, T: Work<Q> + Drop> Shared<Eight<E>, Q, T> {
     /// The work behind a lock, and the pens of the writers 0 to 7, each at place 0. No step was done of the work, `totals` says
     /// how many each writer has, and each blank is of its writer's ledger. Takes no memory.
-    pub fn start(blanks: Blanks, totals: [u32; 8], work: T) -> (Self, Pens<Named<E>, Q>)
+    pub fn start(blanks: Blanks, totals: [u32; 8], work: T) -> (Self, Pens<E, Q>)
         requires fresh { (w : ℕ) → T.done work w ≡ 0 }
         requires totals { totals ≡ Q.quota 0 ∷ Q.quota 1 ∷ Q.quota 2 ∷ Q.quota 3 ∷ Q.quota 4 ∷ Q.quota 5 ∷ Q.quota 6 ∷ Q.quota 7 ∷ [] }
         requires names { AreNamed blanks E.names }
@@ -99,47 +94,28 @@ impl<E: Names, Q: Quota, T: Work<Q> + Drop> Shared<Eight<Named<E>>, Q, T> {
         ensures p6 { result.1.p6.place ≡ 0 }
         ensures p7 { result.1.p7.place ≡ 0 }
     {
-        let (b0, p0) = Pen::<W0, LedgerOf<W0, E>, Q>::open(blanks.b0, totals[0]);
-        let (b1, p1) = Pen::<W1, LedgerOf<W1, E>, Q>::open(blanks.b1, totals[1]);
-        let (b2, p2) = Pen::<W2, LedgerOf<W2, E>, Q>::open(blanks.b2, totals[2]);
-        let (b3, p3) = Pen::<W3, LedgerOf<W3, E>, Q>::open(blanks.b3, totals[3]);
-        let (b4, p4) = Pen::<W4, LedgerOf<W4, E>, Q>::open(blanks.b4, totals[4]);
-        let (b5, p5) = Pen::<W5, LedgerOf<W5, E>, Q>::open(blanks.b5, totals[5]);
-        let (b6, p6) = Pen::<W6, LedgerOf<W6, E>, Q>::open(blanks.b6, totals[6]);
-        let (b7, p7) = Pen::<W7, LedgerOf<W7, E>, Q>::open(blanks.b7, totals[7]);
-        let books = Eight {
-            b0,
-            b1,
-            b2,
-            b3,
-            b4,
-            b5,
-            b6,
-            b7,
-        };
+        let eight!(Blanks: b0, b1, b2, b3, b4, b5, b6, b7) = blanks;
+        let [t0, t1, t2, t3, t4, t5, t6, t7] = totals;
+        let (b0, p0) = Pen::open(b0, t0);
+        let (b1, p1) = Pen::open(b1, t1);
+        let (b2, p2) = Pen::open(b2, t2);
+        let (b3, p3) = Pen::open(b3, t3);
+        let (b4, p4) = Pen::open(b4, t4);
+        let (b5, p5) = Pen::open(b5, t5);
+        let (b6, p6) = Pen::open(b6, t6);
+        let (b7, p7) = Pen::open(b7, t7);
+        let books = eight!(Eight: b0, b1, b2, b3, b4, b5, b6, b7);
         let locked = Locked {
             work,
             books,
             of: PhantomData,
         };
-        let shared = Shared {
-            lock: Mutex::new(locked),
-        };
-        let pens = Pens {
-            p0,
-            p1,
-            p2,
-            p3,
-            p4,
-            p5,
-            p6,
-            p7,
-        };
-        (shared, pens)
+        let lock = Mutex::new(locked);
+        (Shared { lock }, pens!(p0, p1, p2, p3, p4, p5, p6, p7))
     }
 
     /// The work, once all eight pens are back. Each writer has done as many steps as its pen's place. Takes no memory.
-    pub fn close(self, pens: Pens<Named<E>, Q>) -> T
+    pub fn close(self, pens: Pens<E, Q>) -> T
         ensures p0 { T.done result 0 ≡ pens.p0.place }
         ensures p1 { T.done result 1 ≡ pens.p1.place }
         ensures p2 { T.done result 2 ≡ pens.p2.place }
@@ -149,16 +125,17 @@ impl<E: Names, Q: Quota, T: Work<Q> + Drop> Shared<Eight<Named<E>>, Q, T> {
         ensures p6 { T.done result 6 ≡ pens.p6.place }
         ensures p7 { T.done result 7 ≡ pens.p7.place }
     {
-        let mut locked = self.lock.into_inner();
-        let mut pens = pens;
-        locked.audit(&mut pens.p0);
-        locked.audit(&mut pens.p1);
-        locked.audit(&mut pens.p2);
-        locked.audit(&mut pens.p3);
-        locked.audit(&mut pens.p4);
-        locked.audit(&mut pens.p5);
-        locked.audit(&mut pens.p6);
-        locked.audit(&mut pens.p7);
-        locked.work
+        let Locked { work, books, of: _ } = self.lock.into_inner();
+        let eight!(Eight: b0, b1, b2, b3, b4, b5, b6, b7) = books;
+        let pens!(p0, p1, p2, p3, p4, p5, p6, p7) = pens;
+        p0.audit(b0);
+        p1.audit(b1);
+        p2.audit(b2);
+        p3.audit(b3);
+        p4.audit(b4);
+        p5.audit(b5);
+        p6.audit(b6);
+        p7.audit(b7);
+        work
     }
 }

@@ -10,7 +10,7 @@ use rtt_booth::{Booth, EachText, Naming, Said, Speaking, Word};
 use rtt_modes::Relief;
 use rtt_ring::PlainRing;
 use rtt_terminal::{Speech, is_sayable};
-use shared_work::{Blanks, Books, Eight, HasBook, Named, Names, Pen, Quota, Work};
+use shared_work::{Blanks, Books, Eight, HasBook, Names, Pen, Quota, Work};
 use std::alloc::Global;
 use std::fmt::Write;
 use std::marker::Brand;
@@ -139,7 +139,7 @@ fn say_by_voices<E: Names, K: Naming, W: Wait>(
     requires names { (K.speech ≡ speech.now) × (K.split ≡ (up_of ring).split) }
     requires ledgers { AreNamed blanks E.names }
 {
-    let (booth, mut voices) = Booth::<Eight<Named<E>>, EachText<K>, Speaking<K, PlainRing>>::start(
+    let (booth, mut voices) = Booth::<Eight<E>, EachText<K>, Speaking<K, PlainRing>>::start(
         alloc, blanks, speech, ring,
     )?;
     say_by(rt, &booth, &mut voices.p1);

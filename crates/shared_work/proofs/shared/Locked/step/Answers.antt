@@ -1,5 +1,5 @@
-use Rattle.std.proofs.Common.{ℕ, ◌+◌, ◌<◌, List, ◌==◌, sym, ap, ◌∙◌, subst, arith, if◌then◌else◌, slice_index_or}
-use Rattle.shared_work.proofs.Counted.{raised}
+use Rattle.std.proofs.Common.{ℕ, ◌<◌, sym, subst, arith}
+use Rattle.shared_work.proofs.Counted.{stepped}
 use Rattle.shared_work.proofs.shared.Locked.step.Goals as goal
 
 pub step-requires-clause-place : goal.step-requires-clause-place
@@ -10,11 +10,7 @@ step-requires-clause-place g c =
 
 pub invariant_of-self : goal.invariant_of-self
 invariant_of-self g c =
-    let n = g.S.Writer.NUMBER in
+    let there = c.count.ensures.number in
     record {
-      counted = λ w.
-          ap (λ (l : List ℕ). slice_index_or l w 0) c.count.ensures.totals ∙ raised (g.B.Books.totals c.args.self.now.books) n w (λ _. omega (arith, c.count.ensures.number.0, c.count.ensures.number.1))
-          ∙ ap (λ (k : ℕ). k + (if n == w then 1 else 0)) (c.args.self.now.counted w)
-          ∙ ap (λ (k : ℕ). g.T.Work.done c.args.self.now.work w + (if k == w then 1 else 0)) (sym c.NUMBER.ensures)
-          ∙ sym (c.step.ensures.done w);
+      counted = λ w. stepped _ _ _ _ w _ _ (omega (arith, there.0, there.1)) c.count.ensures.totals (c.args.self.now.counted w) c.NUMBER.ensures (c.step.ensures.done w);
     }

@@ -1,8 +1,0 @@
-use Rattle.std.proofs.Common.{◌≡◌, false}
-use Rattle.defmt_writers.proofs.writers.ease_on.Given as goal
-
-abbrev pub invariant-loop : goal.invariant-loop
-invariant-loop g l = record {
-  kept : g.R.Relief.kept l.relief;
-  same : l.eases ≡ false → l.relief ≡ l.fn.relief;
-}

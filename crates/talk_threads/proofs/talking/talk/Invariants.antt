@@ -1,0 +1,8 @@
+use Rattle.std.proofs.Common.{◌-◌}
+use Rattle.talk_threads.proofs.talking.talk.Given as goal
+
+abbrev pub invariant-loop-voice : goal.invariant-loop-voice
+invariant-loop-voice g l = g.R.Relief.kept l.relief
+
+abbrev pub decreases-loop-voice : goal.decreases-loop-voice
+decreases-loop-voice g l = l.voice.total - l.voice.place

@@ -1,0 +1,14 @@
+//! The threads of writers that share two works: a step of the one logs a statement, and one of the other says a text.
+//!
+//! [`run_all`] lends each thread its writer's pen and voice. The thread says the writer's texts among the statements, in the order
+//! of the script, and the calling thread eases meanwhile and does what is left.
+//!
+//! Threads are std's; texts are those of docs/SCRIPT.md. So a writer with one statement and three texts does the statement behind
+//! the texts in front of it (device_tests, `talks`).
+#![tactic(auto)]
+
+mod all_writers;
+mod talking;
+
+pub use all_writers::run_all;
+pub use talking::Stage;

@@ -1,0 +1,12 @@
+use Rattle.std.proofs.Common.{◌-◌, ◌<◌, ◌≤◌}
+use Rattle.writer_threads.proofs.writers.log_until.Given as goal
+
+abbrev pub invariant-loop-pen : goal.invariant-loop-pen
+invariant-loop-pen g l = record {
+  no_further : l.fn.pen.place < l.pen.place → l.pen.place ≤ l.count;
+  forth : l.fn.pen.place ≤ l.pen.place;
+  relief : g.R.Relief.kept l.relief;
+}
+
+abbrev pub decreases-loop-pen : goal.decreases-loop-pen
+decreases-loop-pen g l = l.pen.total - l.pen.place

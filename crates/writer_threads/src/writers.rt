@@ -1,0 +1,227 @@
+//! The writers' threads.
+ghost use Rattle.std.specs.Prelude.{◌≡◌, ◌≤◌, ◌<◌, false};
+
+use crate::gate::Gate;
+use rtt_modes::Relief;
+use shared_work::{Books, Eight, HasBook, Names, Pen, Pens, Quota, Shared, Work, pens};
+use std::sync::Wait;
+use std::sync::atomic::{AtomicU64, Ordering};
+use std::sync::ledger::Ledger;
+use std::thread;
+use std::thread::{Scope, Threads};
+
+// How many writers there are.
+const WRITERS: u64 = 8;
+
+/// Waits until other threads had their turn.
+#[derive(Clone, Copy)]
+pub struct Yields;
+
+impl Relief for Yields {
+    ghost kept = { λ _. Unit {0} };
+
+    fn ease(&mut self) {
+        thread::yield_now()
+    }
+}
+
+/// Logs all that the pen has left: does its steps, and asks the gate before each.
+pub fn log_all<
+    B: Books,
+    Q: Quota,
+    T: Work<Q>,
+    S: HasBook<B, L>,
+    L: Ledger,
+    G: Gate,
+    R: Relief,
+    W: Wait,
+>(rt: &W, shared: &Shared<B, Q, T>, pen: &mut Pen<S, L, Q>, gate: &G, relief: &mut R)
+    requires { R.kept relief.old }
+    ensures place { pen.new.place ≡ pen.new.total }
+    ensures relief { R.kept relief.new }
+{
+    while pen.place() < pen.total() {
+        gate.pass(pen.writer(), pen.place());
+        shared.step(rt, pen, relief);
+    }
+}
+
+/// Logs what the pen has left until so many of its steps are done, and asks the gate before each. Where as many were done
+/// before, or more, it does none.
+pub fn log_until<
+    B: Books,
+    Q: Quota,
+    T: Work<Q>,
+    S: HasBook<B, L>,
+    L: Ledger,
+    G: Gate,
+    R: Relief,
+    W: Wait,
+>(rt: &W, shared: &Shared<B, Q, T>, pen: &mut Pen<S, L, Q>, count: u32, gate: &G, relief: &mut R)
+    requires { R.kept relief.old }
+    ensures until { pen.new.place < pen.new.total → count ≤ pen.new.place }
+    ensures no_further { pen.old.place < pen.new.place → pen.new.place ≤ count }
+    ensures forth { pen.old.place ≤ pen.new.place }
+    ensures relief { R.kept relief.new }
+{
+    while pen.place() < pen.total() && pen.place() < count {
+        gate.pass(pen.writer(), pen.place());
+        shared.step(rt, pen, relief);
+    }
+}
+
+// One writer's thread.
+fn run_one<B: Books, Q: Quota, T: Work<Q>, S: HasBook<B, L>, L: Ledger, G: Gate, W: Wait>(
+    rt: &W,
+    shared: &Shared<B, Q, T>,
+    pen: &mut Pen<S, L, Q>,
+    gate: &G,
+    ended: &AtomicU64,
+) {
+    log_all(rt, shared, pen, gate, &mut Yields);
+    ended.fetch_add(1, Ordering::SeqCst);
+}
+
+// Starts a writer's thread, which borrows the writer's pen. A writer that has no steps has ended, and so has one whose thread
+// can't be started.
+fn start<
+    's,
+    E,
+    B: Books + Send,
+    Q: Quota + Send,
+    T: Work<Q> + Send,
+    S: HasBook<B, L> + Send,
+    L: Ledger + Send,
+    G: Gate + Sync,
+    W: Wait + Sync,
+>(
+    scope: &Scope<'s, E>,
+    rt: &'s W,
+    shared: &'s Shared<B, Q, T>,
+    pen: &'s mut Pen<S, L, Q>,
+    gate: &'s G,
+    ended: &'s AtomicU64,
+) {
+    let idle = pen.total() == 0
+        || scope
+            .spawn(
+                move ||
+                    requires { Unit {0} }
+                { run_one(rt, shared, pen, gate, ended) },
+            )
+            .is_err();
+    if idle {
+        ended.fetch_add(1, Ordering::SeqCst);
+    }
+}
+
+// Starts the threads of all writers, and lends each its pen.
+fn start_all<
+    's,
+    E,
+    N: Names + Send,
+    Q: Quota + Send,
+    T: Work<Q> + Send,
+    G: Gate + Sync,
+    W: Wait + Sync,
+>(
+    scope: &Scope<'s, E>,
+    rt: &'s W,
+    shared: &'s Shared<Eight<N>, Q, T>,
+    pens: &'s mut Pens<N, Q>,
+    gate: &'s G,
+    ended: &'s AtomicU64,
+) {
+    let pens!(p0, p1, p2, p3, p4, p5, p6, p7) = pens;
+    start(scope, rt, shared, p0, gate, ended);
+    start(scope, rt, shared, p1, gate, ended);
+    start(scope, rt, shared, p2, gate, ended);
+    start(scope, rt, shared, p3, gate, ended);
+    start(scope, rt, shared, p4, gate, ended);
+    start(scope, rt, shared, p5, gate, ended);
+    start(scope, rt, shared, p6, gate, ended);
+    start(scope, rt, shared, p7, gate, ended);
+}
+
+/// Does the steps that the pens have left.
+pub fn finish<E: Names, Q: Quota, T: Work<Q>, G: Gate, R: Relief, W: Wait>(
+    rt: &W,
+    shared: &Shared<Eight<E>, Q, T>,
+    pens: &mut Pens<E, Q>,
+    gate: &G,
+    relief: &mut R,
+)
+    requires { R.kept relief.old }
+    ensures p0 { pens.new.p0.place ≡ pens.new.p0.total }
+    ensures p1 { pens.new.p1.place ≡ pens.new.p1.total }
+    ensures p2 { pens.new.p2.place ≡ pens.new.p2.total }
+    ensures p3 { pens.new.p3.place ≡ pens.new.p3.total }
+    ensures p4 { pens.new.p4.place ≡ pens.new.p4.total }
+    ensures p5 { pens.new.p5.place ≡ pens.new.p5.total }
+    ensures p6 { pens.new.p6.place ≡ pens.new.p6.total }
+    ensures p7 { pens.new.p7.place ≡ pens.new.p7.total }
+    ensures relief { R.kept relief.new }
+{
+    let pens!(p0, p1, p2, p3, p4, p5, p6, p7) = pens;
+    log_all(rt, shared, p0, gate, relief);
+    log_all(rt, shared, p1, gate, relief);
+    log_all(rt, shared, p2, gate, relief);
+    log_all(rt, shared, p3, gate, relief);
+    log_all(rt, shared, p4, gate, relief);
+    log_all(rt, shared, p5, gate, relief);
+    log_all(rt, shared, p6, gate, relief);
+    log_all(rt, shared, p7, gate, relief);
+}
+
+/// Eases until all writers have ended, or waits for nothing where it isn't to ease: then the relief comes back as it was.
+pub fn ease_on<R: Relief, W: Wait>(rt: &W, ended: &AtomicU64, eases: bool, mut relief: R) -> R
+    requires { R.kept relief }
+    ensures kept { R.kept result }
+    ensures same { eases ≡ false → result ≡ relief }
+{
+    for _ in rt.forever() {
+        if !eases || ended.load(Ordering::SeqCst) >= WRITERS {
+            break;
+        }
+        relief.ease();
+        thread::yield_now();
+    }
+    relief
+}
+
+/// Starts a thread for each writer that has steps, lends it its pen, and waits until all have ended. Meanwhile it eases again and
+/// again, or sleeps where it isn't to ease: then the relief comes back as it was.
+pub fn run_threads<
+    E: Names + Send,
+    Q: Quota + Send,
+    T: Work<Q> + Send,
+    G: Gate + Sync,
+    R: Relief + Drop,
+    W: Threads + Wait + Sync,
+>(
+    rt: &W,
+    shared: &Shared<Eight<E>, Q, T>,
+    pens: &mut Pens<E, Q>,
+    gate: &G,
+    eases: bool,
+    relief: R,
+) -> R
+    requires { R.kept relief }
+    ensures kept { R.kept result }
+    ensures same { eases ≡ false → result ≡ relief }
+{
+    let count = AtomicU64::new(0);
+    let ended = &count;
+    thread::scope(
+        thread::scope_env(),
+        rt,
+        move |scope| -> R
+            requires { R.kept relief }
+            ensures kept { R.kept result }
+            ensures same { eases ≡ false → result ≡ relief }
+        {
+            start_all(scope, rt, shared, pens, gate, ended);
+            ease_on(rt, ended, eases, relief)
+        },
+    )
+}
