@@ -3,7 +3,7 @@
 //! A [`Site`] is a place in a program that logs, checked against the string table when it is made. A macro names its
 //! site, and its arguments by their types: `info!(buf, table, site, place, stamp; u8 x, str name)`. It expands to
 //! [`Frame::begin`], one [`put!`] for each argument and [`Frame::end`], and gives the length of the message. The form
-//! `info!(buf, table, site, place, stamp; all args)` puts a list of values. Only making a site takes memory.
+//! `info!(buf, table, site, place, stamp; all args)` puts a list of values, by [`put_message`]. Only making a site takes memory.
 //!
 //! So each macro puts the number 7 for `{=u8}` at index 1 as `01 00 07` (device_tests, `macros`).
 #![tactic(auto)]

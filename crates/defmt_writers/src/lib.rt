@@ -4,7 +4,8 @@
 //! writer's statements. The calling thread reads at the lower end meanwhile, logs what is left, and settles the ring.
 //! [`serve_here`] logs what one pen has left on the calling thread, which in blocking mode reads where the ring has no room.
 //!
-//! The other calls are the parts of a run, for the crates that run a script with more than a logger.
+//! The other calls are the parts of a run, for the crates that run a script with more than a logger. The gate and the threads are
+//! those of writer_threads, and are public here too.
 //!
 //! Threads and locks are std's. So two writers that wait for each other both log, in each mode (device_tests, `writers`).
 #![tactic(auto)]

@@ -44,7 +44,7 @@ pub fn empty_capture(alloc: Global, room: usize) -> Result<Bytes, Memory>
     Ok(captured)
 }
 
-/// The two ends of a new ring of so many bytes.
+/// The two ends of a new ring of so many bytes, from 16 to 65,536.
 ///
 /// # Errors
 /// `Memory` where there is none.
@@ -60,7 +60,7 @@ pub fn split_ring<H: Channel>(alloc: Global, size: u32) -> Result<(H::Up, H::Dow
     }
 }
 
-/// The two ends of a new ring of so many bytes, and a capture with nothing in it and this room.
+/// The two ends of a new ring of so many bytes, from 16 to 65,536, and a capture with nothing in it and room for `room` bytes.
 ///
 /// # Errors
 /// `Memory` where there is none.

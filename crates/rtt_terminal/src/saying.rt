@@ -104,6 +104,7 @@ impl Sayings {
         Ok(copy)
     }
 
+    // Puts a copy behind the others.
     fn push_copy(&mut self, alloc: Global, item: &Saying) -> Result<(), Memory>
         ensures { OnOk result (self.new ≡ self.old ++ item.now ∷ []) }
     {

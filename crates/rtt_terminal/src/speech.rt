@@ -32,6 +32,7 @@ impl Model for Speech {
     ghost invariant = { λ s. HoldsOfSpeech s.writers.items };
 }
 
+// Puts a copy of what one writer has to say behind the others.
 fn push_copy(writers: &mut Vec<Sayings>, alloc: Global, sayings: &Sayings) -> Result<(), Memory>
     ensures { OnOk result (writers.new.items ≡ writers.old.items ++ sayings.now ∷ []) }
 {

@@ -125,7 +125,8 @@ pub struct Pens<E: Names, Q: Quota> {
     pub p7: Pen<W7, LedgerOf<W7, E>, Q>,
 }
 
-/// Pens of the writers 0 to 7, as a pattern or as a value.
+/// The pens of the writers 0 to 7 by eight names, in the writers' order: `pens!(p0, p1, p2, p3, p4, p5, p6, p7)`. As a pattern it
+/// takes [`Pens`] apart, also lent ones; as a value it puts them together.
 #[macro_export]
 macro_rules! pens {
     ($p0:ident, $p1:ident, $p2:ident, $p3:ident, $p4:ident, $p5:ident, $p6:ident, $p7:ident) => {

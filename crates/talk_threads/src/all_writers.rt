@@ -132,7 +132,7 @@ fn run_threads<
 }
 
 /// Does all steps of the pens and voices: those of each writer on a thread of its own, and what is left on this one. The calling
-/// thread eases until all threads have ended.
+/// thread eases until all threads have ended. The gate is asked before each statement, and before no text.
 pub fn run_all<
     E: Names + Send,
     Q: Quota + Send,

@@ -3,8 +3,8 @@
 //! [`run_all`] lends each thread its writer's pen and voice. The thread says the writer's texts among the statements, in the order
 //! of the script, and the calling thread eases meanwhile and does what is left.
 //!
-//! Threads are std's; texts are those of docs/SCRIPT.md. So a writer with one statement and three texts does the statement behind
-//! the texts in front of it (device_tests, `talks`).
+//! Threads are std's; texts are those of docs/SCRIPT.md. So of a writer with one statement and three texts the one step of the first
+//! work and the three of the second are done in the end (device_tests, `talks`).
 #![tactic(auto)]
 
 mod all_writers;

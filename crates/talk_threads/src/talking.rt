@@ -122,7 +122,7 @@ pub(crate) fn start<
     gate: &'s G,
     ended: &'s AtomicU64,
 ) {
-    let idle = pen.total() == 0 && voice.total() == 0
+    let has_ended = pen.total() == 0 && voice.total() == 0
         || scope
             .spawn(
                 move ||
@@ -130,7 +130,7 @@ pub(crate) fn start<
                 { run_one(rt, stage, pen, voice, gate, ended) },
             )
             .is_err();
-    if idle {
+    if has_ended {
         ended.fetch_add(1, Ordering::SeqCst);
     }
 }

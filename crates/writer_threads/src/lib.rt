@@ -1,7 +1,7 @@
 //! The threads of the writers that share a work: one for each writer that has steps, beside what the calling thread does.
 //!
-//! [`run_threads`] lends each pen of the work to a thread that does the pen's steps, and asks a [`Gate`] before each. The calling
-//! thread eases meanwhile, until all have ended; what the pens have left then is done by [`finish`].
+//! [`run_threads`] lends each pen that has steps to a thread that does these, and asks a [`Gate`] before each. The calling thread
+//! eases meanwhile, until all have ended; what the pens have left then is done by [`finish`].
 //!
 //! What the writers share is a type parameter: of a pen that comes back from a thread its type tells all that is known.
 //!

@@ -102,7 +102,7 @@ fn start<
     gate: &'s G,
     ended: &'s AtomicU64,
 ) {
-    let idle = pen.total() == 0
+    let has_ended = pen.total() == 0
         || scope
             .spawn(
                 move ||
@@ -110,7 +110,7 @@ fn start<
                 { run_one(rt, shared, pen, gate, ended) },
             )
             .is_err();
-    if idle {
+    if has_ended {
         ended.fetch_add(1, Ordering::SeqCst);
     }
 }
