@@ -1,15 +1,13 @@
 -- What the functions that read values answer.
-use Rattle.std.specs.Prelude.{◌≡◌, ◌⊎◌, ◌≤◌, ◌*◌, ℕ, nat_lt, List, [], ◌∷◌, Option, None, Result, Ok, Err}
+use Rattle.std.specs.Prelude.{◌≡◌, ◌⊎◌, ◌≤◌, ◌*◌, ℕ, nat_lt, List, [], ◌∷◌, Option, Result, Ok, Err}
 use Rattle.std.specs.Borrow.{Bor}
 use Rattle.defmt_grammar.specs.Cut.{skip_spaces}
-use Rattle.defmt_grammar.specs.declared.kind.Kind.TheVariants.{Format}
 use Rattle.defmt_grammar.specs.declared.piece.Piece.{Piece}
 use Rattle.defmt_grammar.specs.declared.slot.Slot.{Slot}
-use Rattle.defmt_grammar.specs.declared.slot.Slot.TheVariants.{One}
 use Rattle.defmt_intern.specs.Table.{Map}
 use Rattle.defmt_shapes.specs.declared.spelling.Spelling.{Spelling}
 use Rattle.defmt_shapes.specs.declared.spelling.Spelling.TheVariants.{Call, Sequence}
-use Rattle.defmt_shapes.specs.Shape.{Shape, Shapes, SpellsShapes, HeadShape, StartsThere, call}
+use Rattle.defmt_shapes.specs.Shape.{Shape, Shapes, SpellsShapes, HeadShape, StartsThere}
 use Rattle.defmt_spelling.specs.Meaning.{index_of, meant_val, meant_vals}
 use Rattle.defmt_spelling.specs.Names.{NameMap}
 use Rattle.defmt_spelling.specs.Spelling.{NoValue, ReadsArguments}
@@ -140,14 +138,10 @@ ReadsFront names t left slot weight sum text (Err (Refused c)) =
     FrontFault names t left slot weight sum text c
 ReadsFront names t left slot weight sum text (Err Memory) = Unit {0}
 
--- the text between brackets spells values, whose call without a variant means this value of a Format
--- position, which fits; the weights lead from one sum to the next
-pub record IsCallOf (names : NameMap) (t : Map) (left weight sum : ℕ) (name inside : List ℕ)
-    (v : Val) (next : ℕ) : Type 0 where
+-- the text between brackets spells values
+pub record SpellsSome (inside : List ℕ) : Type 0 where
   pub shapes : Shapes
   pub spelled : SpellsShapes inside shapes
-  pub meant : meant_val names t (One Format) (call name None shapes) ≡ v
-  pub fits : scan_val t left (One Format) weight sum v ≡ Ok next
 
 -- ---- answers
 

@@ -4,6 +4,7 @@
 #![tactic(auto)]
 
 mod arguments;
+mod context;
 mod fault;
 mod forms;
 mod leaves;

@@ -35,7 +35,9 @@ fn below_zero(slot: Slot, text: &str) -> Option<(Value, &str)>
     ensures value { IfSome result (λ p. IsQuick slot text.now (plain p.0) p.1.now) }
     ensures utf8 { IfSome result (λ p. IsUtf8 p.1.now) }
 {
-    let (number, rest) = quick_negative(text)?;
+    let Some((number, rest)) = quick_negative(text) else {
+        return None;
+    };
     match negative_value(slot, Number::Within(u128::from(number))) {
         Ok(value) => Some((value, rest)),
         Err(_) => None,

@@ -2,29 +2,23 @@
 ghost use Rattle.std.specs.Prelude.{◌≤◌, IfOk};
 ghost use Rattle.std.specs.Str.{IsUtf8};
 ghost use Rattle.defmt_grammar.specs.Slots.{IsSound};
-ghost use Rattle.defmt_spelling.specs.Reading.{IsCallOf, ReadsValues, ReadsFront, SmallValue, SmallFront};
+ghost use Rattle.defmt_spelling.specs.Reading.{ReadsValues, ReadsFront, SmallValue, SmallFront};
 ghost use Rattle.defmt_values.specs.Entries.{places_of};
-ghost use Rattle.defmt_values.specs.View.{plain};
 
+use crate::context::Context;
 use crate::fault::{ArgFault, Cause};
-use crate::forms::{add, find_form, find_pieces};
-use crate::names::Names;
-use crate::nested::read_value;
+use crate::nested::{read_node, read_value};
 use crate::quick::push_quick;
 use defmt_grammar::{Kind, Pieces, Slot};
-use defmt_intern::Table;
 use defmt_quick::quick_last_call;
 use defmt_shapes::{first_value, skip_spaces};
-use defmt_values::{Args, Node, Value, cut};
-use std::alloc::Global;
+use defmt_values::{Args, Value, cut};
 
 /// The values of a text, in a text that has this weight. The value is the same with `quick` and without; with it the
 /// last Format value of a text is tried without a search for its closing bracket.
 #[cycle(read)]
 pub fn read_values(
-    alloc: Global,
-    names: &Names,
-    table: &Table,
+    context: Context<'_>,
     pieces: &Pieces,
     left: u8,
     weight: usize,
@@ -33,17 +27,17 @@ pub fn read_values(
     text: &str,
 ) -> Result<(Args, usize), ArgFault>
     requires sum { sum ≤ 8192 }
-    ensures value { ReadsValues names.now table.now.entries left weight
+    ensures value { ReadsValues context.entry.names.now context.entry.table.now.entries left weight
         (places_of pieces.now) sum text.now result }
     ensures small { SmallValue result }
 {
     let mut slots = pieces.slots();
-    let mut args = Args::with_room(alloc, slots.len())?;
+    let mut args = Args::with_room(context.alloc, slots.len())?;
     let mut position = 0u8;
     let mut total = sum;
     let mut rest = text;
     'each: while let Some((slot, others)) = cut(slots) {
-        if let Some(after) = push_quick(alloc, *slot, skip_spaces(rest), &mut args)? {
+        if let Some(after) = push_quick(context.alloc, *slot, skip_spaces(rest), &mut args)? {
             slots = others;
             position += 1;
             rest = after;
@@ -52,9 +46,7 @@ pub fn read_values(
         let weight_there = pieces.uses(position).saturating_mul(weight);
         let last = others.is_empty();
         let (value, next, after) = read_next(
-            alloc,
-            names,
-            table,
+            context,
             *slot,
             left,
             weight_there,
@@ -79,9 +71,7 @@ pub fn read_values(
 // The first value of a text, and what follows it.
 #[cycle(read)]
 fn read_front<'a>(
-    alloc: Global,
-    names: &Names,
-    table: &Table,
+    context: Context<'_>,
     slot: Slot,
     left: u8,
     weight: usize,
@@ -91,7 +81,8 @@ fn read_front<'a>(
 ) -> Result<(Value, usize, &'a str), ArgFault>
     requires sum { sum ≤ 8192 }
     requires sound { IsSound slot }
-    ensures value { ReadsFront names.now table.now.entries left slot weight sum text.now result }
+    ensures value { ReadsFront context.entry.names.now context.entry.table.now.entries left slot
+        weight sum text.now result }
     ensures small { SmallFront result }
     ensures utf8 { IfOk result (λ r. IsUtf8 r.2.now) }
 {
@@ -99,21 +90,19 @@ fn read_front<'a>(
     if text.is_empty() {
         return Err(Cause::Count.into());
     }
-    let Some((spelling, rest)) = first_value(alloc, text)? else {
+    let Some((spelling, rest)) = first_value(context.alloc, text)? else {
         return Err(Cause::Syntax.into());
     };
-    let (value, sum) = read_value(
-        alloc, names, table, slot, left, weight, sum, quick, spelling,
-    )?;
+    let (value, sum) = read_value(context, slot, left, weight, sum, quick, spelling)?;
     Ok((value, sum, rest))
 }
 
-// The first value of a text, which may be its last, and what follows it.
+// The first value of a text, which may be its last, and what follows it. A last Format value that goes up to the text's end is read
+// without a search for its closing bracket. Where it can't be read so, the way of all values reads it or finds the cause, and looks for
+// every bracket inside: a second try at each level would double the readings from level to level.
 #[cycle(read)]
 fn read_next<'a>(
-    alloc: Global,
-    names: &Names,
-    table: &Table,
+    context: Context<'_>,
     slot: Slot,
     left: u8,
     weight: usize,
@@ -124,86 +113,24 @@ fn read_next<'a>(
 ) -> Result<(Value, usize, &'a str), ArgFault>
     requires sum { sum ≤ 8192 }
     requires sound { IsSound slot }
-    ensures value { ReadsFront names.now table.now.entries left slot weight sum text.now result }
+    ensures value { ReadsFront context.entry.names.now context.entry.table.now.entries left slot
+        weight sum
+        text.now result }
     ensures small { SmallFront result }
     ensures utf8 { IfOk result (λ r. IsUtf8 r.2.now) }
 {
     if quick
         && last
         && let Slot::One(Kind::Format) = slot
+        && let Some((name, inside)) = quick_last_call(skip_spaces(text))
     {
-        return read_last_call(alloc, names, table, left, weight, sum, text);
-    }
-    read_front(alloc, names, table, slot, left, weight, sum, quick, text)
-}
-
-// The last value of a text, where it is a Format value: one that goes up to the text's end is read without a search for its closing
-// bracket. Where it can't be read so, the way of all values reads it or finds the cause, and looks for every bracket inside: a second
-// try at each level would double the readings from level to level.
-#[cycle(read)]
-fn read_last_call<'a>(
-    alloc: Global,
-    names: &Names,
-    table: &Table,
-    left: u8,
-    weight: usize,
-    sum: usize,
-    text: &'a str,
-) -> Result<(Value, usize, &'a str), ArgFault>
-    requires sum { sum ≤ 8192 }
-    ensures value { ReadsFront names.now table.now.entries left (Slot.One Kind.Format) weight sum
-        text.now result }
-    ensures small { SmallFront result }
-    ensures utf8 { IfOk result (λ r. IsUtf8 r.2.now) }
-{
-    let slot = Slot::One(Kind::Format);
-    let Some((name, inside)) = quick_last_call(skip_spaces(text)) else {
-        return read_front(alloc, names, table, slot, left, weight, sum, true, text);
-    };
-    match read_call(alloc, names, table, left, weight, sum, name, inside) {
-        Ok((value, sum)) => {
+        if let Ok((value, sum)) = read_node(
+            context, slot, left, weight, sum, true, name, None, inside,
+        ) {
             let (_, rest) = text.split_at(text.len());
-            Ok((value, sum, rest))
+            return Ok((value, sum, rest));
         }
-        Err(_) => read_front(alloc, names, table, slot, left, weight, sum, false, text),
+        return read_front(context, slot, left, weight, sum, false, text);
     }
-}
-
-// A Format value without a variant, from its name and the text between its brackets.
-#[cycle(read)]
-fn read_call(
-    alloc: Global,
-    names: &Names,
-    table: &Table,
-    left: u8,
-    weight: usize,
-    sum: usize,
-    name: &str,
-    inside: &str,
-) -> Result<(Value, usize), ArgFault>
-    requires sum { sum ≤ 8192 }
-    ensures value { IfOk result (λ r. IsCallOf names.now table.now.entries left weight sum name.now
-        inside.now (plain r.0) r.1) }
-    ensures small { SmallValue result }
-{
-    let (index, form) = find_form(names, table, left, name)?;
-    let sum = add(weight, sum)?;
-    let (pieces, _) = find_pieces(form, None)?;
-    let (args, sum) = read_values(
-        alloc,
-        names,
-        table,
-        pieces,
-        left - 1,
-        weight,
-        sum,
-        true,
-        inside,
-    )?;
-    let node = Node {
-        index,
-        variant: None,
-        args,
-    };
-    Ok((Value::Format(node), sum))
+    read_front(context, slot, left, weight, sum, quick, text)
 }
