@@ -8,7 +8,7 @@ use std::alloc::Global;
 use std::marker::Model;
 
 /// What a part of a stream of frames tells.
-#[derive(Debug, Drop)]
+#[derive(Drop)]
 pub enum Event {
     /// A statement was heard.
     Line {
@@ -39,7 +39,7 @@ pub enum Event {
 }
 
 /// Where a line comes from: what it has beside its text.
-#[derive(Clone, Copy, Debug, PartialEq, Eq)]
+#[derive(Clone, Copy)]
 pub struct Origin {
     /// The index of its entry in the table.
     pub index: u16,
@@ -48,7 +48,7 @@ pub struct Origin {
 }
 
 /// A list of events.
-#[derive(Debug, Drop)]
+#[derive(Drop)]
 pub struct Events {
     items: Vec<Event>,
 }

@@ -12,7 +12,7 @@ use std::alloc::Global;
 pub const PRINTED_LIMIT: usize = 65_536;
 
 /// Why there is no text.
-#[derive(Clone, Copy, Debug, Drop, PartialEq, Eq)]
+#[derive(Clone, Copy, Debug, Drop)]
 pub enum EagerFault {
     /// The text has more than 65,536 bytes.
     Wide,

@@ -30,7 +30,7 @@ pub struct Heard {
 }
 
 /// Why bytes aren't read as a message.
-#[derive(Clone, Copy, Debug, PartialEq, Eq)]
+#[derive(Clone, Copy, Debug)]
 pub enum ReadCause {
     /// The first cause that stands in the bytes, from left to right, by the number of its event: an
     /// index that isn't in the table, an entry whose tag doesn't suit, an entry whose tag is unknown or

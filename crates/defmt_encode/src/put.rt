@@ -7,7 +7,7 @@ ghost use Rattle.defmt_encode.specs.Out.{Puts};
 pub const MESSAGE_LIMIT: usize = 2000;
 
 /// A message has more than 2,000 bytes.
-#[derive(Clone, Copy, Debug, PartialEq, Eq)]
+#[derive(Clone, Copy, Debug)]
 pub struct Long;
 
 /// Puts one byte behind the first `at`.

@@ -8,7 +8,7 @@ use std::alloc::{AllocError, AllocFailed};
 
 /// What becomes of a hint that isn't known. The crate defmt-parser has these two modes, the second
 /// under the name `ForwardsCompatible`.
-#[derive(Clone, Copy, Debug, PartialEq, Eq)]
+#[derive(Clone, Copy)]
 pub enum Mode {
     /// It is refused.
     Strict,
@@ -17,7 +17,7 @@ pub enum Mode {
 }
 
 /// Why a text is refused, in this project's own numbering.
-#[derive(Clone, Copy, Debug, PartialEq, Eq)]
+#[derive(Clone, Copy)]
 pub enum Cause {
     /// A brace without its partner, or a parameter that isn't a position, a kind and a hint.
     Brace,
@@ -63,7 +63,7 @@ pub struct Fault {
 }
 
 /// Want of memory.
-#[derive(Clone, Copy, Debug, PartialEq, Eq)]
+#[derive(Clone, Copy, Debug)]
 pub struct Memory;
 
 impl From<AllocError> for Memory {
@@ -79,7 +79,7 @@ impl<T: Drop> From<AllocFailed<T>> for Memory {
 }
 
 /// Why a text was not parsed.
-#[derive(Clone, Copy, Debug, PartialEq, Eq)]
+#[derive(Clone, Copy, Debug)]
 pub enum GrammarFault {
     /// The text is no format string: the number of the cause, as `Cause::number` gives it, and its
     /// place in bytes from the text's start.

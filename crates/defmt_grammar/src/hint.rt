@@ -6,7 +6,7 @@ ghost use Rattle.defmt_grammar.specs.Hint.{named_hint, width_of, base_of, radix_
 use crate::parts::{before, behind, number_of};
 
 /// The base of printed digits. The defmt book, "Display hints".
-#[derive(Clone, Copy, Debug, PartialEq, Eq)]
+#[derive(Clone, Copy, Debug)]
 pub enum Base {
     /// `x`: hexadecimal, in lower case.
     Hex,
@@ -19,7 +19,7 @@ pub enum Base {
 }
 
 /// How a parameter is to be printed. The defmt book, "Display hints".
-#[derive(Clone, Copy, Debug, PartialEq, Eq)]
+#[derive(Clone, Copy, Debug)]
 pub enum Hint {
     /// None, or an empty text after the colon.
     Plain,

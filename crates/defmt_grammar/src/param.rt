@@ -12,7 +12,7 @@ use crate::parts::{behind, cut, number_of};
 
 /// A place for an argument: what stands between braces in a format string. The crate defmt-parser,
 /// `Parameter`.
-#[derive(Clone, Copy, Debug, PartialEq, Eq)]
+#[derive(Clone, Copy)]
 pub struct Param {
     /// Which argument stands there, from 0 to 15.
     pub position: u8,

@@ -7,7 +7,7 @@ use crate::param::Param;
 use crate::text::Text;
 
 /// A part of a format string. The crate defmt-parser, `Fragment`.
-#[derive(Debug, Drop)]
+#[derive(Drop)]
 pub enum Piece {
     /// Characters that stand for themselves, with each brace written once.
     Literal(Text),

@@ -17,7 +17,7 @@ use std::alloc::Global;
 use std::marker::Model;
 
 /// Pieces that some text spells, seen as the list of them.
-#[derive(Debug, Drop)]
+#[derive(Drop)]
 pub struct Pieces {
     pieces: Vec<Piece>,
     slots: Vec<Slot>,

@@ -3,7 +3,7 @@
 use dl_io::Memory;
 
 /// Why rules weren't read.
-#[derive(Clone, Copy, Debug, Drop, PartialEq, Eq)]
+#[derive(Clone, Copy, Debug, Drop)]
 pub enum RuleFault {
     /// The text spells no rules.
     Spelling,

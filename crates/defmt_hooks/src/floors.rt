@@ -11,7 +11,7 @@ use std::alloc::Global;
 use std::marker::Model;
 
 /// A list of packages, each with its floor.
-#[derive(Debug, Drop)]
+#[derive(Drop)]
 pub struct Floors {
     items: Vec<(Text, Floor)>,
 }

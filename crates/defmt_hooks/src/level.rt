@@ -8,7 +8,7 @@ ghost use Rattle.defmt_hooks.specs.declared.level.Floor.TheVariants.{At};
 use defmt_intern::Tag;
 
 /// The level of a message, from the least to the most urgent (defmt book, "Logging levels").
-#[derive(Clone, Copy, Debug, PartialEq, Eq)]
+#[derive(Clone, Copy, Debug)]
 pub enum Level {
     /// Each step of the program.
     Trace,
@@ -23,7 +23,7 @@ pub enum Level {
 }
 
 /// The least level that is kept.
-#[derive(Clone, Copy, Debug, PartialEq, Eq)]
+#[derive(Clone, Copy)]
 pub enum Floor {
     /// This level and each later one are kept.
     At(Level),

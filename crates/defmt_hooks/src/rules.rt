@@ -6,7 +6,7 @@ use crate::floors::Floors;
 use crate::level::{Floor, Level};
 
 /// Which messages are kept, by their level and the package that they come from.
-#[derive(Debug, Drop)]
+#[derive(Drop)]
 pub struct Rules {
     /// The floor of each package that has none of its own.
     pub rest: Floor,

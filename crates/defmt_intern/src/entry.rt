@@ -102,7 +102,7 @@ impl Tag {
 }
 
 /// One entry of a table.
-#[derive(Debug, Drop)]
+#[derive(Drop)]
 pub struct Entry {
     /// What the text is for.
     pub tag: Tag,

@@ -15,7 +15,7 @@ use serde_json::{Value, json};
 use std::alloc::{AllocError, Global};
 
 /// A key that a symbol name must have, with a string.
-#[derive(Clone, Copy, Debug, Drop, PartialEq, Eq)]
+#[derive(Clone, Copy, Debug, Drop)]
 pub enum NameKey {
     /// `package`
     Package,
@@ -28,7 +28,7 @@ pub enum NameKey {
 }
 
 /// Why a symbol name doesn't read as an entry.
-#[derive(Clone, Copy, Debug, Drop, PartialEq, Eq)]
+#[derive(Clone, Copy, Debug, Drop)]
 pub enum NameFault {
     /// The bytes aren't one JSON object.
     Json,

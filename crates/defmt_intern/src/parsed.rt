@@ -15,7 +15,7 @@ use std::alloc::Global;
 use std::marker::Model;
 
 /// The pieces of the variants of an enum, in their order.
-#[derive(Debug, Drop)]
+#[derive(Drop)]
 pub struct Forms {
     forms: Vec<Pieces>,
 }
@@ -57,7 +57,7 @@ impl Forms {
 }
 
 /// What an entry's text stands for, in the lenient reading (an unknown hint counts as none).
-#[derive(Debug, Drop)]
+#[derive(Drop)]
 pub enum Parsed {
     /// The tag is `Other`, the text is refused, or it has more than 255 variants.
     Unsupported,

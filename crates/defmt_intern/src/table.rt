@@ -16,7 +16,7 @@ use std::alloc::{AllocFailed, Global};
 use std::marker::Model;
 
 /// Why an entry wasn't put into a table.
-#[derive(Clone, Copy, Debug, Drop, PartialEq, Eq)]
+#[derive(Clone, Copy, Debug, Drop)]
 pub enum TableFault {
     /// The first of these causes that stands: 1 the greatest index is 65,535 (`add` alone), 2 the index is taken
     /// (`insert` alone), 4 the text has more than 4,096 bytes, 5 the table has a timestamp already.
@@ -48,7 +48,7 @@ impl<T: Drop> From<AllocFailed<T>> for TableFault {
 }
 
 /// How the messages of a table are laid out.
-#[derive(Clone, Copy, Debug, Drop, PartialEq, Eq)]
+#[derive(Clone, Copy, Debug, Drop)]
 pub enum Profile {
     /// A message is its index, its stamp and its arguments.
     One,

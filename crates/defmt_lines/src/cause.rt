@@ -4,7 +4,7 @@ ghost use Rattle.std.specs.Prelude.{◌≡◌};
 ghost use Rattle.defmt_lines.specs.Cause.{cause_number, inner_number};
 
 /// Why a line of a script is refused.
-#[derive(Clone, Copy, Debug, PartialEq, Eq)]
+#[derive(Clone, Copy, Debug)]
 pub enum Cause {
     /// 1: the line isn't UTF-8, has none of the forms, an unknown tag, or stands out of order or twice.
     Line,

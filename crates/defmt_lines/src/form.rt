@@ -5,7 +5,7 @@ ghost use Rattle.defmt_lines.specs.Form.{form_of, in_order, next, rank};
 
 /// The form of a line, by its first word. A script has its lines in this order, but for the last two forms, which may come in
 /// any.
-#[derive(Clone, Copy, Debug, PartialEq, Eq)]
+#[derive(Clone, Copy)]
 pub enum Form {
     /// `ring`
     Ring,

@@ -6,7 +6,7 @@ use std::marker::Model;
 
 /// Orders of levels, at most 64: each has the number of frames after which it is sent, and its level. Seen as the list of these
 /// pairs.
-#[derive(Debug, Drop)]
+#[derive(Drop)]
 pub struct Orders {
     orders: [(u32, Level); 64],
     len: usize,

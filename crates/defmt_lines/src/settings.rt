@@ -30,7 +30,7 @@ const FRAMES_LIMIT: u64 = 4096;
 const ORDERS_LIMIT: usize = 64;
 
 /// What a writer does where its frame doesn't fit into the ring (SEGGER RTT, the modes of an up-buffer).
-#[derive(Clone, Copy, Debug, PartialEq, Eq)]
+#[derive(Clone, Copy)]
 pub enum RingMode {
     /// It waits until the reader has made room.
     Block,
@@ -41,7 +41,7 @@ pub enum RingMode {
 }
 
 /// What the first lines of a script set.
-#[derive(Debug, Drop)]
+#[derive(Drop)]
 pub struct Settings {
     /// The ring's size in bytes, from 16 to 65,536.
     pub ring: u32,

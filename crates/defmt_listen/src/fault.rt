@@ -3,7 +3,7 @@
 use dl_io::Memory;
 
 /// Why a recording wasn't heard to its end.
-#[derive(Clone, Copy, Debug, PartialEq, Eq)]
+#[derive(Clone, Copy, Debug)]
 pub enum ListenFault {
     /// The source failed. The lines of all that is begun in the bytes taken were written.
     Source,

@@ -8,7 +8,7 @@ use dl_io::{Bytes, Memory};
 use std::alloc::Global;
 
 /// What a reporter says of the lines with an origin.
-#[derive(Clone, Copy, Debug, PartialEq, Eq)]
+#[derive(Clone, Copy)]
 pub enum Passing {
     /// Of each of them its text and a newline are printed, and nothing else.
     Kept,

@@ -4,7 +4,7 @@ use defmt_lines::Cause;
 use dl_io::Memory;
 
 /// Why a text isn't read as a script.
-#[derive(Clone, Copy, Debug, PartialEq, Eq)]
+#[derive(Clone, Copy, Debug)]
 pub enum ScriptFault {
     /// The first line that is refused, from 1, the number of its cause from 1 to 19 (`defmt_lines::Cause`), and the number
     /// of the arguments' or the text's own cause, or 0.

@@ -8,7 +8,7 @@ ghost use Rattle.defmt_shapes.specs.Leads.{IsMark};
 ghost use Rattle.defmt_shapes.specs.Spelling.{Holds, HoldsVariant};
 
 /// A number of any size, as far as 128 bits hold it.
-#[derive(Clone, Copy, Debug, PartialEq, Eq)]
+#[derive(Clone, Copy)]
 pub enum Number {
     /// This number, below 2 ^ 128.
     Within(u128),

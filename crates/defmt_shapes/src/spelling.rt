@@ -14,7 +14,7 @@ use dl_io::Memory;
 use std::alloc::Global;
 
 /// What the text of one value says, with the parts of the text that stand inside it.
-#[derive(Clone, Copy, Debug)]
+#[derive(Clone, Copy)]
 pub enum Spelling<'a> {
     /// Decimal digits.
     Decimal(Number),
@@ -53,7 +53,7 @@ pub enum Spelling<'a> {
 }
 
 /// An element of a list: `(ARGS)` or `V(ARGS)`.
-#[derive(Clone, Copy, Debug)]
+#[derive(Clone, Copy)]
 pub struct Item<'a> {
     /// The variant.
     pub variant: Option<Number>,

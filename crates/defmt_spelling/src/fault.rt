@@ -5,7 +5,7 @@ ghost use Rattle.defmt_spelling.specs.Reading.{cause_number};
 use dl_io::Memory;
 
 /// Why arguments weren't read.
-#[derive(Clone, Copy, Debug, Drop, PartialEq, Eq)]
+#[derive(Clone, Copy, Debug, Drop)]
 pub enum ArgFault {
     /// The first of these causes from left to right: 1 a text at a value's place that spells no value; 2 fewer or
     /// more values than positions; 3 a value of another kind; 4 a number outside its kind, bits outside their window,

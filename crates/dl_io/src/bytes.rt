@@ -9,7 +9,7 @@ use std::marker::Model;
 ///
 /// What is appended within the room takes no memory, so a caller can reserve first and then be sure
 /// that nothing is missing. Each byte that is appended lowers the room by one, down to 0.
-#[derive(Debug, Drop)]
+#[derive(Drop)]
 pub struct Bytes {
     items: Vec<u8>,
     room: usize,

@@ -8,7 +8,7 @@ use crate::{Bytes, Failed, Memory, Shelf, Sink, Source};
 use std::alloc::Global;
 
 /// Why an input wasn't read to its end.
-#[derive(Clone, Copy, Debug, PartialEq, Eq)]
+#[derive(Clone, Copy, Debug)]
 pub enum ReadFault {
     /// A read failed, or the shelf hasn't the file.
     Failed,

@@ -7,7 +7,7 @@ use dl_io::Memory;
 use std::alloc::AllocError;
 
 /// Which part of a file isn't where it ought to be.
-#[derive(Clone, Copy, Debug, Drop, PartialEq, Eq)]
+#[derive(Clone, Copy, Debug, Drop)]
 pub enum Part {
     /// No part: the refusal has another cause.
     Nothing,
@@ -92,7 +92,7 @@ pub struct Fault {
 }
 
 /// Why a file gives no symbols and no profile.
-#[derive(Clone, Copy, Debug, Drop, PartialEq, Eq)]
+#[derive(Clone, Copy, Debug, Drop)]
 pub enum ElfFault {
     /// The file is refused: 1 no ELF file, 2 neither ELF32 nor ELF64, 3 not little-endian, 4 a part
     /// that doesn't lie in the file, 5 no section `.defmt`, 6 no symbol table, 7 another wire

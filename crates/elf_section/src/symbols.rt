@@ -18,14 +18,14 @@ use dl_io::{Bytes, Memory};
 use std::alloc::Global;
 
 /// A symbol's name and value: the name that its `st_name` points to, and its `st_value`.
-#[derive(Debug, Drop)]
+#[derive(Drop)]
 pub struct Symbol {
     pub name: Bytes,
     pub value: u64,
 }
 
 /// What a file says: its symbols, and its profile.
-#[derive(Debug, Drop)]
+#[derive(Drop)]
 pub struct Listing {
     pub symbols: Vec<Symbol>,
     pub profile: Profile,

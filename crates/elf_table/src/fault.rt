@@ -6,7 +6,7 @@ ghost use Rattle.elf_table.specs.Names.{cause_number};
 use elf_section::Part;
 
 /// Why a file names no table.
-#[derive(Clone, Copy, Debug, Drop, PartialEq, Eq)]
+#[derive(Clone, Copy, Debug, Drop)]
 pub enum LoadFault {
     /// The file is refused, as `elf_section::read_symbols` refuses it: with a cause from 1 to 9, a part and a place.
     Elf { cause: u8, part: Part, place: u32 },

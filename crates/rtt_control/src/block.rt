@@ -25,7 +25,7 @@ pub struct Descriptor {
 }
 
 /// Descriptors in order.
-#[derive(Debug, Drop)]
+#[derive(Drop)]
 pub struct Descriptors {
     items: Vec<Descriptor>,
 }
@@ -96,7 +96,7 @@ impl Descriptors {
 }
 
 /// The descriptors of a control block, `SEGGER_RTT_CB` of SEGGER RTT.
-#[derive(Debug, Drop)]
+#[derive(Drop)]
 pub struct Block {
     /// The buffers from the target to the host.
     pub up: Descriptors,

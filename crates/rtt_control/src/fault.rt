@@ -2,7 +2,7 @@
 use dl_io::Memory as NoMemory;
 
 /// Why a call refuses.
-#[derive(Clone, Copy, Debug, PartialEq, Eq)]
+#[derive(Clone, Copy, Debug)]
 pub enum ControlFault {
     /// The first check that doesn't hold. `cause` is the number of a [`Cause`], and `place` is what
     /// that cause says.
@@ -12,7 +12,7 @@ pub enum ControlFault {
 }
 
 /// What is wrong with an image or a block.
-#[derive(Clone, Copy, Debug, PartialEq, Eq)]
+#[derive(Clone, Copy)]
 pub enum Cause {
     /// 1: `find` found no ID (place 0), or none stands where `read` looks (that place).
     NoId,

@@ -12,7 +12,7 @@ use crate::fault::{Cause, ControlFault};
 use byte_images::word_at;
 
 // How many up- and down-buffers a block has.
-#[derive(Clone, Copy, Debug)]
+#[derive(Clone, Copy)]
 pub(crate) struct Counts {
     pub ups: usize,
     pub downs: usize,

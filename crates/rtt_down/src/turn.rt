@@ -2,7 +2,7 @@
 use defmt_hooks::Level;
 
 /// A statement whose turn came, and whether it was sent.
-#[derive(Clone, Copy, PartialEq, Eq, Debug)]
+#[derive(Clone, Copy)]
 pub struct Turn {
     /// The number of the writer, from 0 to 7.
     pub writer: u8,

@@ -12,7 +12,7 @@ pub const ET_CORE: u64 = 4;
 pub const PT_LOAD: u64 = 1;
 
 /// What the ELF header says of the program headers: `e_type`, `e_phoff`, `e_phentsize` and `e_phnum`.
-#[derive(Clone, Copy, Debug)]
+#[derive(Clone, Copy)]
 pub struct Header {
     pub kind: u64,
     pub offset: u64,
@@ -21,7 +21,7 @@ pub struct Header {
 }
 
 /// What a program header says: `p_type`, `p_offset`, `p_vaddr` and `p_filesz`.
-#[derive(Clone, Copy, Debug)]
+#[derive(Clone, Copy)]
 pub struct ProgramHeader {
     pub kind: u64,
     pub offset: u64,
@@ -30,7 +30,7 @@ pub struct ProgramHeader {
 }
 
 /// The table of the program headers of a file.
-#[derive(Clone, Copy, Debug)]
+#[derive(Clone, Copy)]
 pub struct Table {
     pub class: Class,
     pub offset: u64,

@@ -4,7 +4,7 @@ use rtt_control::ControlFault;
 use std::alloc::AllocFailed;
 
 /// Why an image gives no segments, or no bytes.
-#[derive(Clone, Copy, Debug, PartialEq, Eq)]
+#[derive(Clone, Copy, Debug)]
 pub enum DumpFault {
     /// The first check that doesn't hold. `cause` is the number of a [`Cause`], and `place` is what
     /// that cause says.
@@ -14,7 +14,7 @@ pub enum DumpFault {
 }
 
 /// What is wrong with an image, or with the channel that is asked for.
-#[derive(Clone, Copy, Debug, PartialEq, Eq)]
+#[derive(Clone, Copy)]
 pub enum Cause {
     /// 1: no segment holds the ID of a control block (place 0).
     NoId,
@@ -71,7 +71,7 @@ impl Cause {
 
 /// What is wrong with an ELF core file (ELF gABI, "ELF Header" and "Program Header"), in the order of
 /// the checks.
-#[derive(Clone, Copy, Debug, PartialEq, Eq)]
+#[derive(Clone, Copy)]
 pub enum Flaw {
     /// 1: byte 4, EI_CLASS, is missing, or neither ELFCLASS32 (1) nor ELFCLASS64 (2).
     Class,

@@ -16,7 +16,7 @@ use rtt_control::ID;
 use std::alloc::Global;
 
 /// Where an ID stands: the number of the segment, and the place in its bytes.
-#[derive(Clone, Copy, Debug)]
+#[derive(Clone, Copy)]
 pub struct Spot {
     pub segment: u32,
     pub at: u32,

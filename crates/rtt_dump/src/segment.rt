@@ -2,7 +2,7 @@
 use dl_io::Bytes;
 
 /// A part of a target's memory.
-#[derive(Debug, Drop)]
+#[derive(Drop)]
 pub struct Segment {
     /// The address of the first byte.
     pub base: u32,

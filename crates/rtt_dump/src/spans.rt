@@ -16,7 +16,7 @@ use std::alloc::Global;
 const ADDRESSES: u64 = 1 << 32;
 
 /// A segment: the address of its first byte, and where its bytes stand in the file.
-#[derive(Clone, Copy, Debug)]
+#[derive(Clone, Copy)]
 pub struct Span {
     pub base: u32,
     pub start: usize,

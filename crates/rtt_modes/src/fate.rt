@@ -1,7 +1,7 @@
 //! What became of a frame, and what a call does that waits.
 
 /// What became of a frame. Numbers are bytes.
-#[derive(Clone, Copy, PartialEq, Eq, Debug)]
+#[derive(Clone, Copy, Debug)]
 pub enum Fate {
     /// It was sent whole.
     Whole,

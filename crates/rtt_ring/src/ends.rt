@@ -4,7 +4,7 @@ use dl_io::{Bytes, Memory};
 use std::alloc::{AllocError, Global};
 
 /// Why no ring was made.
-#[derive(Clone, Copy, PartialEq, Eq, Debug)]
+#[derive(Clone, Copy, Debug)]
 pub enum RingFault {
     /// The size isn't from 16 to 65,536.
     Size,

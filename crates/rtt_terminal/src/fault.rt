@@ -6,7 +6,7 @@ ghost use Rattle.rtt_terminal.specs.declared.fault.TermFault.TheVariants.{Memory
 use dl_io::Memory;
 
 /// Why bytes weren't read.
-#[derive(Clone, Copy, Debug, PartialEq, Eq)]
+#[derive(Clone, Copy, Debug)]
 pub enum TermFault {
     /// The first thing, from left to right, that isn't right: the number of its [`Cause`], and its place in bytes from
     /// the start.
@@ -16,7 +16,7 @@ pub enum TermFault {
 }
 
 /// What isn't right, in this project's own numbering.
-#[derive(Clone, Copy, Debug, PartialEq, Eq)]
+#[derive(Clone, Copy)]
 pub enum Cause {
     /// 1: an `ff` stands where a line may begin, and no digit of a terminal follows it (its place).
     Switch,

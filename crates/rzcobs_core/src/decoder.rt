@@ -6,7 +6,7 @@ ghost use Rattle.rzcobs_core.specs.Reading.{clear_bits, ReadsRun, ReadsLast, End
 use memchr::memchr;
 
 /// No sequence of blocks is the piece.
-#[derive(Clone, Copy, Debug, PartialEq, Eq)]
+#[derive(Clone, Copy, Debug)]
 pub struct Malformed;
 
 /// Reads a piece as a code, from its end backwards (rzCOBS, decoding), writes what it stands for
