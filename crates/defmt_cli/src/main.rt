@@ -5,21 +5,19 @@
 //! `INFO  a 2`, then `WARN  b true` and `WARN  b false` (its stored run).
 #![tactic(auto)]
 
-mod outside;
-
-use crate::outside::{Folder, Input};
 use defmt_run::{Fault, OpenGate, session};
-use dl_io::{StdSink, write_all};
+use dl_io::{Memory, Shelf, Sink, Source, StdSink, write_all};
+use std::alloc::Global;
 use std::process::ExitCode;
 use std::rt::Env;
+use std::sync::Wait;
+use std::thread::Threads;
 use std::{env, io};
+use std_outside::{Folder, Input};
 
 fn main(rt: HostRuntime) -> ExitCode {
-    let words = match words_of(&rt) {
-        Ok(words) => words,
-        Err(error) if error.kind() == io::ErrorKind::OutOfMemory => return without_memory(&rt),
-        // Words that aren't text ask for nothing.
-        Err(_) => Vec::new(rt.alloc()),
+    let Ok(words) = words_of(&rt) else {
+        return without_memory(&rt);
     };
     let Ok(mut source) = Input::new(rt.alloc(), rt.stdin()) else {
         return without_memory(&rt);
@@ -28,21 +26,16 @@ fn main(rt: HostRuntime) -> ExitCode {
         return without_memory(&rt);
     };
     let mut sink = StdSink::new(io::writer(&rt));
-    let outcome = session(
+    let fault = fault_of(
         &rt,
         rt.alloc(),
         words.as_slice(),
         &mut source,
         &mut shelf,
         &mut sink,
-        &OpenGate,
     );
-    if outcome.status != 0
-        && let Ok(text) = outcome.say(rt.alloc())
-    {
-        tell(&rt, text.as_str().as_bytes());
-    }
-    ExitCode::from(outcome.status)
+    say(&rt, fault);
+    ExitCode::from(fault.status())
 }
 
 fn without_memory(rt: &HostRuntime) -> ExitCode {
@@ -50,12 +43,34 @@ fn without_memory(rt: &HostRuntime) -> ExitCode {
     ExitCode::from(Fault::Memory.status())
 }
 
-fn words_of(rt: &(impl Env + AllocGlobal)) -> io::Result<Vec<String>> {
-    let mut words = Vec::new(rt.alloc());
-    for word in env::args(rt)? {
-        words.push(word)?;
+// The words of the command line. Words that aren't text ask for nothing.
+fn words_of(rt: &(impl Env + AllocGlobal)) -> Result<Vec<String>, Memory> {
+    match env::args(rt) {
+        Ok(words) => Ok(words.collect(rt.alloc())?),
+        Err(error) if error.kind() == io::ErrorKind::OutOfMemory => Err(Memory),
+        Err(_) => Ok(Vec::new(rt.alloc())),
     }
-    Ok(words)
+}
+
+// What a session comes to.
+fn fault_of<S: Source, F: Shelf, K: Sink>(
+    rt: &(impl Threads + Wait + Sync),
+    alloc: Global,
+    words: &[String],
+    src: &mut S,
+    shelf: &mut F,
+    out: &mut K,
+) -> Fault {
+    session(rt, alloc, words, src, shelf, out, &OpenGate).fault
+}
+
+// Says a fault, if there is memory for its words.
+fn say(rt: &HostRuntime, fault: Fault) {
+    if fault.status() != 0
+        && let Ok(text) = fault.say(rt.alloc())
+    {
+        tell(rt, text.as_str().as_bytes());
+    }
 }
 
 // Writes a text and a newline to the standard error. What can't be written there is lost.
