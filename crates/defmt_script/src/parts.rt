@@ -15,7 +15,6 @@ ghost use Rattle.defmt_script.specs.Script.{base_of};
 ghost use Rattle.defmt_script.specs.State.{entry_at, no_statements};
 ghost use Rattle.defmt_spelling.specs.Spelling.{ReadsArguments};
 ghost use Rattle.defmt_values.specs.Fits.{Fits};
-ghost use Rattle.rtt_terminal.specs.Speech.{silence};
 
 use crate::script::Statements;
 use defmt_grammar::Text;
@@ -24,30 +23,18 @@ use defmt_lines::Settings;
 use defmt_spelling::{ArgFault, Names, read_args};
 use defmt_values::{Args, Statement, is_logged};
 use dl_io::Memory;
-use rtt_terminal::Speech;
+use rtt_terminal::WRITERS;
 use std::alloc::Global;
 
 // Eight writers without statements.
 pub(crate) fn no_statements(alloc: Global) -> Result<Vec<Statements>, Memory>
     ensures { IfOk result (λ writers. writers.items ≡ no_statements) }
 {
-    Ok(vec![in alloc;
-        Statements::new(alloc),
-        Statements::new(alloc),
-        Statements::new(alloc),
-        Statements::new(alloc),
-        Statements::new(alloc),
-        Statements::new(alloc),
-        Statements::new(alloc),
-        Statements::new(alloc),
-    ]?)
-}
-
-// Eight writers with nothing to say.
-pub(crate) fn no_texts(alloc: Global) -> Result<Speech, Memory>
-    ensures { IfOk result (λ speech. speech ≡ silence 8) }
-{
-    Speech::new(alloc)
+    let mut writers = Vec::new(alloc);
+    for _ in 0..WRITERS {
+        writers.push(Statements::new(alloc))?;
+    }
+    Ok(writers)
 }
 
 fn copy_of(alloc: Global, text: &str) -> Result<Text, Memory>

@@ -11,7 +11,7 @@ ghost use Rattle.defmt_script.specs.State.{closed, no_lines};
 ghost use Rattle.defmt_script.specs.Steady.{StaysLawful};
 
 use crate::fault::LineFault;
-use crate::parts::{entry_of, no_statements, no_texts, put_entry};
+use crate::parts::{entry_of, no_statements, put_entry};
 use crate::script::{Script, Statements};
 use defmt_intern::{Table, Tag};
 use defmt_lines::{Cause, Form, Line, Settings, Words};
@@ -72,6 +72,8 @@ impl Reading {
     pub fn new(alloc: Global) -> Result<Reading, Memory>
         ensures { IfOk result (λ reading. reading ≡ no_lines) }
     {
+        let writers = no_statements(alloc)?;
+        let said = Speech::new(alloc)?;
         Ok(Reading {
             alloc,
             first: Form::Ring,
@@ -80,8 +82,8 @@ impl Reading {
             settings: Settings::new(),
             table: Table::new(alloc),
             names: Names::new(alloc),
-            writers: no_statements(alloc)?,
-            said: no_texts(alloc)?,
+            writers,
+            said,
         })
     }
 

@@ -1,6 +1,6 @@
-use Rattle.std.proofs.Common.{refl, arith}
+use Rattle.std.proofs.Common.{refl, sym, arith}
 use Rattle.defmt_lines.specs.LineView.{line_view}
-use Rattle.defmt_script.proofs.ReadingLaws.{goes_on, refuses_by}
+use Rattle.defmt_script.proofs.ReadingLaws.{begins, ends, goes_on, refuses_by}
 use Rattle.defmt_script.proofs.top.read_bytes.Goals as goal
 
 pub loop-rest-preserved : goal.loop-rest-preserved
@@ -13,3 +13,9 @@ pub returns-in-Err : goal.returns-in-Err
 returns-in-Err c =
     rw c.fault_of.ensures
     (refuses_by c.loop-rest.reading c.take_line.new.self c.loop-rest.number _ _ c.args.text.now c.next_line.result.0.now c.next_line.result.1.now c.loop-rest.invariant.reading c.next_line.ensures.lines (line_view c.read_line.result) c.in-Err.fault c.read_line.ensures refl c.in-Err.ensures)
+
+pub loop-rest-init : goal.loop-rest-init
+loop-rest-init c = record { reading = begins _ _ c.in_ok-reading.ensures; number = omega arith }
+
+pub returns : goal.returns
+returns c = ends _ _ c.loop-rest.rest.now c.args.text.now c.loop-rest.invariant.reading (sym c.loop-rest-test.ensures) _ c.in_ok-finish.ensures

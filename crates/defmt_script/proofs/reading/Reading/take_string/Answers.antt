@@ -1,7 +1,10 @@
-use Rattle.std.proofs.Common.{ap, sym, ◌∙◌}
+use Rattle.std.proofs.Common.{None, Ok, Option, Result, ap, subst, sym, ℕ, ◌∙◌}
 use Rattle.std.specs.Result.{result_err}
+use Rattle.defmt_lines.specs.Verdict.{Judges}
+use Rattle.defmt_lines.specs.declared.cause.Cause.{Cause}
 use Rattle.defmt_script.proofs.StringSteadiness.{judged_short}
 use Rattle.defmt_script.proofs.Steps.{string_new}
+use Rattle.defmt_script.specs.State.{State}
 use Rattle.defmt_script.proofs.reading.Reading.take_string.Goals as goal
 
 pub add_string-requires-clause-new : goal.add_string-requires-clause-new
@@ -12,3 +15,8 @@ add_string-requires-clause-short c = judged_short c.args.line.tag c.args.line.te
 
 pub add_string-requires-clause-parsed : goal.add_string-requires-clause-parsed
 add_string-requires-clause-parsed c = rw c.in-Ok.is at c.in_ok-parsed.ensures.parsed
+
+pub returns : goal.returns
+returns c =
+    let judged = subst (λ (v : Option ℕ). Judges c.args.line.tag c.args.line.text.now v) (ap result_err c.in-Ok.is) c.in_ok-parsed.ensures.verdict in
+    rw (sym c.admit_string.ensures ∙ c.in_default.is) (None, judged, rw (← c.if-not-has_room_for_string.ensures) (ap (λ (s : State). let r : Result State Cause = Ok s in r) c.in_ok-add_string.ensures))
