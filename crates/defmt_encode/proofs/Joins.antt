@@ -1,14 +1,18 @@
 -- What was read in front of what is still to come.
-use Rattle.std.proofs.Common.{◌≡◌, ◌<◌, ◌-◌, ◌+◌, ◌*◌, ℕ, zero, suc, List, [], ◌∷◌, All, Option, Ok, Err, refl, sym, ap, subst, ◌∙◌, arith}
+use Rattle.std.proofs.Common.{◌≡◌, ◌<◌, ◌-◌, ◌+◌, ◌*◌, ℕ, zero, suc, List, [], ◌∷◌, All, Option, Some, Result, Ok, Err, refl, sym, ap, subst, ◌∙◌, arith}
+use Rattle.std.specs.Borrow.{Bor}
 use Rattle.defmt_grammar.specs.Slots.{uses_at, IsSound}
 use Rattle.defmt_grammar.specs.declared.piece.Piece.{Piece}
+use Rattle.defmt_grammar.specs.declared.kind.Kind.TheVariants as kinds
 use Rattle.defmt_grammar.specs.declared.slot.Slot.{Slot}
+use Rattle.defmt_grammar.specs.declared.slot.Slot.TheVariants as slots
 use Rattle.defmt_intern.specs.Table.{Map}
 use Rattle.defmt_intern.specs.declared.parsed.Parsed.{Parsed}
-use Rattle.defmt_values.specs.Entries.{places_from}
-use Rattle.defmt_values.specs.Plain.{Val, Vals, val, Elems, elem, snoc, snoc_elem, join_vals, join_elems}
+use Rattle.defmt_values.specs.Entries.{look, places_from}
+use Rattle.defmt_values.specs.Plain.{Val, Vals, val, Elems, no_elems, elem, format, seq, snoc, snoc_elem, join_vals, join_elems}
+use Rattle.defmt_values.specs.declared.value.Value.{Value}
 use Rattle.defmt_values.proofs.Joins.{join_snoc, join_none, join_snoc_elem, join_no_elems}
-use Rattle.defmt_encode.specs.Read.{Read, ◌⇒◌, slot_at, value_at, below, each_at, elem_at, elems_at}
+use Rattle.defmt_encode.specs.Read.{Read, ◌⇒◌, number_at, form_of, slot_at, value_at, below, each_at, elem_at, elems_at, node_at, list_at, some_at}
 use Rattle.defmt_encode.specs.Reads.{ReadsVal, ReadsVals, ReadsElem, ReadsElems}
 use Rattle.defmt_encode.specs.declared.cause.Fault.{Fault}
 use Rattle.defmt_encode.specs.declared.cause.Fault.TheVariants.{Bad, Memory}
@@ -28,6 +32,10 @@ before_more vs v (Err e) = refl
 before_more_elems : (es : Elems) (o : Option ℕ) (vs : Vals) (q : Read (Elems × ℕ × List ℕ)) → before_elems (snoc_elem es o vs) q ≡ before_elems es (q ⇒ λ r. Ok (elem o vs r.0, r.1, r.2))
 before_more_elems es o vs (Ok r) = ap (λ us. Ok (us, r.1, r.2)) (join_snoc_elem es o vs r.0)
 before_more_elems es o vs (Err e) = refl
+
+none_before : (q : Read (Elems × ℕ × List ℕ)) → before_elems no_elems q ≡ q
+none_before (Ok r) = refl
+none_before (Err e) = refl
 
 pub value_is : (t : Map) (left : ℕ) → slot_at t (below t left) ≡ value_at t left
 unfolding value_at
@@ -54,6 +62,9 @@ module _ (t : Map) (left w : ℕ) where
           (rw (p, k) refl) ∙ same
       failed Memory all same h = tt
 
+  pub elems_begin : (form : Parsed) (count s : ℕ) (rest : List ℕ) → before_elems no_elems (elems_at (value_at t left) form (count - 0) w s rest) ≡ elems_at (value_at t left) form count w s rest
+  elems_begin form count s rest = let k : count - 0 ≡ count = omega arith in rw k (none_before (elems_at (value_at t left) form count w s rest))
+
   module _ (form : Parsed) (count i : ℕ) (items : Elems) (s : ℕ) (rest : List ℕ) where
     pub elems_ended : count - i ≡ 0 → Ok (items, s, rest) ≡ before_elems items (elems_at (value_at t left) form (count - i) w s rest)
     unfolding elems_at
@@ -72,6 +83,32 @@ module _ (t : Map) (left w : ℕ) where
           let k : count - i ≡ suc (count - (i + 1)) = omega arith in
           (rw (k, ← h) refl) ∙ same
       elem_failed Memory all same h = tt
+
+-- ---- a Format value, and a list that has elements
+
+module _ (t : Map) (left w s : ℕ) (bytes : List ℕ) where
+  module _ (index : ℕ) (rest : List ℕ) (form : Parsed) where
+    pub node_read : (o : Option ℕ) (vs : Vals) (after : ℕ) (end : List ℕ) → Ok (index, rest) ≡ number_at 2 bytes → Ok form ≡ form_of (look t index) → Ok ((o, vs), after, end) ≡ elem_at (value_at t left) form w s rest
+        → Ok (format index o vs, after, end) ≡ node_at t (value_at t left) w s bytes
+    node_read o vs after end a b c =
+        ap (λ (q : Read ((Option ℕ × Vals) × ℕ × List ℕ)). q ⇒ λ e. Ok (format index e.0.0 e.0.1, e.1, e.2)) c
+        ∙ ap (λ (q : Read Parsed). q ⇒ λ f. elem_at (value_at t left) f w s rest ⇒ λ e. Ok (format index e.0.0 e.0.1, e.1, e.2)) b
+        ∙ ap (λ (q : Read (ℕ × List ℕ)). q ⇒ λ i. form_of (look t i.0) ⇒ λ f. elem_at (value_at t left) f w s i.1 ⇒ λ e. Ok (format i.0 e.0.0 e.0.1, e.1, e.2)) a
+
+    pub list_read : (count : ℕ) (items : Elems) (after : ℕ) (end : List ℕ) → Ok (index, rest) ≡ number_at 2 bytes → Ok form ≡ form_of (look t index) → Ok (items, after, end) ≡ elems_at (value_at t left) form count w s rest
+        → Ok (seq (Some index) items, after, end) ≡ list_at t (value_at t left) count w s bytes
+    list_read count items after end a b c =
+        ap (λ (q : Read (Elems × ℕ × List ℕ)). q ⇒ λ r. Ok (seq (Some index) r.0, r.1, r.2)) c
+        ∙ ap (λ (q : Read Parsed). q ⇒ λ f. elems_at (value_at t left) f count w s rest ⇒ λ r. Ok (seq (Some index) r.0, r.1, r.2)) b
+        ∙ ap (λ (q : Read (ℕ × List ℕ)). q ⇒ λ i. form_of (look t i.0) ⇒ λ f. elems_at (value_at t left) f count w s i.1 ⇒ λ r. Ok (seq (Some i.0) r.0, r.1, r.2)) a
+
+-- what is one level below, where levels are left
+pub node_below : (t : Map) (left lower w s : ℕ) (bytes : List ℕ) (slot : Slot) (r : Result (Value × ℕ × Bor (List ℕ)) Fault) → slot ≡ slots.One kinds.Format → left ≡ suc lower → ReadsVal r (node_at t (value_at t lower) w s bytes) → ReadsVal r (slot_at t (below t left) slot w s bytes)
+node_below t left lower w s bytes slot r e p h = rw (e, p) h
+
+pub list_below : (t : Map) (left lower w s : ℕ) (bytes : List ℕ) (count : ℕ) (r : Result (Value × ℕ × Bor (List ℕ)) Fault) → left ≡ suc lower → 0 < count → ReadsVal r (list_at t (value_at t lower) count w s bytes) → ReadsVal r (some_at t (below t left) count w s bytes)
+list_below t left lower w s bytes zero r p some h = absurd (omega (arith, some))
+list_below t left lower w s bytes (suc count) r p some h = rw p h
 
 pub sound_left : (slots others : List Slot) (x : Slot) → slots ≡ x ∷ others → All IsSound slots → All IsSound others
 sound_left slots others x e h = let m = subst (λ (xs : List Slot). All IsSound xs) e h in λ k d lt. m (suc k) d (omega (arith, lt))

@@ -1,5 +1,5 @@
 -- What the readers answer.
-use Rattle.std.specs.Prelude.{◌≡◌, ◌≤◌, ℕ, List, Option, Result, Ok, Err}
+use Rattle.std.specs.Prelude.{◌≡◌, ℕ, List, Option, Result, Ok, Err}
 use Rattle.std.specs.Borrow.{Bor}
 use Rattle.dl_io.specs.Buffer.{Buffer}
 use Rattle.defmt_grammar.specs.declared.piece.Piece.{Piece}
@@ -100,10 +100,6 @@ with_stamp vs (Err e) = Err e
 abbrev pub told : {E : Type 0} → Heard → Result (Unit {0}) E → Result Heard E
 told heard (Ok done) = Ok heard
 told heard (Err e) = Err e
-
-abbrev pub SumSmall : {T : Type 0} → Result (T × ℕ × Bor (List ℕ)) Fault → Type 0
-SumSmall (Ok r) = r.1 ≤ 8192
-SumSmall (Err e) = Unit {0}
 
 -- no values stand inside a value of the slot
 abbrev pub IsLeaf : Slot → Type 0

@@ -1,8 +1,8 @@
 //! Fields of a message read from the front of bytes.
 ghost use Rattle.std.specs.Prelude.{◌≡◌, ◌≤◌, ◌<◌, ◌^◌, length, IfOk};
 ghost use Rattle.byteorder.specs.Endian.{little_number};
-ghost use Rattle.defmt_encode.specs.Read.{number_at, signed_at, chunk_at, flag_of, char_of, text_of, bytes_at, text_at};
-ghost use Rattle.defmt_encode.specs.Reads.{pair_now, chunks_now, now_of, ReadsChunk, ReadsBuffer};
+ghost use Rattle.defmt_encode.specs.Read.{number_at, signed_at, chunk_at, bytes_at, text_at};
+ghost use Rattle.defmt_encode.specs.Reads.{pair_now, chunks_now, ReadsChunk, ReadsBuffer};
 
 use crate::cause::{Cause, Fault};
 use byteorder::{ByteOrder, LittleEndian};
@@ -98,34 +98,6 @@ pub fn byte(bytes: &[u8]) -> Result<(u8, &[u8]), Cause>
     Ok((bytes[0], rest))
 }
 
-pub fn flag_of(n: u8) -> Result<bool, Cause>
-    ensures { result ≡ flag_of n }
-{
-    match n {
-        0 => Ok(false),
-        1 => Ok(true),
-        _ => Err(Cause::BadBool),
-    }
-}
-
-pub fn char_of(n: u32) -> Result<char, Cause>
-    ensures { result ≡ char_of n }
-{
-    match char::from_u32(n) {
-        Some(c) => Ok(c),
-        None => Err(Cause::BadChar),
-    }
-}
-
-fn text_of(bytes: &[u8]) -> Result<&str, Cause>
-    ensures { now_of result ≡ text_of bytes.now }
-{
-    match str::from_utf8(bytes) {
-        Ok(text) => Ok(text),
-        Err(_) => Err(Cause::BadText),
-    }
-}
-
 // Bytes behind their number.
 fn counted(bytes: &[u8]) -> Result<(&[u8], &[u8]), Cause>
     ensures { chunks_now result ≡ bytes_at bytes.now }
@@ -138,8 +110,10 @@ fn text(bytes: &[u8]) -> Result<(&str, &[u8]), Cause>
     ensures { chunks_now result ≡ text_at bytes.now }
 {
     let (front, rest) = counted(bytes)?;
-    let text = text_of(front)?;
-    Ok((text, rest))
+    match str::from_utf8(front) {
+        Ok(text) => Ok((text, rest)),
+        Err(_) => Err(Cause::BadText),
+    }
 }
 
 fn copied(alloc: Global, text: &str) -> Result<Text, Memory>

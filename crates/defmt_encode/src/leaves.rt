@@ -2,12 +2,10 @@
 ghost use Rattle.std.specs.Prelude.{◌≡◌, ◌≤◌, ◌<◌, ◌+◌, ◌^◌, ◌*◌, Option, ℕ};
 ghost use Rattle.defmt_grammar.specs.Slots.{IsSound};
 ghost use Rattle.defmt_encode.specs.Read.{istr_at, uint_at, int_at, flag_at, char_at, str_at, slice_at, array_at, window_at, slot_at, below, OneAt};
-ghost use Rattle.defmt_encode.specs.Reads.{ReadsVal, SumSmall, IsLeaf};
+ghost use Rattle.defmt_encode.specs.Reads.{ReadsVal, IsLeaf};
 
 use crate::cause::{Cause, Fault};
-use crate::field::{
-    byte, char_of, flag_of, index, number, read_array, read_bytes, read_text, signed, word,
-};
+use crate::field::{byte, index, number, read_array, read_bytes, read_text, signed, word};
 use crate::forms::interned;
 use crate::widths::size_bytes;
 use defmt_grammar::{IntSize, Kind, Slot};
@@ -27,47 +25,42 @@ fn moved_up(n: u128, first: u8, width: u8) -> u128
 }
 
 fn read_uint(size: IntSize, sum: u128, bytes: &[u8]) -> Result<(Value, u128, &[u8]), Fault>
-    requires { sum ≤ 8192 }
-    ensures value { ReadsVal result (uint_at size sum bytes.now) }
-    ensures small { SumSmall result }
+    ensures { ReadsVal result (uint_at size sum bytes.now) }
 {
     let (n, rest) = number(bytes, size_bytes(size))?;
     Ok((Value::Uint(n), sum, rest))
 }
 
 fn read_int(size: IntSize, sum: u128, bytes: &[u8]) -> Result<(Value, u128, &[u8]), Fault>
-    requires { sum ≤ 8192 }
-    ensures value { ReadsVal result (int_at size sum bytes.now) }
-    ensures small { SumSmall result }
+    ensures { ReadsVal result (int_at size sum bytes.now) }
 {
     let (n, rest) = signed(bytes, size_bytes(size))?;
     Ok((Value::Int(n), sum, rest))
 }
 
 fn read_bool(sum: u128, bytes: &[u8]) -> Result<(Value, u128, &[u8]), Fault>
-    requires { sum ≤ 8192 }
-    ensures value { ReadsVal result (flag_at sum bytes.now) }
-    ensures small { SumSmall result }
+    ensures { ReadsVal result (flag_at sum bytes.now) }
 {
     let (n, rest) = byte(bytes)?;
-    let b = flag_of(n)?;
-    Ok((Value::Bool(b), sum, rest))
+    match n {
+        0 => Ok((Value::Bool(false), sum, rest)),
+        1 => Ok((Value::Bool(true), sum, rest)),
+        _ => Err(Fault::Bad(Cause::BadBool)),
+    }
 }
 
 fn read_char(sum: u128, bytes: &[u8]) -> Result<(Value, u128, &[u8]), Fault>
-    requires { sum ≤ 8192 }
-    ensures value { ReadsVal result (char_at sum bytes.now) }
-    ensures small { SumSmall result }
+    ensures { ReadsVal result (char_at sum bytes.now) }
 {
     let (n, rest) = word(bytes)?;
-    let c = char_of(n)?;
-    Ok((Value::Char(c), sum, rest))
+    match char::from_u32(n) {
+        Some(c) => Ok((Value::Char(c), sum, rest)),
+        None => Err(Fault::Bad(Cause::BadChar)),
+    }
 }
 
 fn read_str(alloc: Global, sum: u128, bytes: &[u8]) -> Result<(Value, u128, &[u8]), Fault>
-    requires { sum ≤ 8192 }
-    ensures value { ReadsVal result (str_at sum bytes.now) }
-    ensures small { SumSmall result }
+    ensures { ReadsVal result (str_at sum bytes.now) }
 {
     let (text, rest) = read_text(alloc, bytes)?;
     Ok((Value::Str(text), sum, rest))
@@ -78,9 +71,7 @@ fn read_istr<'b>(
     sum: u128,
     bytes: &'b [u8],
 ) -> Result<(Value, u128, &'b [u8]), Fault>
-    requires { sum ≤ 8192 }
-    ensures value { ReadsVal result (istr_at table.now.entries sum bytes.now) }
-    ensures small { SumSmall result }
+    ensures { ReadsVal result (istr_at table.now.entries sum bytes.now) }
 {
     let (index, rest) = index(bytes)?;
     interned(table, index)?;
@@ -88,9 +79,7 @@ fn read_istr<'b>(
 }
 
 fn read_slice(alloc: Global, sum: u128, bytes: &[u8]) -> Result<(Value, u128, &[u8]), Fault>
-    requires { sum ≤ 8192 }
-    ensures value { ReadsVal result (slice_at sum bytes.now) }
-    ensures small { SumSmall result }
+    ensures { ReadsVal result (slice_at sum bytes.now) }
 {
     let (read, rest) = read_bytes(alloc, bytes)?;
     Ok((Value::Bytes(read), sum, rest))
@@ -102,19 +91,15 @@ fn read_byte_array(
     sum: u128,
     bytes: &[u8],
 ) -> Result<(Value, u128, &[u8]), Fault>
-    requires { sum ≤ 8192 }
-    ensures value { ReadsVal result (array_at count sum bytes.now) }
-    ensures small { SumSmall result }
+    ensures { ReadsVal result (array_at count sum bytes.now) }
 {
     let (read, rest) = read_array(alloc, count, bytes)?;
     Ok((Value::Bytes(read), sum, rest))
 }
 
 fn read_window(first: u8, width: u8, sum: u128, bytes: &[u8]) -> Result<(Value, u128, &[u8]), Fault>
-    requires window { first + width ≤ 16 }
-    requires sum { sum ≤ 8192 }
-    ensures value { ReadsVal result (window_at first width sum bytes.now) }
-    ensures small { SumSmall result }
+    requires { first + width ≤ 16 }
+    ensures { ReadsVal result (window_at first width sum bytes.now) }
 {
     let (n, rest) = number(bytes, width)?;
     Ok((Value::Bits(moved_up(n, first, width)), sum, rest))
@@ -130,10 +115,8 @@ pub(crate) fn read_leaf<'b>(
 ) -> Result<(Value, u128, &'b [u8]), Fault>
     requires slot { IsSound slot }
     requires leaf { IsLeaf slot }
-    requires sum { sum ≤ 8192 }
-    ensures value { (below : Option OneAt) (weight : ℕ)
+    ensures { (below : Option OneAt) (weight : ℕ)
         → ReadsVal result (slot_at table.now.entries below slot weight sum bytes.now) }
-    ensures small { SumSmall result }
 {
     match slot {
         Slot::One(Kind::Uint(size)) => read_uint(size, sum, bytes),

@@ -1,9 +1,9 @@
 //! Values read from the bytes of a message.
-ghost use Rattle.std.specs.Prelude.{◌≡◌, ◌≤◌, ◌<◌, ◌^◌, IfOk};
+ghost use Rattle.std.specs.Prelude.{◌≡◌, ◌≤◌, IfOk};
 ghost use Rattle.defmt_grammar.specs.Slots.{IsSound};
 ghost use Rattle.defmt_values.specs.Entries.{places_of};
 ghost use Rattle.defmt_encode.specs.Read.{add, each_at, elem_at, elems_at, node_at, list_at, some_at, slot_at, value_at, below};
-ghost use Rattle.defmt_encode.specs.Reads.{ReadsVal, ReadsVals, ReadsElem, ReadsElems, SumSmall, with_vals};
+ghost use Rattle.defmt_encode.specs.Reads.{ReadsVal, ReadsVals, ReadsElem, ReadsElems, with_vals};
 
 use crate::cause::{Cause, Fault};
 use crate::field::{index, word};
@@ -19,12 +19,12 @@ const WEIGHT_LIMIT: u128 = 8192;
 
 // The sum with one more weight.
 fn add(weight: u128, sum: u128) -> Result<u128, Cause>
-    requires { (weight < 2 ^ 80) × (sum ≤ 8192) }
     ensures value { result ≡ add weight sum }
-    ensures small { IfOk result (λ s. (s ≤ 8192) × (weight ≤ 8192)) }
+    ensures small { IfOk result (λ s. weight ≤ 8192) }
 {
-    if sum + weight <= WEIGHT_LIMIT {
-        Ok(sum + weight)
+    let total = sum.saturating_add(weight);
+    if total <= WEIGHT_LIMIT {
+        Ok(total)
     } else {
         Err(Cause::Many)
     }
@@ -41,12 +41,9 @@ fn read_value<'b>(
     sum: u128,
     bytes: &'b [u8],
 ) -> Result<(Value, u128, &'b [u8]), Fault>
-    requires slot { IsSound slot }
-    requires weight { weight < 2 ^ 80 }
-    requires sum { sum ≤ 8192 }
-    ensures value { ReadsVal result
+    requires { IsSound slot }
+    ensures { ReadsVal result
         (slot_at table.now.entries (below table.now.entries left) slot weight sum bytes.now) }
-    ensures small { SumSmall result }
 {
     match slot {
         Slot::One(Kind::Format) => {
@@ -82,11 +79,8 @@ fn read_node<'b>(
     sum: u128,
     bytes: &'b [u8],
 ) -> Result<(Value, u128, &'b [u8]), Fault>
-    requires weight { weight < 2 ^ 80 }
-    requires sum { sum ≤ 8192 }
-    ensures value { ReadsVal result
+    ensures { ReadsVal result
         (node_at table.now.entries (value_at table.now.entries left) weight sum bytes.now) }
-    ensures small { SumSmall result }
 {
     let (index, rest) = index(bytes)?;
     let form = form_for(table, index)?;
@@ -114,11 +108,8 @@ fn read_some<'b>(
     sum: u128,
     bytes: &'b [u8],
 ) -> Result<(Value, u128, &'b [u8]), Fault>
-    requires weight { weight < 2 ^ 80 }
-    requires sum { sum ≤ 8192 }
-    ensures value { ReadsVal result
+    ensures { ReadsVal result
         (some_at table.now.entries (below table.now.entries left) count weight sum bytes.now) }
-    ensures small { SumSmall result }
 {
     if count == 0 {
         let none = Seq {
@@ -144,11 +135,8 @@ fn read_list<'b>(
     sum: u128,
     bytes: &'b [u8],
 ) -> Result<(Value, u128, &'b [u8]), Fault>
-    requires weight { weight < 2 ^ 80 }
-    requires sum { sum ≤ 8192 }
-    ensures value { ReadsVal result
+    ensures { ReadsVal result
         (list_at table.now.entries (value_at table.now.entries left) count weight sum bytes.now) }
-    ensures small { SumSmall result }
 {
     let (index, rest) = index(bytes)?;
     let form = form_for(table, index)?;
@@ -175,11 +163,9 @@ pub(crate) fn read_into<'b>(
     bytes: &'b [u8],
     args: &mut Args,
 ) -> Result<(u128, &'b [u8]), Fault>
-    requires weight { weight ≤ 8192 }
-    requires sum { sum ≤ 8192 }
-    ensures value { ReadsVals (with_vals args.new result)
+    requires { weight ≤ 8192 }
+    ensures { ReadsVals (with_vals args.new result)
         (each_at (value_at table.now.entries left) (places_of pieces.now) weight sum bytes.now) }
-    ensures small { SumSmall (with_vals args.new result) }
 {
     args.clear();
     let mut slots = pieces.slots();
@@ -218,11 +204,8 @@ fn read_items<'b>(
     sum: u128,
     bytes: &'b [u8],
 ) -> Result<(Items, u128, &'b [u8]), Fault>
-    requires weight { weight < 2 ^ 80 }
-    requires sum { sum ≤ 8192 }
-    ensures value { ReadsElems result
+    ensures { ReadsElems result
         (elems_at (value_at table.now.entries left) form.now count weight sum bytes.now) }
-    ensures small { SumSmall result }
 {
     let mut items = Items::new(alloc);
     let mut total = sum;
@@ -247,11 +230,8 @@ fn read_item<'b>(
     sum: u128,
     bytes: &'b [u8],
 ) -> Result<(Item, u128, &'b [u8]), Fault>
-    requires weight { weight < 2 ^ 80 }
-    requires sum { sum ≤ 8192 }
-    ensures value { ReadsElem result
+    ensures { ReadsElem result
         (elem_at (value_at table.now.entries left) form.now weight sum bytes.now) }
-    ensures small { SumSmall result }
 {
     let sum = add(weight, sum)?;
     let (variant, pieces, rest) = variant_of(form, bytes)?;

@@ -28,7 +28,6 @@ decreases-read_list l = 10 * l.left + 9
 
 abbrev pub invariant-read_into-each : goal.invariant-read_into-each
 invariant-read_into-each l = record {
-  small : l.total ≤ 8192;
   few : l.position + length l.slots ≤ 16;
   sound : All IsSound l.slots;
   same : before_vals l.args (each_at (value_at l.table.entries l.left) (places_from l.pieces l.position l.slots) l.weight l.total l.rest) ≡ each_at (value_at l.table.entries l.left) (places_of l.pieces) l.weight l.sum l.bytes;
@@ -38,7 +37,4 @@ abbrev pub decreases-read_into-each : goal.decreases-read_into-each
 decreases-read_into-each l = length l.slots
 
 abbrev pub invariant-read_items-each : goal.invariant-read_items-each
-invariant-read_items-each l = record {
-  small : l.total ≤ 8192;
-  same : before_elems l.items (elems_at (value_at l.table.entries l.left) l.form (l.count - l.counter) l.weight l.total l.rest) ≡ elems_at (value_at l.table.entries l.left) l.form l.count l.weight l.sum l.bytes;
-}
+invariant-read_items-each l = before_elems l.items (elems_at (value_at l.table.entries l.left) l.form (l.count - l.counter) l.weight l.total l.rest) ≡ elems_at (value_at l.table.entries l.left) l.form l.count l.weight l.sum l.bytes
