@@ -7,7 +7,6 @@ ghost use Rattle.defmt_spelling.specs.Spelling.{ReadsArguments};
 ghost use Rattle.defmt_values.specs.Fits.{Fits};
 ghost use Rattle.defmt_values.specs.Plain.{Vals};
 
-use crate::context::Context;
 use crate::fault::ArgFault;
 use crate::names::Names;
 use crate::reading::read_values;
@@ -25,12 +24,7 @@ fn read_whole(
     ensures { Reads names.now table.now.entries index text.now result }
 {
     let pieces = own_form(table, index)?;
-    let context = Context {
-        alloc,
-        names,
-        table,
-    };
-    let (args, _) = read_values(context, pieces, 16, 1, 0, true, text)?;
+    let (args, _) = read_values(alloc, names, table, pieces, 16, 1, 0, true, text)?;
     Ok(args)
 }
 

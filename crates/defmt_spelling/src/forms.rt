@@ -4,11 +4,11 @@ ghost use Rattle.defmt_shapes.specs.Spelling.{HoldsVariant};
 ghost use Rattle.defmt_spelling.specs.Reading.{GivesForm, GivesVariant, GivesSum, Tests};
 ghost use Rattle.defmt_values.specs.Scan.{node_cause, list_cause, count_cause, pick, add};
 
-use crate::context::Context;
 use crate::fault::{ArgFault, Cause};
 use crate::leaves::index_of;
+use crate::names::Names;
 use defmt_grammar::{Kind, Pieces, Slot};
-use defmt_intern::Parsed;
+use defmt_intern::{Parsed, Table};
 use defmt_shapes::Number;
 use defmt_values::{form_of, pick};
 
@@ -60,19 +60,19 @@ pub fn add(weight: usize, sum: usize) -> Result<usize, ArgFault>
 
 /// The index of a name, and the form of its entry, whose values stand one level deeper.
 pub fn find_form<'a>(
-    context: Context<'a>,
+    names: &Names,
+    table: &'a Table,
     left: u8,
     name: &str,
 ) -> Result<(u16, &'a Parsed), ArgFault>
-    ensures form { GivesForm context.entry.names.now context.entry.table.now.entries left name.now
-        result }
+    ensures form { GivesForm names.now table.now.entries left name.now result }
     ensures deep { OnOk result (0 < left) }
 {
     if left == 0 {
         return Err(Cause::Deep.into());
     }
-    let index = index_of(context.names, name)?;
-    let form = form_of(context.table, index)?;
+    let index = index_of(names, name)?;
+    let form = form_of(table, index)?;
     Ok((index, form))
 }
 

@@ -11,7 +11,6 @@ ghost use Rattle.defmt_values.specs.Entries.{look};
 ghost use Rattle.defmt_values.specs.Plain.{Val, uint, int, flag, char, str, istr, bytes, bits, seq, no_elems};
 ghost use Rattle.defmt_values.specs.Scan.{uint_cause, int_cause, flag_cause, char_cause, str_cause, istr_cause, bytes_cause, bits_cause, interned_of, scan_val};
 
-use crate::context::Context;
 use crate::fault::{ArgFault, Cause};
 use crate::names::Names;
 use defmt_grammar::{Kind, Slot};
@@ -253,7 +252,9 @@ fn paired(leaf: Result<Value, ArgFault>, sum: usize) -> Result<(Value, usize), A
 
 /// A value without values inside, and the sum in front of it.
 pub fn read_leaf(
-    context: Context<'_>,
+    alloc: Global,
+    names: &Names,
+    table: &Table,
     slot: Slot,
     sum: usize,
     spelling: Spelling<'_>,
@@ -262,10 +263,9 @@ pub fn read_leaf(
     requires sound { IsSound slot }
     requires leaf { IsLeaf spelling }
     ensures value { (left weight : ℕ) (s : AnyShape) → Tells spelling.entry s
-        → GivesValue result (meant_val context.entry.names.now context.entry.table.now.entries slot
-        s)
-        (scan_val context.entry.table.now.entries left slot weight sum
-        (meant_val context.entry.names.now context.entry.table.now.entries slot s)) }
+        → GivesValue result (meant_val names.now table.now.entries slot s)
+        (scan_val table.now.entries left slot weight sum
+        (meant_val names.now table.now.entries slot s)) }
     ensures small { SmallValue result }
 {
     match spelling {
@@ -274,13 +274,10 @@ pub fn read_leaf(
         Spelling::Negative(n) => paired(negative_value(slot, n), sum),
         Spelling::Flag(value) => paired(flag_value(slot, value), sum),
         Spelling::Character(character) => paired(char_value(slot, character), sum),
-        Spelling::Quoted(inside) => paired(str_value(context.alloc, slot, inside), sum),
-        Spelling::Interned(name) => paired(
-            istr_value(context.names, context.table, slot, name),
-            sum,
-        ),
-        Spelling::Bytes(digits) => paired(bytes_value(context.alloc, slot, digits), sum),
-        Spelling::Empty => paired(empty_value(context.alloc, slot), sum),
+        Spelling::Quoted(inside) => paired(str_value(alloc, slot, inside), sum),
+        Spelling::Interned(name) => paired(istr_value(names, table, slot, name), sum),
+        Spelling::Bytes(digits) => paired(bytes_value(alloc, slot, digits), sum),
+        Spelling::Empty => paired(empty_value(alloc, slot), sum),
         Spelling::Call { .. } | Spelling::Sequence { .. } => unreachable!(),
     }
 }

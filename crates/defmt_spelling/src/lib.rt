@@ -4,7 +4,6 @@
 #![tactic(auto)]
 
 mod arguments;
-mod context;
 mod fault;
 mod forms;
 mod leaves;

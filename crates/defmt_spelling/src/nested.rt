@@ -7,20 +7,23 @@ ghost use Rattle.defmt_spelling.specs.Meaning.{meant_val, meant_elems};
 ghost use Rattle.defmt_spelling.specs.Reading.{GivesValue, GivesElems, GivesItem, item_scan, meant_inside, SmallValue, SpellsSome};
 ghost use Rattle.defmt_values.specs.Scan.{form_at, scan_val, scan_elems};
 
-use crate::context::Context;
 use crate::fault::ArgFault;
 use crate::forms::{add, check_count, check_list, check_node, find_form, find_pieces};
 use crate::leaves::read_leaf;
+use crate::names::Names;
 use crate::reading::read_values;
 use defmt_grammar::Slot;
-use defmt_intern::Parsed;
+use defmt_intern::{Parsed, Table};
 use defmt_shapes::{Number, Spelling, first_item, skip_spaces};
 use defmt_values::{Item, Items, Node, Seq, Value};
+use std::alloc::Global;
 
 /// One value of a slot. At most `left` levels of Format values may still be opened.
 #[cycle(read)]
 pub fn read_value(
-    context: Context<'_>,
+    alloc: Global,
+    names: &Names,
+    table: &Table,
     slot: Slot,
     left: u8,
     weight: usize,
@@ -31,10 +34,9 @@ pub fn read_value(
     requires sum { sum ≤ 8192 }
     requires sound { IsSound slot }
     ensures value { (s : AnyShape) → Tells spelling.entry s
-        → GivesValue result (meant_val context.entry.names.now context.entry.table.now.entries slot
-        s)
-        (scan_val context.entry.table.now.entries left slot weight sum
-        (meant_val context.entry.names.now context.entry.table.now.entries slot s)) }
+        → GivesValue result (meant_val names.now table.now.entries slot s)
+        (scan_val table.now.entries left slot weight sum
+        (meant_val names.now table.now.entries slot s)) }
     ensures small { SmallValue result }
 {
     match spelling {
@@ -43,19 +45,21 @@ pub fn read_value(
             variant,
             inside,
         } => read_node(
-            context, slot, left, weight, sum, quick, name, variant, inside,
+            alloc, names, table, slot, left, weight, sum, quick, name, variant, inside,
         ),
         Spelling::Sequence { name, inside } => read_list(
-            context, slot, left, weight, sum, quick, name, inside,
+            alloc, names, table, slot, left, weight, sum, quick, name, inside,
         ),
-        leaf => read_leaf(context, slot, sum, leaf),
+        leaf => read_leaf(alloc, names, table, slot, sum, leaf),
     }
 }
 
 /// A Format value.
 #[cycle(read)]
 pub fn read_node(
-    context: Context<'_>,
+    alloc: Global,
+    names: &Names,
+    table: &Table,
     slot: Slot,
     left: u8,
     weight: usize,
@@ -68,17 +72,26 @@ pub fn read_node(
     requires sum { sum ≤ 8192 }
     ensures value { (v : Option ℕ) (ss : Shapes) → HoldsVariant variant v
         → SpellsShapes inside.now ss
-        → GivesValue result (meant_val context.entry.names.now context.entry.table.now.entries slot
-        (call name.now v ss))
-        (scan_val context.entry.table.now.entries left slot weight sum
-        (meant_val context.entry.names.now context.entry.table.now.entries slot
-        (call name.now v ss))) }
+        → GivesValue result (meant_val names.now table.now.entries slot (call name.now v ss))
+        (scan_val table.now.entries left slot weight sum
+        (meant_val names.now table.now.entries slot (call name.now v ss))) }
     ensures spelled { IfOk result (λ _. SpellsSome inside.now) }
     ensures small { SmallValue result }
 {
     check_node(slot)?;
-    let (index, form) = find_form(context, left, name)?;
-    let (item, sum) = read_item(context, form, left - 1, weight, sum, quick, variant, inside)?;
+    let (index, form) = find_form(names, table, left, name)?;
+    let (item, sum) = read_item(
+        alloc,
+        names,
+        table,
+        form,
+        left - 1,
+        weight,
+        sum,
+        quick,
+        variant,
+        inside,
+    )?;
     let Item { variant, args } = item;
     Ok((
         Value::Format(Node {
@@ -93,7 +106,9 @@ pub fn read_node(
 // A list of some elements.
 #[cycle(read)]
 fn read_list(
-    context: Context<'_>,
+    alloc: Global,
+    names: &Names,
+    table: &Table,
     slot: Slot,
     left: u8,
     weight: usize,
@@ -104,16 +119,24 @@ fn read_list(
 ) -> Result<(Value, usize), ArgFault>
     requires sum { sum ≤ 8192 }
     ensures value { (items : AnyItems) → StartsThere inside.now → SpellsItems inside.now items
-        → GivesValue result (meant_val context.entry.names.now context.entry.table.now.entries slot
-        (sequence name.now items))
-        (scan_val context.entry.table.now.entries left slot weight sum
-        (meant_val context.entry.names.now context.entry.table.now.entries slot
-        (sequence name.now items))) }
+        → GivesValue result (meant_val names.now table.now.entries slot (sequence name.now items))
+        (scan_val table.now.entries left slot weight sum
+        (meant_val names.now table.now.entries slot (sequence name.now items))) }
     ensures small { SmallValue result }
 {
     check_list(slot)?;
-    let (index, form) = find_form(context, left, name)?;
-    let (items, sum) = read_items(context, form, left - 1, weight, sum, quick, inside)?;
+    let (index, form) = find_form(names, table, left, name)?;
+    let (items, sum) = read_items(
+        alloc,
+        names,
+        table,
+        form,
+        left - 1,
+        weight,
+        sum,
+        quick,
+        inside,
+    )?;
     check_count(slot, items.len())?;
     Ok((
         Value::Seq(Seq {
@@ -127,7 +150,9 @@ fn read_list(
 // The elements of a list.
 #[cycle(read)]
 fn read_items(
-    context: Context<'_>,
+    alloc: Global,
+    names: &Names,
+    table: &Table,
     form: &Parsed,
     left: u8,
     weight: usize,
@@ -136,21 +161,21 @@ fn read_items(
     text: &str,
 ) -> Result<(Items, usize), ArgFault>
     requires sum { sum ≤ 8192 }
-    ensures value { (index : ℕ) (items : AnyItems) → form_at context.entry.table.now.entries index
-        ≡ Ok form.now
+    ensures value { (index : ℕ) (items : AnyItems) → form_at table.now.entries index ≡ Ok form.now
         → SpellsItems text.now items
-        → GivesElems result (meant_elems context.entry.names.now context.entry.table.now.entries
-        index items)
-        (scan_elems context.entry.table.now.entries left form.now weight sum
-        (meant_elems context.entry.names.now context.entry.table.now.entries index items)) }
+        → GivesElems result (meant_elems names.now table.now.entries index items)
+        (scan_elems table.now.entries left form.now weight sum
+        (meant_elems names.now table.now.entries index items)) }
     ensures small { SmallValue result }
 {
-    let mut items = Items::new(context.alloc);
+    let mut items = Items::new(alloc);
     let mut total = sum;
     let mut rest = text;
-    'each: while let Some((told, more)) = first_item(context.alloc, skip_spaces(rest))? {
+    'each: while let Some((told, more)) = first_item(alloc, skip_spaces(rest))? {
         let (item, next) = read_item(
-            context,
+            alloc,
+            names,
+            table,
             form,
             left,
             weight,
@@ -169,7 +194,9 @@ fn read_items(
 // The values of a form, or of its variant.
 #[cycle(read)]
 fn read_item(
-    context: Context<'_>,
+    alloc: Global,
+    names: &Names,
+    table: &Table,
     form: &Parsed,
     left: u8,
     weight: usize,
@@ -181,15 +208,16 @@ fn read_item(
     requires sum { sum ≤ 8192 }
     ensures value { (v : Option ℕ) (ss : Shapes) → HoldsVariant variant v
         → SpellsShapes inside.now ss
-        → GivesItem result v (meant_inside context.entry.names.now context.entry.table.now.entries
-        form.now v ss)
-        (item_scan context.entry.table.now.entries left form.now weight sum v
-        (meant_inside context.entry.names.now context.entry.table.now.entries form.now v ss)) }
+        → GivesItem result v (meant_inside names.now table.now.entries form.now v ss)
+        (item_scan table.now.entries left form.now weight sum v
+        (meant_inside names.now table.now.entries form.now v ss)) }
     ensures spelled { IfOk result (λ _. SpellsSome inside.now) }
     ensures small { SmallValue result }
 {
     let sum = add(weight, sum)?;
     let (pieces, variant) = find_pieces(form, variant)?;
-    let (args, sum) = read_values(context, pieces, left, weight, sum, quick, inside)?;
+    let (args, sum) = read_values(
+        alloc, names, table, pieces, left, weight, sum, quick, inside,
+    )?;
     Ok((Item { variant, args }, sum))
 }

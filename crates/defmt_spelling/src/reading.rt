@@ -5,20 +5,24 @@ ghost use Rattle.defmt_grammar.specs.Slots.{IsSound};
 ghost use Rattle.defmt_spelling.specs.Reading.{ReadsValues, ReadsFront, SmallValue, SmallFront};
 ghost use Rattle.defmt_values.specs.Entries.{places_of};
 
-use crate::context::Context;
 use crate::fault::{ArgFault, Cause};
+use crate::names::Names;
 use crate::nested::{read_node, read_value};
 use crate::quick::push_quick;
 use defmt_grammar::{Kind, Pieces, Slot};
+use defmt_intern::Table;
 use defmt_quick::quick_last_call;
 use defmt_shapes::{first_value, skip_spaces};
 use defmt_values::{Args, Value, cut};
+use std::alloc::Global;
 
 /// The values of a text, in a text that has this weight. The value is the same with `quick` and without; with it the
 /// last Format value of a text is tried without a search for its closing bracket.
 #[cycle(read)]
 pub fn read_values(
-    context: Context<'_>,
+    alloc: Global,
+    names: &Names,
+    table: &Table,
     pieces: &Pieces,
     left: u8,
     weight: usize,
@@ -27,17 +31,17 @@ pub fn read_values(
     text: &str,
 ) -> Result<(Args, usize), ArgFault>
     requires sum { sum ≤ 8192 }
-    ensures value { ReadsValues context.entry.names.now context.entry.table.now.entries left weight
+    ensures value { ReadsValues names.now table.now.entries left weight
         (places_of pieces.now) sum text.now result }
     ensures small { SmallValue result }
 {
     let mut slots = pieces.slots();
-    let mut args = Args::with_room(context.alloc, slots.len())?;
+    let mut args = Args::with_room(alloc, slots.len())?;
     let mut position = 0u8;
     let mut total = sum;
     let mut rest = text;
     'each: while let Some((slot, others)) = cut(slots) {
-        if let Some(after) = push_quick(context.alloc, *slot, skip_spaces(rest), &mut args)? {
+        if let Some(after) = push_quick(alloc, *slot, skip_spaces(rest), &mut args)? {
             slots = others;
             position += 1;
             rest = after;
@@ -46,7 +50,9 @@ pub fn read_values(
         let weight_there = pieces.uses(position).saturating_mul(weight);
         let last = others.is_empty();
         let (value, next, after) = read_next(
-            context,
+            alloc,
+            names,
+            table,
             *slot,
             left,
             weight_there,
@@ -71,7 +77,9 @@ pub fn read_values(
 // The first value of a text, and what follows it.
 #[cycle(read)]
 fn read_front<'a>(
-    context: Context<'_>,
+    alloc: Global,
+    names: &Names,
+    table: &Table,
     slot: Slot,
     left: u8,
     weight: usize,
@@ -81,8 +89,7 @@ fn read_front<'a>(
 ) -> Result<(Value, usize, &'a str), ArgFault>
     requires sum { sum ≤ 8192 }
     requires sound { IsSound slot }
-    ensures value { ReadsFront context.entry.names.now context.entry.table.now.entries left slot
-        weight sum text.now result }
+    ensures value { ReadsFront names.now table.now.entries left slot weight sum text.now result }
     ensures small { SmallFront result }
     ensures utf8 { IfOk result (λ r. IsUtf8 r.2.now) }
 {
@@ -90,10 +97,12 @@ fn read_front<'a>(
     if text.is_empty() {
         return Err(Cause::Count.into());
     }
-    let Some((spelling, rest)) = first_value(context.alloc, text)? else {
+    let Some((spelling, rest)) = first_value(alloc, text)? else {
         return Err(Cause::Syntax.into());
     };
-    let (value, sum) = read_value(context, slot, left, weight, sum, quick, spelling)?;
+    let (value, sum) = read_value(
+        alloc, names, table, slot, left, weight, sum, quick, spelling,
+    )?;
     Ok((value, sum, rest))
 }
 
@@ -102,7 +111,9 @@ fn read_front<'a>(
 // every bracket inside: a second try at each level would double the readings from level to level.
 #[cycle(read)]
 fn read_next<'a>(
-    context: Context<'_>,
+    alloc: Global,
+    names: &Names,
+    table: &Table,
     slot: Slot,
     left: u8,
     weight: usize,
@@ -113,9 +124,7 @@ fn read_next<'a>(
 ) -> Result<(Value, usize, &'a str), ArgFault>
     requires sum { sum ≤ 8192 }
     requires sound { IsSound slot }
-    ensures value { ReadsFront context.entry.names.now context.entry.table.now.entries left slot
-        weight sum
-        text.now result }
+    ensures value { ReadsFront names.now table.now.entries left slot weight sum text.now result }
     ensures small { SmallFront result }
     ensures utf8 { IfOk result (λ r. IsUtf8 r.2.now) }
 {
@@ -125,12 +134,12 @@ fn read_next<'a>(
         && let Some((name, inside)) = quick_last_call(skip_spaces(text))
     {
         if let Ok((value, sum)) = read_node(
-            context, slot, left, weight, sum, true, name, None, inside,
+            alloc, names, table, slot, left, weight, sum, true, name, None, inside,
         ) {
             let (_, rest) = text.split_at(text.len());
             return Ok((value, sum, rest));
         }
-        return read_front(context, slot, left, weight, sum, false, text);
+        return read_front(alloc, names, table, slot, left, weight, sum, false, text);
     }
-    read_front(context, slot, left, weight, sum, quick, text)
+    read_front(alloc, names, table, slot, left, weight, sum, quick, text)
 }

@@ -25,71 +25,71 @@ use Rattle.defmt_spelling.proofs.+read.Goals as goal
 pub nested::read_node-returns-in_err-check_node-clause-value : goal.nested::read_node-returns-in_err-check_node-clause-value
 nested::read_node-returns-in_err-check_node-clause-value t c = λ v ss m s.
     let p = err_from_is_err_and c.from_residual.result c.from_residual.ensures.1 in
-    rw (p.1, p.2) (exits.node_kind_exit c.args.context.names.now c.args.context.table.now.entries c.args.left c.args.weight c.args.sum c.args.slot c.args.name.now v ss _ c.in_err-check_node.ensures)
+    rw (p.1, p.2) (exits.node_kind_exit c.args.names.now c.args.table.now.entries c.args.left c.args.weight c.args.sum c.args.slot c.args.name.now v ss _ c.in_err-check_node.ensures)
 
 pub nested::read_node-returns-in_err-index-clause-value : goal.nested::read_node-returns-in_err-index-clause-value
 nested::read_node-returns-in_err-index-clause-value t c = λ v ss m s.
     let p = err_from_is_err_and c.from_residual-in_err-index.result c.from_residual-in_err-index.ensures.1 in
-    rw (p.1, p.2) (exits.node_entry_exit c.args.context.names.now c.args.context.table.now.entries c.args.left c.args.weight c.args.sum c.args.slot c.args.name.now v ss _ c.in_ok-check_node.ensures c.in_err-index.ensures.form)
+    rw (p.1, p.2) (exits.node_entry_exit c.args.names.now c.args.table.now.entries c.args.left c.args.weight c.args.sum c.args.slot c.args.name.now v ss _ c.in_ok-check_node.ensures c.in_err-index.ensures.form)
 
 pub nested::read_node-returns-in_err-item-clause-value : goal.nested::read_node-returns-in_err-item-clause-value
 nested::read_node-returns-in_err-item-clause-value t c = λ v ss m s.
     let p = err_from_is_err_and c.from_residual-in_err-item.result c.from_residual-in_err-item.ensures.1 in
-    rw (p.1, p.2) (exits.node_item_exit c.args.context.names.now c.args.context.table.now.entries c.args.left c.args.weight c.args.sum c.args.slot c.args.name.now v ss _ c.in_ok-index.form.now c.in_ok-check_node.ensures c.in_ok-index.ensures.form.1 (c.in_err-item.ensures.value v ss m s))
+    rw (p.1, p.2) (exits.node_item_exit c.args.names.now c.args.table.now.entries c.args.left c.args.weight c.args.sum c.args.slot c.args.name.now v ss _ c.in_ok-index.form.now c.in_ok-check_node.ensures c.in_ok-index.ensures.form.1 (c.in_err-item.ensures.value v ss m s))
 
 pub nested::read_node-returns-clause-value : goal.nested::read_node-returns-clause-value
 nested::read_node-returns-clause-value t c = λ v ss m s.
-    exits.node_end c.args.context.names.now c.args.context.table.now.entries c.args.left c.args.weight c.args.sum c.args.slot c.args.name.now v ss c.in_ok-index.index c.in_ok-index.form.now _ _ _ c.in_ok-check_node.ensures c.in_ok-index.ensures.form (c.in_ok-item.ensures.value v ss m s)
+    exits.node_end c.args.names.now c.args.table.now.entries c.args.left c.args.weight c.args.sum c.args.slot c.args.name.now v ss c.in_ok-index.index c.in_ok-index.form.now _ _ _ c.in_ok-check_node.ensures c.in_ok-index.ensures.form (c.in_ok-item.ensures.value v ss m s)
 
 pub nested::read_list-returns-in_err-check_list-clause-value : goal.nested::read_list-returns-in_err-check_list-clause-value
 nested::read_list-returns-in_err-check_list-clause-value t c = λ items n s.
     let p = err_from_is_err_and c.from_residual.result c.from_residual.ensures.1 in
-    rw (p.1, p.2) (exits.list_kind_exit c.args.context.names.now c.args.context.table.now.entries c.args.left c.args.weight c.args.sum c.args.slot c.args.name.now c.args.inside.now items n s _ c.in_err-check_list.ensures)
+    rw (p.1, p.2) (exits.list_kind_exit c.args.names.now c.args.table.now.entries c.args.left c.args.weight c.args.sum c.args.slot c.args.name.now c.args.inside.now items n s _ c.in_err-check_list.ensures)
 
 pub nested::read_list-returns-in_err-index-clause-value : goal.nested::read_list-returns-in_err-index-clause-value
 nested::read_list-returns-in_err-index-clause-value t c = λ items n s.
     let p = err_from_is_err_and c.from_residual-in_err-index.result c.from_residual-in_err-index.ensures.1 in
-    rw (p.1, p.2) (exits.list_entry_exit c.args.context.names.now c.args.context.table.now.entries c.args.left c.args.weight c.args.sum c.args.slot c.args.name.now c.args.inside.now items n s _ c.in_ok-check_list.ensures c.in_err-index.ensures.form)
+    rw (p.1, p.2) (exits.list_entry_exit c.args.names.now c.args.table.now.entries c.args.left c.args.weight c.args.sum c.args.slot c.args.name.now c.args.inside.now items n s _ c.in_ok-check_list.ensures c.in_err-index.ensures.form)
 
 pub nested::read_list-returns-in_err-items-clause-value : goal.nested::read_list-returns-in_err-items-clause-value
 nested::read_list-returns-in_err-items-clause-value t c = λ items n s.
     let p = err_from_is_err_and c.from_residual-in_err-items.result c.from_residual-in_err-items.ensures.1 in
-    rw (p.1, p.2) (exits.list_items_exit c.args.context.names.now c.args.context.table.now.entries c.args.left c.args.weight c.args.sum c.args.slot c.args.name.now c.args.inside.now items n s _ c.in_ok-index.form.now c.in_ok-check_list.ensures c.in_ok-index.ensures.form.1
-    (c.in_err-items.ensures.value (index_of c.args.context.names.now c.args.name.now) items (arms.form_there c.args.context.table.now.entries c.args.left _ c.in_ok-index.form.now c.in_ok-index.ensures.form.1) s))
+    rw (p.1, p.2) (exits.list_items_exit c.args.names.now c.args.table.now.entries c.args.left c.args.weight c.args.sum c.args.slot c.args.name.now c.args.inside.now items n s _ c.in_ok-index.form.now c.in_ok-check_list.ensures c.in_ok-index.ensures.form.1
+    (c.in_err-items.ensures.value (index_of c.args.names.now c.args.name.now) items (arms.form_there c.args.table.now.entries c.args.left _ c.in_ok-index.form.now c.in_ok-index.ensures.form.1) s))
 
 pub nested::read_list-returns-in_err-check_count-clause-value : goal.nested::read_list-returns-in_err-check_count-clause-value
 nested::read_list-returns-in_err-check_count-clause-value t c = λ items n s.
     let p = err_from_is_err_and c.from_residual-in_err-check_count.result c.from_residual-in_err-check_count.ensures.1 in
-    rw (p.1, p.2) (exits.list_count_exit c.args.context.names.now c.args.context.table.now.entries c.args.left c.args.weight c.args.sum c.args.slot c.args.name.now c.args.inside.now items n s _ c.in_ok-index.form.now c.in_ok-items.items c.in_ok-items.sum c.len.result c.in_ok-check_list.ensures c.in_ok-index.ensures.form.1
-    (c.in_ok-items.ensures.value (index_of c.args.context.names.now c.args.name.now) items (arms.form_there c.args.context.table.now.entries c.args.left _ c.in_ok-index.form.now c.in_ok-index.ensures.form.1) s) c.len.ensures c.in_err-check_count.ensures)
+    rw (p.1, p.2) (exits.list_count_exit c.args.names.now c.args.table.now.entries c.args.left c.args.weight c.args.sum c.args.slot c.args.name.now c.args.inside.now items n s _ c.in_ok-index.form.now c.in_ok-items.items c.in_ok-items.sum c.len.result c.in_ok-check_list.ensures c.in_ok-index.ensures.form.1
+    (c.in_ok-items.ensures.value (index_of c.args.names.now c.args.name.now) items (arms.form_there c.args.table.now.entries c.args.left _ c.in_ok-index.form.now c.in_ok-index.ensures.form.1) s) c.len.ensures c.in_err-check_count.ensures)
 
 pub nested::read_list-returns-clause-value : goal.nested::read_list-returns-clause-value
 nested::read_list-returns-clause-value t c = λ items n s.
-    exits.list_end c.args.context.names.now c.args.context.table.now.entries c.args.left c.args.weight c.args.sum c.args.slot c.args.name.now c.args.inside.now items n s c.in_ok-index.index c.in_ok-index.form.now c.in_ok-items.items c.in_ok-items.sum c.len.result c.in_ok-check_list.ensures c.in_ok-index.ensures.form
-    (c.in_ok-items.ensures.value (index_of c.args.context.names.now c.args.name.now) items (arms.form_there c.args.context.table.now.entries c.args.left _ c.in_ok-index.form.now c.in_ok-index.ensures.form.1) s) c.len.ensures c.in_ok-check_count.ensures
+    exits.list_end c.args.names.now c.args.table.now.entries c.args.left c.args.weight c.args.sum c.args.slot c.args.name.now c.args.inside.now items n s c.in_ok-index.index c.in_ok-index.form.now c.in_ok-items.items c.in_ok-items.sum c.len.result c.in_ok-check_list.ensures c.in_ok-index.ensures.form
+    (c.in_ok-items.ensures.value (index_of c.args.names.now c.args.name.now) items (arms.form_there c.args.table.now.entries c.args.left _ c.in_ok-index.form.now c.in_ok-index.ensures.form.1) s) c.len.ensures c.in_ok-check_count.ensures
 
 pub reading::read_front-returns-in_default-clause-value : goal.reading::read_front-returns-in_default-clause-value
 reading::read_front-returns-in_default-clause-value t c =
-    rw c.into-in_default.ensures (loops.front_unspelled c.args.context.names.now c.args.context.table.now.entries c.args.left c.args.slot c.args.weight c.args.sum c.args.text.now c.skip_spaces-text.result.now c.skip_spaces-text.ensures.rest c.if-is_empty.ensures
+    rw c.into-in_default.ensures (loops.front_unspelled c.args.names.now c.args.table.now.entries c.args.left c.args.slot c.args.weight c.args.sum c.args.text.now c.skip_spaces-text.result.now c.skip_spaces-text.ensures.rest c.if-is_empty.ensures
     (subst (λ o. IsValue c.skip_spaces-text.result.now o) c.in_default.is c.in_ok-spelling.ensures.value))
 
 pub nested::read_item-returns-in_err-args-clause-value : goal.nested::read_item-returns-in_err-args-clause-value
 nested::read_item-returns-in_err-args-clause-value t c = λ v ss m s.
     let p = err_from_is_err_and c.from_residual-in_err-args.result c.from_residual-in_err-args.ensures.1 in
-    let inside = loops.inside_gives c.args.context.names.now c.args.context.table.now.entries c.args.left c.args.weight one_head (places_of c.in_ok-pieces.pieces.now) c.in_ok-sum.sum c.args.inside.now (Err c.in_err-args.field-0.0) c.in_err-args.ensures.value ss s in
-    rw (p.1, p.2) (exits.item_values_exit c.args.context.names.now c.args.context.table.now.entries c.args.left c.args.weight c.args.sum c.args.form.now v ss c.in_err-args.field-0.0 c.in_ok-sum.sum c.in_ok-pieces.pieces.now c.in_ok-sum.ensures.value (c.in_ok-pieces.ensures v m).0 inside)
+    let inside = loops.inside_gives c.args.names.now c.args.table.now.entries c.args.left c.args.weight one_head (places_of c.in_ok-pieces.pieces.now) c.in_ok-sum.sum c.args.inside.now (Err c.in_err-args.field-0.0) c.in_err-args.ensures.value ss s in
+    rw (p.1, p.2) (exits.item_values_exit c.args.names.now c.args.table.now.entries c.args.left c.args.weight c.args.sum c.args.form.now v ss c.in_err-args.field-0.0 c.in_ok-sum.sum c.in_ok-pieces.pieces.now c.in_ok-sum.ensures.value (c.in_ok-pieces.ensures v m).0 inside)
 
 pub nested::read_item-returns-clause-value : goal.nested::read_item-returns-clause-value
 nested::read_item-returns-clause-value t c = λ v ss m s.
-    let inside = loops.inside_gives c.args.context.names.now c.args.context.table.now.entries c.args.left c.args.weight one_head (places_of c.in_ok-pieces.pieces.now) c.in_ok-sum.sum c.args.inside.now (Ok (c.in_ok-args.args, c.in_ok-args.sum)) c.in_ok-args.ensures.value ss s in
-    exits.item_end c.args.context.names.now c.args.context.table.now.entries c.args.left c.args.weight c.args.sum c.args.form.now v ss c.in_ok-sum.sum c.in_ok-pieces.pieces.now c.in_ok-pieces.variant c.in_ok-args.args c.in_ok-args.sum c.in_ok-sum.ensures.value (c.in_ok-pieces.ensures v m) inside
+    let inside = loops.inside_gives c.args.names.now c.args.table.now.entries c.args.left c.args.weight one_head (places_of c.in_ok-pieces.pieces.now) c.in_ok-sum.sum c.args.inside.now (Ok (c.in_ok-args.args, c.in_ok-args.sum)) c.in_ok-args.ensures.value ss s in
+    exits.item_end c.args.names.now c.args.table.now.entries c.args.left c.args.weight c.args.sum c.args.form.now v ss c.in_ok-sum.sum c.in_ok-pieces.pieces.now c.in_ok-pieces.variant c.in_ok-args.args c.in_ok-args.sum c.in_ok-sum.ensures.value (c.in_ok-pieces.ensures v m) inside
 
 pub nested::read_items-returns-in_err-item-clause-value : goal.nested::read_items-returns-in_err-item-clause-value
 nested::read_items-returns-in_err-item-clause-value t c = λ index items there s.
     let p = err_from_is_err_and c.from_residual-in_err-item.result c.from_residual-in_err-item.ensures.1 in
     let f = c.each.invariant.left index items there s in
     let told = item_loops.told_item one_item c.each.rest.now c.skip_spaces.result.now f.others c.in_ok-told.field-0 c.in-Some.told c.in-Some.more c.skip_spaces.ensures.rest c.in_ok-told.ensures.item c.in-Some.is f.spelled in
-    rw (p.1, p.2) (item_loops.item_exit c.args.context.names.now c.args.context.table.now.entries c.args.left c.args.weight c.args.form.now index c.args.sum items there c.each.items c.each.total c.each.rest.now f told.variant told.shapes told.more told.is _ (c.in_err-item.ensures.value told.variant told.shapes told.holds told.spelled))
+    rw (p.1, p.2) (item_loops.item_exit c.args.names.now c.args.table.now.entries c.args.left c.args.weight c.args.form.now index c.args.sum items there c.each.items c.each.total c.each.rest.now f told.variant told.shapes told.more told.is _ (c.in_err-item.ensures.value told.variant told.shapes told.holds told.spelled))
 
 pub nested::read_items-each-preserved : goal.nested::read_items-each-preserved
 nested::read_items-each-preserved t c = record {
@@ -99,7 +99,7 @@ nested::read_items-each-preserved t c = record {
       let f = c.each.invariant.left index items there s in
       let told = item_loops.told_item one_item c.each.rest.now c.skip_spaces.result.now f.others c.in_ok-told.field-0 c.in-Some.told c.in-Some.more c.skip_spaces.ensures.rest c.in_ok-told.ensures.item c.in-Some.is f.spelled in
       let v = c.in_ok-item.ensures.value told.variant told.shapes told.holds told.spelled in
-      item_loops.item_done c.args.context.names.now c.args.context.table.now.entries c.args.left c.args.weight c.args.form.now index c.args.sum items there c.each.items c.each.total c.each.rest.now f told.variant told.shapes told.more told.is c.in_ok-item.item.variant c.in_ok-item.item.args c.in_ok-item.next c.push.new.self c.in-Some.more.now v.0 v.1 v.2 c.in_ok-push.ensures.ok told.later;
+      item_loops.item_done c.args.names.now c.args.table.now.entries c.args.left c.args.weight c.args.form.now index c.args.sum items there c.each.items c.each.total c.each.rest.now f told.variant told.shapes told.more told.is c.in_ok-item.item.variant c.in_ok-item.item.args c.in_ok-item.next c.push.new.self c.in-Some.more.now v.0 v.1 v.2 c.in_ok-push.ensures.ok told.later;
 }
 
 pub nested::read_items-each-smaller : goal.nested::read_items-each-smaller
@@ -108,13 +108,13 @@ nested::read_items-each-smaller t c = item_loops.told_shorter c.each.rest.now c.
 pub nested::read_items-returns-clause-value : goal.nested::read_items-returns-clause-value
 nested::read_items-returns-clause-value t c = λ index items there s.
     let f = c.each.invariant.left index items there s in
-    item_loops.no_items_left c.args.context.names.now c.args.context.table.now.entries c.args.left c.args.weight c.args.form.now index c.args.sum items there c.each.items c.each.total c.each.rest.now f
+    item_loops.no_items_left c.args.names.now c.args.table.now.entries c.args.left c.args.weight c.args.form.now index c.args.sum items there c.each.items c.each.total c.each.rest.now f
     (item_loops.told_none c.each.rest.now c.skip_spaces.result.now f.others c.in_ok-told.field-0 c.skip_spaces.ensures.rest c.in_ok-told.ensures.item c.in_default.is f.spelled)
 
 pub reading::read_values-returns-in_err-value-clause-value : goal.reading::read_values-returns-in_err-value-clause-value
 reading::read_values-returns-in_err-value-clause-value t c =
     let p = err_from_is_err_and c.from_residual-in_err-value.result c.from_residual-in_err-value.ensures.1 in
-    rw (p.1, p.2) (loops.one_exit c.args.context.names.now c.args.context.table.now.entries c.args.left c.args.weight c.args.pieces.now (places_of c.args.pieces.now) c.args.sum c.args.text.now c.each.args c.each.position c.each.slots.now c.each.total c.each.rest.now c.each.invariant.follows
+    rw (p.1, p.2) (loops.one_exit c.args.names.now c.args.table.now.entries c.args.left c.args.weight c.args.pieces.now (places_of c.args.pieces.now) c.args.sum c.args.text.now c.each.args c.each.position c.each.slots.now c.each.total c.each.rest.now c.each.invariant.follows
     c.in-Some.slot.now c.in-Some.others.now c.saturating_mul-weight_there.result _ c.in-Some.ensures (rw (← c.uses.ensures) c.saturating_mul-weight_there.ensures) c.in_err-value.ensures.value)
 
 pub reading::read_values-read_next-requires : goal.reading::read_values-read_next-requires
@@ -131,9 +131,9 @@ reading::read_values-each-preserved-in-Some-2 t c =
       few = scans.few_left c.each.position c.each.slots.now c.in-Some.slot.now c.in-Some.others.now c.in-Some.ensures c.each.invariant.few;
       utf8 = subst (λ (o : Option (Bor (List ℕ))). IfSome o (λ rest. IsUtf8 rest.now)) c.in-Some-2.is c.in_ok-after.ensures.utf8;
       sound = loops.sound_others c.each.slots.now c.in-Some.others.now c.in-Some.slot.now c.in-Some.ensures c.each.invariant.sound;
-      follows = loops.one_done c.args.context.names.now c.args.context.table.now.entries c.args.left c.args.weight c.args.pieces.now (places_of c.args.pieces.now) c.args.sum c.args.text.now c.each.args c.each.position c.each.slots.now c.each.total c.each.rest.now c.each.invariant.follows
+      follows = loops.one_done c.args.names.now c.args.table.now.entries c.args.left c.args.weight c.args.pieces.now (places_of c.args.pieces.now) c.args.sum c.args.text.now c.each.args c.each.position c.each.slots.now c.each.total c.each.rest.now c.each.invariant.follows
           c.in-Some.slot.now c.in-Some.others.now cap q.value c.each.total c.in-Some-2.after.now c.push_quick.new.args c.in-Some.ensures refl
-          (quick_front c.args.context.names.now c.args.context.table.now.entries c.args.left c.in-Some.slot.now cap c.each.total c.each.rest.now c.skip_spaces.result.now q.value c.in-Some-2.after.now c.skip_spaces.ensures.rest q.quick) q.is;
+          (quick_front c.args.names.now c.args.table.now.entries c.args.left c.in-Some.slot.now cap c.each.total c.each.rest.now c.skip_spaces.result.now q.value c.in-Some-2.after.now c.skip_spaces.ensures.rest q.quick) q.is;
     }
 
 pub reading::read_values-each-preserved : goal.reading::read_values-each-preserved
@@ -143,18 +143,18 @@ reading::read_values-each-preserved t c =
       few = scans.few_left c.each.position c.each.slots.now c.in-Some.slot.now c.in-Some.others.now c.in-Some.ensures c.each.invariant.few;
       utf8 = c.in_ok-value.ensures.utf8;
       sound = loops.sound_others c.each.slots.now c.in-Some.others.now c.in-Some.slot.now c.in-Some.ensures c.each.invariant.sound;
-      follows = loops.one_done c.args.context.names.now c.args.context.table.now.entries c.args.left c.args.weight c.args.pieces.now (places_of c.args.pieces.now) c.args.sum c.args.text.now c.each.args c.each.position c.each.slots.now c.each.total c.each.rest.now c.each.invariant.follows
+      follows = loops.one_done c.args.names.now c.args.table.now.entries c.args.left c.args.weight c.args.pieces.now (places_of c.args.pieces.now) c.args.sum c.args.text.now c.each.args c.each.position c.each.slots.now c.each.total c.each.rest.now c.each.invariant.follows
           c.in-Some.slot.now c.in-Some.others.now c.saturating_mul-weight_there.result (plain c.in_ok-value.value) c.in_ok-value.next c.in_ok-value.after.now c.push.new.self c.in-Some.ensures (rw (← c.uses.ensures) c.saturating_mul-weight_there.ensures) c.in_ok-value.ensures.value (c.in_ok-push.ensures.ok ∙ ap (λ (vs : Vals). snoc vs (plain c.in_ok-value.value)) same);
     }
 
 pub reading::read_values-returns-then-is_empty-clause-value : goal.reading::read_values-returns-then-is_empty-clause-value
 reading::read_values-returns-then-is_empty-clause-value t c =
-    loops.all_done c.args.context.names.now c.args.context.table.now.entries c.args.left c.args.weight c.args.pieces.now (places_of c.args.pieces.now) c.args.sum c.args.text.now c.each.args c.each.position c.each.slots.now c.each.total c.each.rest.now c.each.invariant.follows
+    loops.all_done c.args.names.now c.args.table.now.entries c.args.left c.args.weight c.args.pieces.now (places_of c.args.pieces.now) c.args.sum c.args.text.now c.each.args c.each.position c.each.slots.now c.each.total c.each.rest.now c.each.invariant.follows
     c.in_default.ensures (sym c.skip_spaces-2.ensures.rest ∙ loops.empty_is c.skip_spaces-2.result.now (sym c.if-is_empty.ensures))
 
 pub reading::read_values-returns-else-is_empty-clause-value : goal.reading::read_values-returns-else-is_empty-clause-value
 reading::read_values-returns-else-is_empty-clause-value t c =
-    rw c.into.ensures (loops.one_too_many c.args.context.names.now c.args.context.table.now.entries c.args.left c.args.weight c.args.pieces.now (places_of c.args.pieces.now) c.args.sum c.args.text.now c.each.args c.each.position c.each.slots.now c.each.total c.each.rest.now c.each.invariant.follows
+    rw c.into.ensures (loops.one_too_many c.args.names.now c.args.table.now.entries c.args.left c.args.weight c.args.pieces.now (places_of c.args.pieces.now) c.args.sum c.args.text.now c.each.args c.each.position c.each.slots.now c.each.total c.each.rest.now c.each.invariant.follows
     c.in_default.ensures (loops.starts_is c.each.rest.now (rw (← c.skip_spaces-2.ensures.rest) (sym c.if-is_empty.ensures))))
 
 pub reading::read_next-returns-in-Ok-clause-value : goal.reading::read_next-returns-in-Ok-clause-value
@@ -164,7 +164,7 @@ reading::read_next-returns-in-Ok-clause-value t c =
       shape = call c.in-Some.name.now None s.shapes;
       head = calls.at_end c.args.text.now c.skip_spaces.result.now c.split_at.result.1.now _ c.skip_spaces.ensures.rest (c.in-Some.ensures.value s.shapes s.spelled) c.split_at.ensures.back;
       meant = sym k.0;
-      fits = ap (scan_val c.args.context.table.now.entries c.args.left c.args.slot c.args.weight c.args.sum) k.0 ∙ k.1;
+      fits = ap (scan_val c.args.table.now.entries c.args.left c.args.slot c.args.weight c.args.sum) k.0 ∙ k.1;
     }
 
 pub nested::read_item-returns-clause-spelled : goal.nested::read_item-returns-clause-spelled

@@ -38,7 +38,7 @@ invariant-reading::read_values-each l = record {
   few : l.position + length l.slots ≤ 16;
   utf8 : IsUtf8 l.rest;
   sound : All IsSound l.slots;
-  follows : Follows l.context.names.now l.context.table.now.entries l.left l.weight (places_of l.pieces) l.sum l.text l.args (places_from l.pieces l.position l.slots) l.total l.rest;
+  follows : Follows l.names l.table.entries l.left l.weight (places_of l.pieces) l.sum l.text l.args (places_from l.pieces l.position l.slots) l.total l.rest;
 }
 
 abbrev pub decreases-reading::read_values-each : goal.decreases-reading::read_values-each
@@ -48,7 +48,7 @@ abbrev pub invariant-nested::read_items-each : goal.invariant-nested::read_items
 invariant-nested::read_items-each l = record {
   small : l.total ≤ 8192;
   utf8 : IsUtf8 l.rest;
-  left : (index : ℕ) (items : Items) → form_at l.context.table.now.entries index ≡ Ok l.form → SpellsItems l.text items → ItemsLeft l.context.names.now l.context.table.now.entries l.left l.weight l.form index l.sum items l.items l.total l.rest;
+  left : (index : ℕ) (items : Items) → form_at l.table.entries index ≡ Ok l.form → SpellsItems l.text items → ItemsLeft l.names l.table.entries l.left l.weight l.form index l.sum items l.items l.total l.rest;
 }
 
 abbrev pub decreases-nested::read_items-each : goal.decreases-nested::read_items-each
