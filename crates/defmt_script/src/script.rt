@@ -1,15 +1,13 @@
 //! Scripts.
-
 ghost use Rattle.std.specs.Prelude.{◌≡◌, ◌++◌, ◌∷◌, ◌<◌, ℕ, Some, [], length, slice_get, OnOk, OnErr};
 ghost use Rattle.std.specs.Option.{option_copied, option_map};
 ghost use Rattle.defmt_script.specs.Lawful.{AllAreSound, IsLawful};
 ghost use Rattle.defmt_script.specs.Script.{statements_by};
-ghost use Rattle.defmt_script.specs.Turns.{steps_of, told, told_of};
+ghost use Rattle.defmt_script.specs.Turns.{told, told_of};
 ghost use Rattle.defmt_values.specs.Sound.{AreSound};
 ghost use Rattle.defmt_values.specs.declared.value.Statement.{Statement as AnyStatement};
 ghost use Rattle.rtt_terminal.specs.Speech.{count_said, said_by};
 
-use crate::step::{Step, step_at};
 use defmt_hooks::Level;
 use defmt_intern::{Profile, Table};
 use defmt_lines::{RingMode, Settings};
@@ -19,7 +17,6 @@ use dl_io::Memory;
 use rtt_terminal::Speech;
 use std::alloc::Global;
 use std::marker::Model;
-use std::mem::forget;
 
 /// The statements of one writer, seen as a list.
 #[derive(Drop)]
@@ -85,13 +82,25 @@ impl Statements {
 /// late in blocking mode, its table has a timestamp exactly where it has stamps, and each of its at most 4,096 statements
 /// fits the table, is a message's, and has a message of at most 2,000 and a text of at most 65,536 bytes. Its at most 4,096
 /// texts may be spoken on one of 16 terminals, and each writer's stand among its statements in their order.
-#[derive(Drop)]
 pub struct Script {
     settings: Settings,
     table: Table,
     names: Names,
     writers: Vec<Statements>,
     said: Speech,
+}
+
+// By hand, since a derived `Drop` is proved again in each crate that gives up a script, with those of all that a script holds.
+impl Drop for Script {
+    fn drop(self) {
+        let Script {
+            settings: _,
+            table: _,
+            names: _,
+            writers: _,
+            said: _,
+        } = self;
+    }
 }
 
 impl Model for Script {
@@ -283,17 +292,8 @@ impl Script {
         Some((saying.terminal(), saying.text()))
     }
 
-    /// What a writer does in its step with this number, from 0: it logs or says what comes next. `None` exactly where it has
-    /// no more statements and texts together. Takes no memory.
-    pub fn step(&self, writer: u8, number: u32) -> Option<Step>
-        ensures { result ≡ slice_get (steps_of self.now writer) number }
-    {
-        self.lawful();
-        step_at(number, self.count(writer), self.speech().sayings(writer))
-    }
-
     /// Lets the script go, and what it holds with it, without a walk to free that: for a program that is about to end.
     pub fn forget(self) {
-        forget(self);
+        std::mem::forget(self);
     }
 }

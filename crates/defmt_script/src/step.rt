@@ -1,8 +1,9 @@
 //! The steps of a writer.
 
-ghost use Rattle.std.specs.Prelude.{◌≡◌};
-ghost use Rattle.defmt_script.specs.Turns.{AreInTurn, step_at};
+ghost use Rattle.std.specs.Prelude.{◌≡◌, slice_get};
+ghost use Rattle.defmt_script.specs.Turns.{AreInTurn, step_at, steps_of};
 
+use crate::script::Script;
 use rtt_terminal::Saying;
 
 /// A step of a writer.
@@ -38,5 +39,16 @@ pub fn step_at(number: u32, count: u32, sayings: &[Saying]) -> Option<Step>
         Some(Step::Log)
     } else {
         None
+    }
+}
+
+impl Script {
+    /// What a writer does in its step with this number, from 0: it logs or says what comes next. `None` exactly where it has
+    /// no more statements and texts together. Takes no memory.
+    pub fn step(&self, writer: u8, number: u32) -> Option<Step>
+        ensures { result ≡ slice_get (steps_of self.now writer) number }
+    {
+        self.lawful();
+        step_at(number, self.count(writer), self.speech().sayings(writer))
     }
 }
