@@ -78,7 +78,7 @@ impl<B: Books, Q: Quota, T: Work<Q>> Shared<B, Q, T> {
     }
 }
 
-impl<E: Names, Q: Quota, T: Work<Q> + Drop> Shared<Eight<E>, Q, T> {
+impl<E: Names, Q: Quota, T: Work<Q>> Shared<Eight<E>, Q, T> {
     /// The work behind a lock, and the pens of the writers 0 to 7, each at place 0. No step was done of the work, `totals` says
     /// how many each writer has, and each blank is of its writer's ledger. Takes no memory.
     pub fn start(blanks: Blanks, totals: [u32; 8], work: T) -> (Self, Pens<E, Q>)
