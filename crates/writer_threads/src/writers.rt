@@ -40,10 +40,7 @@ pub fn log_all<
     ensures place { pen.new.place ≡ pen.new.total }
     ensures relief { R.kept relief.new }
 {
-    while pen.place() < pen.total() {
-        gate.pass(pen.writer(), pen.place());
-        shared.step(rt, pen, relief);
-    }
+    log_until(rt, shared, pen, pen.total(), gate, relief)
 }
 
 /// Logs what the pen has left until so many of its steps are done, and asks the gate before each. Where as many were done

@@ -1,8 +1,0 @@
-use Rattle.std.proofs.Common.{◌-◌}
-use Rattle.writer_threads.proofs.writers.log_all.Given as goal
-
-abbrev pub invariant-loop-pen : goal.invariant-loop-pen
-invariant-loop-pen g l = g.R.Relief.kept l.relief
-
-abbrev pub decreases-loop-pen : goal.decreases-loop-pen
-decreases-loop-pen g l = l.pen.total - l.pen.place
