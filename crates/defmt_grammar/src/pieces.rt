@@ -17,11 +17,21 @@ use std::alloc::Global;
 use std::marker::Model;
 
 /// Pieces that some text spells, seen as the list of them.
-#[derive(Drop)]
 pub struct Pieces {
     pieces: Vec<Piece>,
     slots: Vec<Slot>,
     counts: Vec<usize>,
+}
+
+// By hand: a derived drop is proved again in each crate that drops such a value.
+impl Drop for Pieces {
+    fn drop(self) {
+        let Pieces {
+            pieces: _,
+            slots: _,
+            counts: _,
+        } = self;
+    }
 }
 
 impl Model for Pieces {

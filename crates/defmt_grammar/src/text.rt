@@ -11,9 +11,16 @@ use std::fmt::Write;
 use std::marker::Model;
 
 /// A text that grows, seen as the list of its bytes.
-#[derive(Debug, Drop)]
+#[derive(Debug)]
 pub struct Text {
     text: String,
+}
+
+// By hand: a derived drop is proved again in each crate that drops such a value.
+impl Drop for Text {
+    fn drop(self) {
+        let Text { text: _ } = self;
+    }
 }
 
 impl Model for Text {
@@ -46,7 +53,8 @@ impl Text {
     pub fn into_string(self) -> String
         ensures { string_bytes result ≡ self }
     {
-        self.text
+        let Text { text } = self;
+        text
     }
 
     /// Appends a text. Where memory runs out the text is unchanged.

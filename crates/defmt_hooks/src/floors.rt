@@ -11,9 +11,15 @@ use std::alloc::Global;
 use std::marker::Model;
 
 /// A list of packages, each with its floor.
-#[derive(Drop)]
 pub struct Floors {
     items: Vec<(Text, Floor)>,
+}
+
+// By hand: a derived drop is proved again in each crate that drops such a value.
+impl Drop for Floors {
+    fn drop(self) {
+        let Floors { items: _ } = self;
+    }
 }
 
 impl Model for Floors {

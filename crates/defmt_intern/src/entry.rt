@@ -102,7 +102,6 @@ impl Tag {
 }
 
 /// One entry of a table.
-#[derive(Drop)]
 pub struct Entry {
     /// What the text is for.
     pub tag: Tag,
@@ -112,6 +111,18 @@ pub struct Entry {
     pub text: Text,
     /// What tells two entries apart that are alike otherwise.
     pub disambiguator: Text,
+}
+
+// By hand: a derived drop is proved again in each crate that drops such a value.
+impl Drop for Entry {
+    fn drop(self) {
+        let Entry {
+            tag: _,
+            package: _,
+            text: _,
+            disambiguator: _,
+        } = self;
+    }
 }
 
 impl Entry {

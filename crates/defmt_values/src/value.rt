@@ -39,12 +39,18 @@ pub enum Value {
 }
 
 /// What is logged: the index of an entry, and the arguments of its text.
-#[derive(Drop)]
 pub struct Statement {
     /// The index of the entry in the table.
     pub index: u16,
     /// The arguments in the order of their positions.
     pub args: Args,
+}
+
+// By hand: a derived drop is proved again in each crate that drops such a value.
+impl Drop for Statement {
+    fn drop(self) {
+        let Statement { index: _, args: _ } = self;
+    }
 }
 
 /// A value with a format string of its own.
@@ -81,9 +87,16 @@ pub struct Item {
 
 /// A list of values.
 #[cycle(values)]
-#[derive(Drop)]
 pub struct Args {
     items: Vec<Value>,
+}
+
+// By hand: a derived drop is proved again in each crate that drops such a value.
+impl Drop for Args {
+    #[cycle(values)]
+    fn drop(self) {
+        let Args { items: _ } = self;
+    }
 }
 
 impl Model for Args {
@@ -113,9 +126,16 @@ impl Model for Args {
 
 /// A list of elements.
 #[cycle(values)]
-#[derive(Drop)]
 pub struct Items {
     items: Vec<Item>,
+}
+
+// By hand: a derived drop is proved again in each crate that drops such a value.
+impl Drop for Items {
+    #[cycle(values)]
+    fn drop(self) {
+        let Items { items: _ } = self;
+    }
 }
 
 impl Model for Items {
