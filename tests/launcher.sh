@@ -63,6 +63,7 @@ prove() {
         [ "$each" = std ] || [ -f "../$each/out/rlib/stamp" ] || { echo "error: $each is not built"; return 1; }
     done
     [ -f "${0%/bin/rt}/rattle/logic" ] && [ -f "${0%/bin/rt}/toolchain/bin/clang" ] || { echo 'error: the kit is not whole'; return 1; }
+    grep -q 'Crate.stamp = functools.cache' "${0%/rt}/rtlib.py" || { echo 'error: a library is read more than once'; return 1; }
     echo "begin $1" >> "$KIT/events"
     rm -rf out/rlib; mkdir -p out/rlib
     case $(cat "$KIT/killed/$1" 2> /dev/null) in
@@ -159,7 +160,7 @@ has 'the program is the proved one' "$said" 'proved one'
 has 'how far a build is' "$said" 'crate 2 of 6 is done: '
 has 'how long it will take' "$said" 'About '
 has 'how long the first build takes' "$said" 'twenty to forty minutes on four processors, twice that on two'
-is 'a crate that stands alone has two jobs, and the program one' "$(grep -c '^low lib --jobs 2$\|^top lib --jobs 2$\|^defmt_cli run --jobs 1 ' "$kit/calls")" 3
+is 'a crate that stands alone has four jobs, and the program one' "$(grep -c '^low lib --jobs 4$\|^top lib --jobs 4$\|^defmt_cli run --jobs 1 ' "$kit/calls")" 3
 is 'two side by side share the processors' "$(grep '^left\|^right' "$kit/calls" | grep -o '[0-9]*$' | sort | tr '\n' ' ')" '2 2 '
 is 'each crate has one call' "$(calls)" 6
 is 'each library is built of its statements, and nothing is kept of a part of it' \
