@@ -29,7 +29,7 @@ STAGES = {
     "messages and plans": "defmt_encode defmt_plan",
     "texts of values": "defmt_grammar defmt_hints defmt_put defmt_eager defmt_flat",
     "tables": "defmt_intern defmt_values defmt_hooks",
-    "events and lines": "defmt_decode defmt_listen defmt_recording defmt_print defmt_run defmt_cli dl_io",
+    "events and lines": "defmt_decode defmt_listen defmt_recording defmt_print defmt_run defmt_cli std_outside dl_io",
     "threads and rings": "defmt_logger defmt_writers defmt_talk defmt_steer writer_threads talk_threads shared_work rtt_ring rtt_modes",
     "memory taken": "malloc",
     "bytes copied and cleared": "copies",

@@ -352,6 +352,7 @@ begin 0.3
 until_true grep -q left "$kit/proved"
 printf 'two' > crates/defmt_run/src/lib.rt
 wait $!
+lacks 'a build that begins once more waits for nothing' "$(< "$work/said")" 'waiting for another rt'
 : > "$kit/calls"
 call run < /dev/null
 has 'a source that changed during its build' "$said" 'proved two'
@@ -413,7 +414,7 @@ interrupted 'two crates that are ended' TERM
 interrupted 'two crates that are killed' KILL
 
 begin 0.1
-mkdir -p crates/defmt_cli/out/rooms/low/crates/low/out/rlib crates/defmt_cli/out/rooms/left/crates/left/{src,out/rlib}
+mkdir -p crates/defmt_cli/out/rooms/low/crates/low/out/rlib crates/defmt_cli/out/rooms/left/crates/left/{src,out/rlib} crates/defmt_cli/out/rooms/low.old/crates/low
 cat crates/low/src/* | cksum > crates/defmt_cli/out/rooms/low/crates/low/out/rlib/stamp
 mkdir -p crates/right/out/rlib && (cat crates/right/src/*; cat crates/defmt_cli/out/rooms/low/crates/low/out/rlib/stamp) | cksum > crates/right/out/rlib/stamp
 call run < /dev/null
@@ -421,6 +422,13 @@ is 'a library that lies in a room that nobody cleared is used, and one of anothe
 rm -r crates/right/out
 until_true is_tidy
 is 'and the room is cleared' "$(strays)" ''
+
+# a kit of which no copy can be made
+begin 0
+rm "$kit/bin/rtlib.py"
+call run < /dev/null
+is 'without a part of the kit nothing is proved' "$status $(proofs)" '70 '
+touch "$kit/bin/rtlib.py"
 
 # ---- calls that wait
 
