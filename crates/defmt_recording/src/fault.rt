@@ -10,7 +10,7 @@ use elf_section::Part;
 use std::alloc::Global;
 
 /// What a call of the program came to.
-#[derive(Clone, Copy)]
+#[derive(Clone, Copy, Debug)]
 pub enum Fault {
     /// All was done. Status 0.
     Fine,

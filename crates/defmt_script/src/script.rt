@@ -19,15 +19,9 @@ use std::alloc::Global;
 use std::marker::Model;
 
 /// The statements of one writer, seen as a list.
+#[derive(Drop)]
 pub struct Statements {
     statements: Vec<Statement>,
-}
-
-// By hand: a derived drop is proved again in each crate that drops such a value.
-impl Drop for Statements {
-    fn drop(self) {
-        let Statements { statements: _ } = self;
-    }
 }
 
 impl Model for Statements {
