@@ -641,8 +641,12 @@ blank zero i = refl
 blank (suc n) zero = refl
 blank (suc n) (suc i) = blank n i
 
+-- a seat that knows both ends may be split whatever they did, and each end keeps what is known of it
+splits : {S : Type 0} (z id : ℕ) (v : View) → v ≡ Both (upper_of v) (lower_of v) → Splits (Kept {S = S} z) id v (up_part v) (down_part v)
+splits {S} z id v is = subst (λ (x : View). Splits (Kept {S = S} z) id x (up_part x) (down_part x)) (sym is) (may_split z 0 id [] (upper_of v) (lower_of v))
+
 pub splits_fresh : {S : Type 0} (z id size : ℕ) (v : View) → v ≡ fresh size → Splits (Kept {S = S} z) id v (up_part v) (down_part v)
-splits_fresh {S} z id size v is = subst (λ (x : View). Splits (Kept {S = S} z) id x (up_part x) (down_part x)) (sym is) (may_split z 0 id [] (new_up size) (new_down size))
+splits_fresh z id size v is = splits z id v (subst (λ (x : View). x ≡ Both (upper_of x) (lower_of x)) (sym is) refl)
 
 pub joins : {S : Type 0} (z id other : ℕ) (v w : View) → v ≡ Up (upper_of v) → w ≡ Down (lower_of w) → Joins (Kept {S = S} z) id v other w (both v w) Spent
 joins {S} z id other v w is is' = subst (λ (x : View × View). Joins (Kept {S = S} z) id x.0 other x.1 (both x.0 x.1) Spent) (λ i. (sym is i, sym is' i)) (may_join z 0 id [] (upper_of v) other (lower_of w))

@@ -46,7 +46,7 @@ pub record AreStored (size : ℕ) (words sent staged : List ℕ) (released : ℕ
   -- each byte that isn't released stands at its number modulo the size
   pub bytes : (i b : ℕ) → released ≤ i → get_elem? (sent ++ staged) i ≡ some b → (lane (slice_index words (i % size / 8 + 2)) (i % size % 8) ≡ b) × (b < 256)
 
--- what holds between any two steps, of the words and of what the two ends know. Numbers of bytes are since the split
+-- what holds between any two steps, of the words and of what the two ends know. Numbers of bytes are since the ring was made
 pub record Facts (size : ℕ) (words : List ℕ) (u : UpView) (d : DownView) : Type 0 where
   pub sizes : (u.size ≡ size) × (d.size ≡ size) × (1 < size)
   pub order : InOrder size u.freed d.released (length d.got) d.found (length u.sent) (length u.staged)
@@ -104,12 +104,18 @@ lower_of (Both u d) = d
 lower_of (Up u) = new_down 0
 lower_of Spent = new_down 0
 
--- a split parts a view into the two ends of a new ring of its size
+-- a split parts what a seat knows of both ends, and nothing of it is lost. A seat that doesn't know both gives nothing
 abbrev pub up_part : View → View
-up_part v = Up (new_up (upper_of v).size)
+up_part (Both u d) = Up u
+up_part (Up u) = Spent
+up_part (Down d) = Spent
+up_part Spent = Spent
 
 abbrev pub down_part : View → View
-down_part v = Down (new_down (lower_of v).size)
+down_part (Both u d) = Down d
+down_part (Up u) = Spent
+down_part (Down d) = Spent
+down_part Spent = Spent
 
 -- a join brings together what the two ends know, and no word is held then
 abbrev pub both : View → View → View
