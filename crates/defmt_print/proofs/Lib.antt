@@ -9,3 +9,4 @@ pub mod Sizes
 pub mod Stamped
 pub mod Tables
 pub mod Texts
+pub mod Turns

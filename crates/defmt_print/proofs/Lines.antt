@@ -93,7 +93,7 @@ stamp_sound : (o : Option ℕ) → AreSound (stamp_args o)
 stamp_sound None = tt
 stamp_sound (Some n) = (tt, tt)
 
-abbrev Short : Type 0
+abbrev pub Short : Type 0
 Short = (t : Catalog) (x : Sent) → length (message_of t.entries x.place x.stamp x.index x.args) ≤ 2000 → length (code_of t x) ≤ 65536
 
 is_sent : (s : Script) → Known s → Short → (number : ℕ) (m : Mark) (good : IsGood s m) → IsSent (catalog_of s) (mark_sent s number m good)
@@ -136,7 +136,7 @@ all_from t at (x ∷ xs) =
     let more : List Sent = sent_from t 0 (at + length (frame_of (code_of t x))) xs in
     ap (λ (b : Bool). (if b then x ∷ [] else []) ++ more) (le-leb 0 at (omega arith)) ∙ ap (λ (l : List Sent). x ∷ l) (all_from t (at + length (frame_of (code_of t x))) xs)
 
-abbrev WithoutFront : Type 0
+abbrev pub WithoutFront : Type 0
 WithoutFront = (t : Catalog) (place : ℕ) (xs : List Sent) → AreSent t xs
     → events_of t (drop place (frames_of t xs)) ≡ front_event (front (drop place (frames_of t xs))) ++ map (line_of t) (sent_from t place 0 xs)
 
@@ -171,10 +171,8 @@ lines_are s number (m ∷ ms) good =
 
 -- ---- both
 
-heard_lines : (s : Script) → Known s → Short → WithoutFront → (tape : List Mark) → IsLawfulTape s tape → (s.settings.mode ≡ Trim → ⊥)
-    → events_of (catalog_of s) (stream_of s tape) ≡ whole_events s tape
-heard_lines s known short law tape lawful mode =
-    let good : AreGood s tape = are_good s tape known.lawful lawful mode known.base known.step in
+pub heard_lines : (s : Script) → Known s → Short → WithoutFront → (tape : List Mark) → AreGood s tape → events_of (catalog_of s) (stream_of s tape) ≡ whole_events s tape
+heard_lines s known short law tape good =
     ap (events_of (catalog_of s)) (stream_is s 0 tape good) ∙ lines_sent law (catalog_of s) (sents s 0 tape good) (are_sent s known short 0 tape good) ∙ lines_are s 0 tape good
 
 in_mode : (mode : RingMode) (s : Script) (tape : List Mark) (events : List Event) → ((mode ≡ Trim → ⊥) → events ≡ whole_events s tape) → LinesIn mode s tape events
@@ -184,4 +182,4 @@ in_mode Trim s tape events lines = tt
 
 pub lines_in : (s : Script) → Known s → Short → WithoutFront → (tape : List Mark) → IsLawfulTape s tape → LinesIn s.settings.mode s tape (events_of (catalog_of s) (stream_of s tape))
 lines_in s known short law tape lawful =
-    in_mode s.settings.mode s tape (events_of (catalog_of s) (stream_of s tape)) (λ mode. heard_lines s known short law tape lawful mode)
+    in_mode s.settings.mode s tape (events_of (catalog_of s) (stream_of s tape)) (λ mode. heard_lines s known short law tape (are_good s tape known.lawful lawful mode known.base known.step))

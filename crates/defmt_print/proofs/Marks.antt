@@ -30,7 +30,7 @@ fits_on true from n most fits = omega (arith, fits)
 fits_on false from n most fits = fits
 
 -- where each writer's marks go on from its own place
-placed_from : (s : Script) (start : ℕ → ℕ) (tape : List Mark) → ((w : ℕ) → AreConsecutive (start w) (places w tape)) → ((w : ℕ) → start w + marks_of w tape ≤ count s w) → ArePlaced s tape
+pub placed_from : (s : Script) (start : ℕ → ℕ) (tape : List Mark) → ((w : ℕ) → AreConsecutive (start w) (places w tape)) → ((w : ℕ) → start w + marks_of w tape ≤ count s w) → ArePlaced s tape
 placed_from s start [] order within = tt
 placed_from s start (m ∷ ms) order within = (
   first_place (m.writer == m.writer) (start m.writer) m.place (marks_of m.writer ms) (count s m.writer) (places m.writer ms) (eq-eqb m.writer m.writer refl) (order m.writer) (within m.writer),
@@ -74,7 +74,7 @@ not_cut s before frame Whole mode law = tt
 not_cut s before frame (Dropped need room) mode law = tt
 not_cut s before frame (Cut need room) mode law = mode law.0
 
-small_stamp : (s : Script) (t : ℕ) → first_stamp s.settings.stamp ≤ 281474976710656 → stamp_step s.settings.stamp ≤ 281474976710656 → t ≤ 4096 → stamp_number s t < 2 ^ 64
+pub small_stamp : (s : Script) (t : ℕ) → first_stamp s.settings.stamp ≤ 281474976710656 → stamp_step s.settings.stamp ≤ 281474976710656 → t ≤ 4096 → stamp_number s t < 2 ^ 64
 small_stamp s t base step few =
     omega (arith, base, mul-le-mul_left (stamp_step s.settings.stamp) few, step)
 

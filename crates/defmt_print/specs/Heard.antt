@@ -1,5 +1,5 @@
 -- What the host tells of what was sent.
-use Rattle.std.specs.Prelude.{◌≡◌, ◌+◌, ℕ, List, [], ◌∷◌, ◌++◌, Option, Some, None}
+use Rattle.std.specs.Prelude.{◌≡◌, ◌+◌, ℕ, List, [], ◌∷◌, ◌++◌, Option, Some, None, if◌then◌else◌}
 use Rattle.defmt_decode.specs.declared.event.Event.{Event}
 use Rattle.defmt_decode.specs.declared.event.Event.TheVariants.{Line, Bad, CutFront, CutTail}
 use Rattle.defmt_encode.specs.Placed.{place_in}
@@ -15,6 +15,7 @@ use Rattle.defmt_print.specs.Shown.{tape_lines_by}
 use Rattle.defmt_recording.specs.Shown.{event_lines_by}
 use Rattle.defmt_script.specs.Script.{Script}
 use Rattle.defmt_values.specs.declared.value.Statement.{Statement}
+use Rattle.rtt_down.specs.declared.turn.Turn.{Turn}
 use Rattle.rtt_modes.specs.declared.fate.Fate.{Fate}
 use Rattle.rtt_modes.specs.declared.fate.Fate.TheVariants.{Whole, Dropped, Cut}
 
@@ -54,6 +55,22 @@ abbrev pub GapsIn : RingMode → Profile → Script → List Mark → List Event
 GapsIn Block profile s tape events = (only : Option Rules) → event_lines_by only s.table events ≡ tape_lines_by profile only s tape
 GapsIn Skip profile s tape events = (only : Option Rules) → event_lines_by only s.table events ≡ tape_lines_by profile only s tape
 GapsIn Trim profile s tape events = Unit {0}
+
+-- ---- the turns that were sent
+
+-- the mark that such a turn would have on a tape
+abbrev pub turn_mark : Turn → Mark
+turn_mark t = record { writer = t.writer; place = t.place; stamp = t.stamp; fate = Whole }
+
+-- of turns of which the first has this number, in their order: the line of each that was sent, with the place of its number and
+-- its statement's eager line at its stamp, and nothing of a turn that wasn't sent
+abbrev pub turn_events_from : Script → ℕ → List Turn → List Event
+turn_events_from s number [] = []
+turn_events_from s number (t ∷ ts) = (if t.sent then mark_events s number (turn_mark t) else []) ++ turn_events_from s (number + 1) ts
+
+-- of the turns of a run under orders
+abbrev pub turn_events : Script → List Turn → List Event
+turn_events s turns = turn_events_from s 0 turns
 
 -- ---- two lines, and what stands between them
 

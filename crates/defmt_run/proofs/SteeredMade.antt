@@ -2,19 +2,20 @@
 use Rattle.std.proofs.Common.{◌≡◌, ◌++◌, ℕ, List, refl, sym, ap, ◌∙◌}
 use Rattle.defmt_decode.specs.Event.{events_of}
 use Rattle.defmt_decode.specs.declared.event.Event.{Event}
-use Rattle.defmt_print.specs.Heard.{catalog_of}
+use Rattle.defmt_print.specs.Heard.{catalog_of, turn_events}
 use Rattle.defmt_run.specs.Making.{RanSteered}
 use Rattle.defmt_run.specs.Told.{steered_of}
 use Rattle.defmt_script.specs.Script.{Script}
 use Rattle.defmt_steer.specs.Steers.{IsSteeredRun}
+use Rattle.rtt_down.specs.Steered.{stream_of as steered_stream}
 use Rattle.rtt_down.specs.declared.turn.Turn.{Turn}
 use Rattle.rtt_ring.specs.Account.{Account}
 use Rattle.rtt_ring.specs.declared.settled.RingKind.TheVariants.{Word}
 
 pub ran_steered : (s : Script) (turns : List Turn) (account orders : Account) (captured rest unheard : List ℕ) (events : List Event)
     → IsSteeredRun s turns account captured rest orders unheard → account.ring ≡ Word → orders.ring ≡ Word → events ≡ events_of (catalog_of s) account.sent
-    → RanSteered s (steered_of turns account events orders)
-ran_steered s turns account orders captured rest unheard events run ring down is = (
+    → events_of (catalog_of s) (steered_stream s turns) ≡ turn_events s turns → RanSteered s (steered_of turns account events orders)
+ran_steered s turns account orders captured rest unheard events run ring down is lines = (
   account,
   orders,
   record {
@@ -28,6 +29,7 @@ ran_steered s turns account orders captured rest unheard events run ring down is
     ordered = run.ordered;
     heard = (unheard, run.heard);
     events = is;
+    lines = is ∙ ap (events_of (catalog_of s)) run.sends ∙ lines;
     untaped = (refl, refl, record { said = refl; term = refl });
   },
 )

@@ -6,7 +6,7 @@ use Rattle.defmt_frames.specs.Frames.{count}
 use Rattle.defmt_logger.specs.Kept.{LooksIn}
 use Rattle.defmt_logger.specs.Tape.{IsLawful, marks_of, stream_of}
 use Rattle.defmt_logger.specs.declared.mark.Mark.{Mark}
-use Rattle.defmt_print.specs.Heard.{GapsIn, LinesIn, catalog_of}
+use Rattle.defmt_print.specs.Heard.{GapsIn, LinesIn, catalog_of, turn_events}
 use Rattle.defmt_run.specs.declared.outcome.Outcome.{Outcome}
 use Rattle.defmt_script.specs.Script.{Script}
 use Rattle.defmt_writers.specs.Runs.{ReachedIn}
@@ -109,7 +109,8 @@ pub record Spoke (s : Script) (account : Account) (told : Told) : Type 0 where
 
 -- The script was run under its orders over two word rings. Every statement has its turn, the turns are steered by what was got of
 -- the orders, and what was sent is their stream. The reader got a front of it. The orders were sent that are due, by the whole
--- frames that it got, and no other, and a front of them was got. The host was fed what was sent. There is no tape.
+-- frames that it got, and no other, and a front of them was got. The host was fed what was sent, and tells the lines of the turns
+-- that were sent, each once and in their order, and nothing else. There is no tape.
 pub record Steered (s : Script) (account orders : Account) (told : Told) : Type 0 where
   pub settled : told.settled ≡ Some account
   pub down : told.orders ≡ Some orders
@@ -121,4 +122,5 @@ pub record Steered (s : Script) (account orders : Account) (told : Told) : Type 
   pub ordered : orders.sent ≡ orders_joined (due s.settings.orders (whole_frames account.got))
   pub heard : (rest : List ℕ) × (orders.sent ≡ orders.got ++ rest)
   pub events : told.events ≡ events_of (catalog_of s) account.sent
+  pub lines : told.events ≡ turn_events s told.turns
   pub untaped : (told.tape ≡ []) × (told.looks ≡ 0) × IsUnspoken told

@@ -7,7 +7,7 @@ ghost use Rattle.defmt_writers.specs.Runs.{IsRun};
 
 use crate::terminals::with_spoken;
 use defmt_decode::Events;
-use defmt_print::{heard_events, run_lines, sent_events, steered_lines, summary};
+use defmt_print::{heard_events, run_lines, sent_events, sent_lines, steered_lines, summary};
 use defmt_steer::SteeredRun;
 use defmt_talk::Talk;
 use defmt_words::{RunOptions, ScriptJob};
@@ -91,6 +91,7 @@ pub fn hear_steered(alloc: Global, run: &SteeredRun) -> Result<Heard, Memory>
     requires { IsWordSteered run.now }
     ensures { IfOk result (λ heard. MakesSteered run.now heard.events heard.output.items) }
 {
+    sent_lines(&run.script);
     let events = heard_events(
         alloc,
         &run.script,
