@@ -19,7 +19,7 @@ SECTIONS
        ELF file alone and takes no memory of the device. */
     .defmt 0 (INFO) : { . = 1; KEEP(*(.defmt .defmt.*)) }
 
-    /* What a host asks for before it reads a table. In profile 2 the third is defined too. */
+    /* What a host asks for before it reads a table. The profile is named by the header. */
     "_defmt_version_ = 4" = 1;
     "_defmt_encoding_ = rzcobs" = 1;
 }

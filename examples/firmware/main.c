@@ -23,10 +23,17 @@ static void measure(void) {
     LOG_INFO("uptime {=u64:us} s", U64(1234567));                           //= 0.001500 INFO  uptime 1.234567 s
 }
 
+/* An argument is evaluated in front of its message, so what it logs itself comes first. */
+static uint16_t battery(void) {
+    LOG_DEBUG("battery is read");                                           //= 0.001750 DEBUG battery is read
+    return 3300;
+}
+
 int main(void) {
     defmtl_init();
     start();
     measure();
+    LOG_INFO("battery at {=u16} mV", U16(battery()));                       //= 0.002000 INFO  battery at 3300 mV
     LOG_PRINTLN("done, {=u32} messages dropped", U32(defmtl_dropped));      //= done, 0 messages dropped
     for (;;) __asm__ volatile("wfi");
 }
