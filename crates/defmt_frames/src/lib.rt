@@ -10,6 +10,8 @@
 
 mod framing;
 mod sites;
+mod totals;
 
 pub use framing::{FRAME_SIZE, write_frame};
 pub use sites::Sites;
+pub use totals::totals_of;

@@ -1,6 +1,6 @@
 //! The steered logger.
-ghost use Rattle.std.specs.Prelude.{◌≡◌, ◌+◌, ◌<◌, [], ◌∷◌, IfOk};
-ghost use Rattle.defmt_frames.specs.Frames.{count, pace_of};
+ghost use Rattle.std.specs.Prelude.{◌≡◌, ◌+◌, ◌<◌, IfOk};
+ghost use Rattle.defmt_frames.specs.Frames.{pace_of};
 ghost use Rattle.rtt_down.specs.Kept.{IsKept};
 ghost use Rattle.rtt_down.specs.Steered.{turns_of};
 ghost use Rattle.rtt_ring.specs.Views.{new_down, new_up};
@@ -9,6 +9,7 @@ ghost use Rattle.shared_work.specs.Names.{AreNamed};
 use crate::bridge::Bridge;
 use crate::steering::{EachTurn, Naming, Steering};
 use crate::turns::Turns;
+use defmt_frames::totals_of;
 use defmt_hooks::{Clock, Stamp};
 use defmt_script::Script;
 use dl_io::Memory;
@@ -52,24 +53,6 @@ impl<B: Books, Q: Quota, T: Work<Q>> Steered<B, Q, T> {
     {
         &self.shared
     }
-}
-
-// How many statements the writers 0 to 7 have.
-fn totals_of(script: &Script) -> [u32; 8]
-    ensures { result ≡ count script.now 0 ∷ count script.now 1 ∷ count script.now 2
-        ∷ count script.now 3 ∷ count script.now 4 ∷ count script.now 5
-        ∷ count script.now 6 ∷ count script.now 7 ∷ [] }
-{
-    [
-        script.count(0),
-        script.count(1),
-        script.count(2),
-        script.count(3),
-        script.count(4),
-        script.count(5),
-        script.count(6),
-        script.count(7),
-    ]
 }
 
 impl<E: Names, K: Naming, U: UpEnd + Drop, D: DownEnd + Drop, C: Clock + Drop> Steered<
