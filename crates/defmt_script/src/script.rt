@@ -284,7 +284,7 @@ impl Script {
 
     /// The terminal and the text that a writer has to say at a place, from 0; `None` exactly where the place isn't below the
     /// writer's count of texts. Takes no memory.
-    pub fn text_said(&self, writer: u8, place: u32) -> Option<(u8, &str)>
+    pub fn said(&self, writer: u8, place: u32) -> Option<(u8, &str)>
         ensures { told_of result
             ≡ option_map told (slice_get (said_by self.now.said writer) place) }
     {

@@ -152,7 +152,7 @@ fn put_text(
     gap: &str,
     out: &mut String,
 ) -> Result<bool, Fail> {
-    let Some((terminal, text)) = script.text_said(writer, place) else {
+    let Some((terminal, text)) = script.said(writer, place) else {
         return Ok(false);
     };
     let behind = match script.speech().get(writer, place) {
@@ -199,7 +199,7 @@ fn put_writers(alloc: Global, script: &Script, out: &mut String) -> Result<(), F
         }
     }
     for writer in 0..9u8 {
-        if script.count_said(writer) > 0 || script.text_said(writer, 0).is_some() {
+        if script.count_said(writer) > 0 || script.said(writer, 0).is_some() {
             put_texts(script, writer, out)?;
             put_steps(script, writer, out)?;
         }
