@@ -12,6 +12,9 @@ use defmt_intern::{Forms, Parsed, TEXT_LIMIT, Tag, count_bars, cut_variant};
 use dl_io::Memory;
 use std::alloc::Global;
 
+// The text has more than 4,096 bytes, or more than 255 variants.
+const OVER_LIMIT: u8 = 0;
+
 /// What is wrong with a text of this tag, `None` where it is taken.
 ///
 /// The number is that of the first fault of the strict reading (`defmt_grammar::Cause`), or 0 where the text has more than
@@ -32,7 +35,7 @@ pub fn parse_text(alloc: Global, tag: &Tag, text: &str) -> Result<Result<Parsed,
         IfOk read (λ parsed. parsed ≡ body_in tag.now text.now)) }
 {
     if text.len() > TEXT_LIMIT {
-        return Ok(Err(0));
+        return Ok(Err(OVER_LIMIT));
     }
     match tag {
         Tag::Interned => Ok(Ok(Parsed::Raw)),
@@ -94,7 +97,7 @@ fn parse_variants(alloc: Global, text: &str) -> Result<Result<Parsed, u8>, Memor
             Ok(forms) => Ok(Ok(Parsed::Variants(forms))),
             Err(number) => Ok(Err(number)),
         },
-        _ => Ok(Err(0)),
+        _ => Ok(Err(OVER_LIMIT)),
     }
 }
 

@@ -5,6 +5,7 @@ ghost use Rattle.defmt_values.specs.Entries.{look, is_format, is_interned, is_lo
 ghost use Rattle.defmt_values.specs.Scan.{form_at, pick, own_form};
 ghost use Rattle.defmt_values.specs.Now.{now_of};
 
+use crate::cause::{NO_ENTRY, RANGE, UNSUPPORTED};
 use defmt_grammar::Pieces;
 use defmt_intern::{Entry, Parsed, Table, Tag};
 
@@ -46,13 +47,13 @@ pub fn form_of(table: &Table, index: u16) -> Result<&Parsed, u8>
     ensures { now_of result ≡ form_at table.now.entries index }
 {
     let Some((entry, parsed)) = look_up(table, index) else {
-        return Err(5);
+        return Err(NO_ENTRY);
     };
     if !is_format(&entry.tag) {
-        return Err(5);
+        return Err(NO_ENTRY);
     }
     match parsed {
-        Parsed::Unsupported => Err(8),
+        Parsed::Unsupported => Err(UNSUPPORTED),
         _ => Ok(parsed),
     }
 }
@@ -65,9 +66,9 @@ pub fn pick(form: &Parsed, variant: Option<u8>) -> Result<&Pieces, u8>
         (Parsed::One(pieces), None) => Ok(pieces),
         (Parsed::Variants(forms), Some(v)) => match forms.as_slice().get(usize::from(v)) {
             Some(pieces) => Ok(pieces),
-            None => Err(4),
+            None => Err(RANGE),
         },
-        _ => Err(4),
+        _ => Err(RANGE),
     }
 }
 
@@ -77,12 +78,12 @@ pub fn own_form(table: &Table, index: u16) -> Result<&Pieces, u8>
     ensures { now_of result ≡ own_form (look table.now.entries index) }
 {
     match look_up(table, index) {
-        None => Err(5),
+        None => Err(NO_ENTRY),
         Some((_, parsed)) => match parsed {
-            Parsed::Unsupported => Err(8),
-            Parsed::Raw => Err(5),
+            Parsed::Unsupported => Err(UNSUPPORTED),
+            Parsed::Raw => Err(NO_ENTRY),
             Parsed::One(pieces) => Ok(pieces),
-            Parsed::Variants(_) => Err(4),
+            Parsed::Variants(_) => Err(RANGE),
         },
     }
 }

@@ -8,6 +8,7 @@ ghost use Rattle.defmt_values.specs.Now.{now_of, pair_now, option_now};
 ghost use Rattle.defmt_values.specs.Plain.{elems_empty};
 ghost use Rattle.defmt_values.specs.View.{plain};
 
+use crate::cause::{COUNT, DEEP, MANY, NO_ENTRY};
 use crate::entries::{form_of, own_form, pick};
 use crate::leaves::{check_count, check_leaf, check_list, check_node, test};
 use crate::value::{Args, Items, Node, Seq, Statement, Value};
@@ -33,7 +34,7 @@ fn add(weight: usize, sum: usize) -> Result<usize, u8>
     if weight <= WEIGHT_LIMIT - sum {
         Ok(sum + weight)
     } else {
-        Err(7)
+        Err(MANY)
     }
 }
 
@@ -42,7 +43,7 @@ fn list_form(table: &Table, index: Option<u16>) -> Result<&Parsed, u8>
     ensures { now_of result ≡ list_form table.now.entries index }
 {
     match index {
-        None => Err(5),
+        None => Err(NO_ENTRY),
         Some(index) => form_of(table, index),
     }
 }
@@ -53,7 +54,7 @@ fn no_index(index: Option<u16>) -> Result<(), u8>
 {
     match index {
         None => Ok(()),
-        Some(_) => Err(5),
+        Some(_) => Err(NO_ENTRY),
     }
 }
 
@@ -72,7 +73,7 @@ fn open<'t>(
     ensures small { IfOk result (λ r. (r.1 ≤ 8192) × (0 < left)) }
 {
     check_node(slot)?;
-    test(left > 0, 6)?;
+    test(left > 0, DEEP)?;
     let form = form_of(table, node.index)?;
     let sum = add(weight, sum)?;
     let pieces = pick(form, node.variant)?;
@@ -91,7 +92,7 @@ fn start<'t>(table: &'t Table, slot: Slot, seq: &Seq, left: u8) -> Result<Option
         check_count(slot, 0)?;
         return Ok(None);
     }
-    test(left > 0, 6)?;
+    test(left > 0, DEEP)?;
     let form = list_form(table, seq.index)?;
     Ok(Some(form))
 }
@@ -152,7 +153,7 @@ fn check_args(
     let mut total = sum;
     'each: while let Some((value, more)) = cut(values) {
         let Some((slot, others)) = cut(slots) else {
-            return Err(2);
+            return Err(COUNT);
         };
         let weight_there = pieces.uses(position).saturating_mul(weight);
         total = check_value(table, *slot, value, left, weight_there, total)?;
@@ -162,7 +163,7 @@ fn check_args(
     }
     match cut(slots) {
         None => Ok(total),
-        Some(_) => Err(2),
+        Some(_) => Err(COUNT),
     }
 }
 

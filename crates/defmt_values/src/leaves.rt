@@ -3,6 +3,7 @@ ghost use Rattle.std.specs.Prelude.{◌≡◌};
 ghost use Rattle.defmt_values.specs.Scan.{test, uint_cause, int_cause, flag_cause, char_cause, str_cause, istr_cause, bytes_cause, bits_cause, node_cause, list_cause, count_cause, leaf_cause};
 ghost use Rattle.defmt_values.specs.View.{plain};
 
+use crate::cause::{KIND, NO_ENTRY, RANGE};
 use crate::entries::{is_interned, look_up};
 use crate::numbers::{is_below, is_multiple, is_of_bits, is_signed, size_bits};
 use crate::value::Value;
@@ -19,8 +20,8 @@ fn check_uint(slot: Slot, n: u128) -> Result<(), u8>
     ensures { result ≡ uint_cause slot n }
 {
     match slot {
-        Slot::One(Kind::Uint(size)) => test(is_of_bits(n, size_bits(size)), 4),
-        _ => Err(3),
+        Slot::One(Kind::Uint(size)) => test(is_of_bits(n, size_bits(size)), RANGE),
+        _ => Err(KIND),
     }
 }
 
@@ -28,8 +29,8 @@ fn check_int(slot: Slot, n: i128) -> Result<(), u8>
     ensures { result ≡ int_cause slot n }
 {
     match slot {
-        Slot::One(Kind::Int(size)) => test(is_signed(n, size_bits(size)), 4),
-        _ => Err(3),
+        Slot::One(Kind::Int(size)) => test(is_signed(n, size_bits(size)), RANGE),
+        _ => Err(KIND),
     }
 }
 
@@ -38,7 +39,7 @@ fn check_flag(slot: Slot) -> Result<(), u8>
 {
     match slot {
         Slot::One(Kind::Bool) => Ok(()),
-        _ => Err(3),
+        _ => Err(KIND),
     }
 }
 
@@ -47,7 +48,7 @@ fn check_char(slot: Slot) -> Result<(), u8>
 {
     match slot {
         Slot::One(Kind::Char) => Ok(()),
-        _ => Err(3),
+        _ => Err(KIND),
     }
 }
 
@@ -56,7 +57,7 @@ fn check_str(slot: Slot) -> Result<(), u8>
 {
     match slot {
         Slot::One(Kind::Str) => Ok(()),
-        _ => Err(3),
+        _ => Err(KIND),
     }
 }
 
@@ -65,10 +66,10 @@ fn check_istr(table: &Table, slot: Slot, index: u16) -> Result<(), u8>
 {
     match slot {
         Slot::One(Kind::Istr) => match look_up(table, index) {
-            Some((entry, _)) => test(is_interned(&entry.tag), 5),
-            None => Err(5),
+            Some((entry, _)) => test(is_interned(&entry.tag), NO_ENTRY),
+            None => Err(NO_ENTRY),
         },
-        _ => Err(3),
+        _ => Err(KIND),
     }
 }
 
@@ -77,8 +78,8 @@ fn check_bytes(slot: Slot, count: usize) -> Result<(), u8>
 {
     match slot {
         Slot::One(Kind::Bytes) => Ok(()),
-        Slot::One(Kind::ByteArray(n)) => test(count == usize::from(n), 4),
-        _ => Err(3),
+        Slot::One(Kind::ByteArray(n)) => test(count == usize::from(n), RANGE),
+        _ => Err(KIND),
     }
 }
 
@@ -88,9 +89,9 @@ fn check_bits(slot: Slot, n: u128) -> Result<(), u8>
     match slot {
         Slot::Bits { first, width } => {
             let end = u32::from(first) + u32::from(width);
-            test(is_below(n, end) && is_multiple(n, u32::from(first)), 4)
+            test(is_below(n, end) && is_multiple(n, u32::from(first)), RANGE)
         }
-        _ => Err(3),
+        _ => Err(KIND),
     }
 }
 
@@ -99,7 +100,7 @@ pub(crate) fn check_node(slot: Slot) -> Result<(), u8>
 {
     match slot {
         Slot::One(Kind::Format) => Ok(()),
-        _ => Err(3),
+        _ => Err(KIND),
     }
 }
 
@@ -108,7 +109,7 @@ pub(crate) fn check_list(slot: Slot) -> Result<(), u8>
 {
     match slot {
         Slot::One(Kind::FormatSlice | Kind::FormatArray(_)) => Ok(()),
-        _ => Err(3),
+        _ => Err(KIND),
     }
 }
 
@@ -116,7 +117,7 @@ pub(crate) fn check_count(slot: Slot, count: usize) -> Result<(), u8>
     ensures { result ≡ count_cause slot count }
 {
     match slot {
-        Slot::One(Kind::FormatArray(n)) => test(count == usize::from(n), 4),
+        Slot::One(Kind::FormatArray(n)) => test(count == usize::from(n), RANGE),
         _ => Ok(()),
     }
 }

@@ -4,6 +4,7 @@
 //! refused with cause 4 (text_tests, `values`).
 #![tactic(auto)]
 
+mod cause;
 mod entries;
 mod fitting;
 mod law;
