@@ -22,19 +22,21 @@ use std::thread::Threads;
 
 /// Does what the words ask for. The first word is the program's name; `defmt_words::job_of` says how the others are read.
 ///
-/// `run`, `record`, `term`, `table` and `print` read the source to its end as a script. `run`, `record` and `term` log its
-/// statements by threads over a word ring, in the script's mode and with its reader; the threads of `term` say its texts for
-/// terminals too, over a word ring of 1,024 bytes. `run` feeds the host what the reader took and then the rest of what was
-/// sent, and writes a line for each event, in front of it where frames with places are missing a report of the gap, and a report
-/// for each frame that was dropped or cut; with `--group` it writes the lines of the statements that were sent whole, writer by
-/// writer, in place of the events. `term` writes what `run` does, and then the texts of each terminal that has one, behind a line
-/// that names it. `record` writes what was sent, `table` the file of the script's table, `print` the lines of all statements.
-/// `decode --table FILE` takes the table that the shelf's file names, reads the source as a recording, and writes a line for each
-/// event as it comes, with the gaps. `dump --table FILE` takes the table too, reads the source to its end as an image of memory,
-/// and writes a line for each event of the bytes of an up-buffer in it, as `rtt_dump::dumped` gives them. `gen N` does as `run`
-/// with a script of N statements that a formula makes, and writes counts of its tape in place of lines. With `--only RULES` `run`,
-/// `decode` and `dump` write no line that the rules don't show, as `defmt_decode::shows` says; nothing else depends on rules, and
-/// what is told of a run has all events.
+/// `run`, `record`, `term`, `steer`, `table` and `print` read the source to its end as a script. `run`, `record` and
+/// `term` log its statements by threads over a word ring, in the script's mode and with its reader; the threads of
+/// `term` say its texts for terminals too, over a word ring of 1,024 bytes. `run` feeds the host what the reader took
+/// and then the rest of what was sent, and writes a line for each event, in front of it where frames with places are
+/// missing a report of the gap, and a report for each frame that was dropped or cut; with `--group` it writes the
+/// lines of the statements that were sent whole, writer by writer, in place of the events. `term` writes what `run`
+/// does, and then the texts of each terminal that has one, behind a line that names it. `steer` runs a script while
+/// the host sends its orders of levels down a second ring, and writes the lines and from which turn each order was
+/// heard. `record` writes what was sent, `table` the file of the script's table, `print` the lines of all statements.
+/// `decode --table FILE` takes the table that the shelf's file names, reads the source as a recording, and writes a
+/// line for each event as it comes, with the gaps. `dump --table FILE` takes the table too, reads the source to its
+/// end as an image of memory, and writes a line for each event of the bytes of an up-buffer in it, as
+/// `rtt_dump::dumped` gives them. `gen N` does as `run` with a script of N statements that a formula makes, and writes
+/// counts of its tape in place of lines. With `--only RULES` `run`, `decode` and `dump` write no line that the rules
+/// don't show, as `defmt_decode::shows` says; nothing else depends on rules, and what is told of a run has all events.
 ///
 /// `Fault` has the other answers. The order of these is words, shelf, length of the table's file, table, source, length of the
 /// input, script or image, sink; in `decode` the source, its length and the sink take turns. The gate is asked before each

@@ -172,7 +172,7 @@ impl Args {
         }
     }
 
-    /// An empty list that has room for so many values. It grows by this allocator.
+    /// An empty list that asks for room for so many values. It grows by this allocator.
     pub fn with_room(alloc: Global, count: usize) -> Result<Self, Memory>
         ensures { IfOk result (λ args. args ≡ no_vals) }
     {

@@ -16,7 +16,7 @@ const MOST_AT_ONCE: usize = 65_536;
 /// A source over a reader of std, as a file or the standard input.
 ///
 /// It tells nothing of the bytes to come: that the reader gives the right ones is trusted. It counts
-/// one fault at every error of the reader. It reads at most 65,536 bytes at a time, into an array of
+/// one fault at each `Err` that it answers. It reads at most 65,536 bytes at a time, into an array of
 /// its own first, so that a failed read leaves the lent buffer.
 #[derive(Drop)]
 pub struct StdSource<R> {
@@ -79,7 +79,7 @@ impl<R: Read> Source for StdSource<R> {
 /// A sink over a writer of std, as a file or the standard output.
 ///
 /// It tells nothing of the bytes taken: that the writer keeps them is trusted. It counts one fault at
-/// every error of the writer, and at every write that takes nothing of a piece that isn't empty.
+/// each `Err` that it answers, and at each write that answers 0 of a piece that isn't empty.
 #[derive(Drop)]
 pub struct StdSink<W> {
     writer: W,
@@ -137,8 +137,8 @@ impl<W: Write> Sink for StdSink<W> {
 /// The files of the folder that the program runs in: each fetch opens the file of the given name.
 ///
 /// It tells nothing of the files: that they hold the right bytes is trusted. It counts one fault at
-/// every error, a missing file included. It fetches at most 65,536 bytes at a time, into an array of
-/// its own first, so that a failed fetch leaves the lent buffer.
+/// each `Err` that it answers. It fetches at most 65,536 bytes at a time, into an array of its own
+/// first, so that a failed fetch leaves the lent buffer.
 #[derive(Drop)]
 pub struct DirShelf<R> {
     rt: R,

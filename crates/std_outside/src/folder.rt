@@ -12,8 +12,8 @@ use std::marker::Model;
 use std::rt::Files;
 use std::{fs, io};
 
-/// The files of the folder that the program runs in: each fetch opens the file of the given name. It tells nothing of the files,
-/// and counts one fault at every error, a missing file included. At most 65,536 bytes are fetched at a time.
+/// The files of the folder that the program runs in: each fetch opens the file of the given name. It tells nothing of
+/// the files, and counts one fault at each `Err` that it answers. At most 65,536 bytes are fetched at a time.
 #[derive(Drop)]
 pub struct Folder<R> {
     rt: R,

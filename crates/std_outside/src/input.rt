@@ -10,8 +10,8 @@ use std::alloc::Global;
 use std::io::Read;
 use std::marker::Model;
 
-/// A source over a reader, as the standard input. It tells nothing of the bytes to come, and counts one fault at every error of the
-/// reader. At most 65,536 bytes are read at a time.
+/// A source over a reader, as the standard input. It tells nothing of the bytes to come, and counts one fault at each
+/// `Err` that it answers. At most 65,536 bytes are read at a time.
 #[derive(Drop)]
 pub struct Input<R> {
     reader: R,
