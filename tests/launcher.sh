@@ -41,13 +41,14 @@ case $1 in
     words) printf '%s\n' "$@" ;;
     open) for it in /proc/self/fd/*; do readlink "$it"; done | grep launcher ;;
     wait) touch "$2"; exec sleep 30 ;;
+    full) echo more; [ $? -eq 0 ] || exit 4 ;;
     number) echo $$ ;;
 esac
 PROGRAM
 
 # Each crate that is proved is a line of $KIT/proved, each call one of $KIT/calls, and each of the prover one of $KIT/provers; $KIT/events says when each
 # proof begins and ends. $KIT/seconds says how long a proof takes, and $KIT/slow/NAME how long one takes that takes another time. A file $KIT/refuses
-# names a crate that can't be proved, and $KIT/killed/NAME how a crate's rt ends once.
+# names a crate that can't be proved, and $KIT/killed/NAME how a crate's rt ends once. What `rt try` runs has a second; the real one has a minute.
 cat > "$kit/bin/rt" << 'RT'
 #!/bin/bash
 KIT=${0%/bin/rt}
@@ -88,7 +89,7 @@ case $1 in
     try)
         [ "$(cat "$KIT/refuses" 2> /dev/null)" != try ] || { echo 'error: the program is not read'; exit 2; }
         sleep "$(cat "$KIT/seconds")"
-        "${0%/bin/rt}/toolchain/bin/ld.lld" -o "$KIT/tried" defmt_run && "$KIT/tried" run < /dev/null ;;
+        "${0%/bin/rt}/toolchain/bin/ld.lld" -o "$KIT/tried" defmt_run && timeout 1 "$KIT/tried" run < /dev/null ;;
 esac
 RT
 printf '#!/bin/bash\nprintf "%%s|" "$@" >> "%s"\necho >> "%s"\n' "$kit/provers" "$kit/provers" > "$kit/bin/rattle"
@@ -218,6 +219,10 @@ if command -v script > /dev/null; then
     on_terminal say 10 'control cause 4 place 1'
     has 'an image' "$said" 'cause 4: The offsets or the flags of descriptor P'
     is 'the status of a refusal' "$status" 10
+    script -qec './defmtl say 3 source <&-' /dev/null > "$work/said" < /dev/null
+    is 'on a terminal, with a closed input' "$? $(tr -d '\r' < "$work/said" | tail -n 1)" '3 source'
+    script -qec './defmtl say 4 sink >&-' /dev/null > "$work/said" < /dev/null
+    is 'on a terminal, with a closed output' "$? $(tr -d '\r' < "$work/said" | tail -n 1)" '4 sink'
     call say 10 'control cause 4 place 1'
     lacks 'nothing is explained to a file' "$said" 'The offsets'
 fi
@@ -228,6 +233,8 @@ call --install /proc/nowhere
 is 'a folder that cannot be written' "$status" 73
 call --install
 is 'no folder' "$status" 73
+(ulimit -f 0 && ./defmtl full > "$work/full" 2> /dev/null)
+is 'a program whose output may grow no more' "$?" 4
 DEFMTL_UNPROVED=1 call --install "$work/prefix"
 is 'an installation of the unproved program' "$status" 73
 has 'and why there is none' "$said" 'only the proved program is installed'
@@ -248,9 +255,12 @@ is 'the completion' "$(< "$work/said")" '--table --base --up --old --only'
 is 'the completion of a command' "$(< "$work/said")" 'steer'
 rm -r docs
 begin 0.1
-call --help
-is 'the page where nothing was built' "$status $(calls)" '2 0'
-is 'the answer behind it' "${said##*$'\n'}" 'words'
+for words in '' -h --help help -V --version 'help run' 'run --help' 'gen -h'; do
+    call $words
+    is "the page where nothing was built, by '$words'" "$status $(calls)" '2 0'
+    has "the page itself, by '$words'" "$said" 'defmtl decode --table FILE'
+    is "the answer behind it, by '$words'" "${said##*$'\n'}" 'words'
+done
 begin 0.1
 mkdir docs && cp "$top"/docs/{EXPLAIN.md,defmtl.1,defmtl.completion} docs
 call --install "$work/prefix"
@@ -342,9 +352,11 @@ changes 'a list of crates that was edited' built
 cp crates/defmt_cli/out/defmt_cli "$work/other"; cp "$work/other" crates/defmt_cli/out/defmt_cli.new; mv crates/defmt_cli/out/defmt_cli.new crates/defmt_cli/out/defmt_cli
 changes 'a program that something else put there' built
 : > "$kit/calls"
-printf 'test' > crates/low_tests/src/more.rt
-call run < /dev/null
-is 'a test crate that was edited' "$(calls)" 0
+for it in low_tests test_rows ring_bench; do
+    mkdir -p "crates/$it/src" && printf 'more' > "crates/$it/src/more.rt"
+    call run < /dev/null
+    is "a source of $it that was added, which is no part of the program" "$(calls)" 0
+done
 
 # A source that changes while it is proved: the build goes on until what was proved is what is there.
 begin 0.3
@@ -378,7 +390,7 @@ stopped() {
     before=$(proofs)
     sleep 0.8
     is "$1: nothing is proved any more" "$(proofs)" "$before"
-    is "$1: no file is left behind" "$(strays | grep -v launcher.log)" ''
+    is "$1: no file is left behind" "$(strays)" ''
     call run < <(echo hello)
     is "$1: the next call ends with the program" "$status $wrote" '0 hello'
     is "$1: it goes on with the crates that were not done" "$(proofs)" "$all_crates"
@@ -403,8 +415,8 @@ interrupted() {
     for it in $(< "$kit/sleeps"); do
         if until_true is_gone "$it"; then pass; else fail "$1: a proof goes on"; fi
     done
-    until_true eval '[ -z "$(strays | grep -v launcher.log)" ]'
-    is "$1: no file is left behind" "$(strays | grep -v launcher.log)" ''
+    until_true is_tidy
+    is "$1: no file is left behind" "$(strays)" ''
     is "$1: what was not proved is not built" "$(ls crates/defmt_cli/out/rlib)" low
     rm "$kit/slow/right" "$kit/slow/left"
     call run < /dev/null
@@ -481,7 +493,7 @@ echo top > "$kit/refuses"
 call run < /dev/null
 fails 'a crate that is not proved' 70 'the program could not be built'
 has 'a crate that is not proved: what was said' "$said" 'error: top is not proved'
-is 'a crate that is not proved: no file is left behind' "$(strays | grep -v launcher.log)" ''
+is 'a crate that is not proved: no file is left behind but the log that is named' "$(strays)" './crates/defmt_cli/out/launcher.log'
 rm "$kit/refuses"
 call run < <(echo hello)
 is 'a build after one that failed' "$status $wrote" '0 hello'
@@ -497,7 +509,7 @@ call run < /dev/null
 fails 'a crate that is not proved beside another' 70 'the program could not be built'
 has 'a crate that is not proved beside another: what was said' "$said" 'error: right is not proved'
 if until_true is_gone "$(tail -n 1 "$kit/sleeps")"; then pass; else fail 'the other goes on'; fi
-is 'a crate that is not proved beside another: no file is left behind' "$(strays | grep -v launcher.log)" ''
+is 'a crate that is not proved beside another: no file is left behind but the log' "$(strays)" './crates/defmt_cli/out/launcher.log'
 begin 0
 echo 247 > "$kit/killed/left"; echo 0.5 > "$kit/slow/right"
 ./defmtl run < /dev/null > /dev/null 2> "$work/said" & until_true grep -q right "$kit/events"; until_true test ! -e "$kit/killed/left"; echo 9 > "$kit/killed/left"; wait $!
@@ -522,6 +534,11 @@ if as_nobody test -r defmtl; then
     wrote=$(DEFMTL_UNPROVED=1 as_nobody ./defmtl run < /dev/null 2> "$work/said"); status=$?; said=$(< "$work/said")
     fails 'a folder that is read-only, unproved' 73 'the folder'
     chmod -R u+w crates
+    for unproved in '' 1; do
+        wrote=$(TMPDIR=/proc/nowhere DEFMTL_UNPROVED=$unproved ./defmtl run < /dev/null 2> "$work/said"); status=$?; said=$(< "$work/said")
+        fails "no place for temporary files${unproved:+, unproved}" 73 "${unproved:+running with no proof: nothing that follows is proved
+defmtl: }there is no place for a temporary folder"
+    done
     call run < /dev/null
     wrote=$(echo hello | as_nobody ./defmtl run 2> "$work/said"); status=$?
     is 'a program that was built, in a folder that is read-only' "$status $wrote" '0 hello'
@@ -552,7 +569,7 @@ seq 300000 > "$work/many"
 ./defmtl run < "$work/many" > "$work/wrote" 2> "$work/said"
 is 'an unproved call with much output' "$? $(cmp "$work/many" "$work/wrote" 2>&1)" '0 '
 (cat "$work/many"; sleep 2.5; echo last) | ./defmtl run 2> "$work/said" > "$work/wrote"
-is 'an unproved call with a slow input' "$? $(tail -n 1 "$work/wrote") $(wc -l < "$work/wrote")" '0 last 300001'
+is 'an unproved call with a slow input, for longer than rt lets a program run' "$? $(tail -n 1 "$work/wrote") $(wc -l < "$work/wrote")" '0 last 300001'
 (sleep 2.5; cat "$work/many") | ./defmtl run 2> "$work/said" | ./defmtl run 2> "$work/said" > "$work/wrote"
 is 'a pipeline of two unproved calls' "$? $(cmp "$work/many" "$work/wrote" 2>&1)" '0 '
 ./defmtl number 2> "$work/said" > "$work/wrote" &
@@ -577,8 +594,7 @@ for signal in TERM KILL; do
     launcher=$!
     until_true grep -q try "$kit/calls"
     kill "-$signal" "$launcher"; wait "$launcher" 2> /dev/null
-    is_clean() { ! strays | grep -qv "\.log"; }
-    if until_true is_clean; then pass; else fail "an unproved build that got $signal leaves $(strays)"; fi
+    if until_true is_tidy; then pass; else fail "an unproved build that got $signal leaves $(strays)"; fi
 done
 
 echo "$passed passed, $failed failed"
