@@ -2,7 +2,7 @@
 
 top=$(cd "$(dirname "$0")/.." && pwd) || exit 1
 program=${DEFMTL:-$top/crates/defmt_cli/out/defmt_cli}
-[ -x "$program" ] || { echo "there is no $program: run ./defmtl once, or name a program by DEFMTL"; exit 1; }
+[ -x "$program" ] || { echo "there is no $program: run ./defmtl once, or name a program by DEFMTL" >&2; exit 1; }
 work=$(mktemp -d) || exit 1
 trap 'rm -rf "$work"' EXIT
 export LC_ALL=C
@@ -13,7 +13,7 @@ need() {
         case $each in
             time) env time -o /dev/null -f %U true ;;
             *) command -v "$each" > /dev/null ;;
-        esac || { echo "there is no $each"; exit 1; }
+        esac || { echo "there is no $each" >&2; exit 1; }
     done
 }
 

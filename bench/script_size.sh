@@ -4,7 +4,7 @@
 #   bench/script_size.sh        at the repository's top, once ./defmtl has built the program; needs valgrind and GNU time
 #
 # Three forms of scripts: as many statements as strings; as many strings as a script may have; statements with long texts. A script twice
-# as long has a ratio of about 2: names are found in a tree. A walk over all strings for each line would make it 4.
+# as long has a ratio of about 2: names are found by their hashes. A walk over all strings for each line would make it 4.
 
 . "$(dirname "$0")/common.sh"
 need valgrind time

@@ -30,17 +30,18 @@ least() {
 }
 
 printf '%-8s %14s %14s %14s\n' command "at 1,024" "at 4,096" "a statement"
-for command in record print run "decode --table $work/table.elf"; do
+for command in record print run decode; do
     input=$work/script
-    [ "${command%% *}" = decode ] && input=$work/stream
-    small=$(least $command < "$input.1024") && large=$(least $command < "$input.4096") || exit 1
+    set -- "$command"
+    [ "$command" != decode ] || { input=$work/stream && set -- decode --table "$work/table.elf"; }
+    small=$(least "$@" < "$input.1024") && large=$(least "$@" < "$input.4096") || exit 1
     each=$(((large - small) / 3072))
-    printf '%-8s %14d %14d %14d\n' "${command%% *}" "$small" "$large" "$each"
+    printf '%-8s %14d %14d %14d\n' "$command" "$small" "$large" "$each"
     case $command in
         record) record=$each ;;
         print) print=$each ;;
         run) run=$each ;;
-        decode*) decode=$each ;;
+        decode) decode=$each ;;
     esac
 done
 start=$(counted decode --table "$work/table.elf" < /dev/null) || exit 1

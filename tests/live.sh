@@ -16,7 +16,7 @@ cd "$work" || exit 2
 printf 's hi defmt_info hello\ns speed defmt_warn speed {=u8:#04x}\nw 0 hi\nw 0 speed 10\nw 0 hi\n' > script
 "$program" table < script > table.elf || exit 2
 "$program" record < script > recording || exit 2
-exec python3 - "$program" <<'PYTHON'
+python3 - "$program" <<'PYTHON'
 import select, socket, subprocess, sys
 
 program = sys.argv[1]
@@ -50,8 +50,10 @@ def quiet(pipe):
 
 for size in (1, 2, 3, 5):
     server = socket.create_server(("127.0.0.1", 0))
-    port = server.getsockname()[1]
-    decoder = subprocess.Popen(["bash", "-c", f'exec "{program}" decode --table table.elf < /dev/tcp/127.0.0.1/{port}'], stdout=subprocess.PIPE)
+    server.settimeout(10)
+    port = str(server.getsockname()[1])
+    decode = 'exec "$1" decode --table table.elf < "/dev/tcp/127.0.0.1/$2"'
+    decoder = subprocess.Popen(["bash", "-c", decode, "-", program, port], stdout=subprocess.PIPE)
     connection, _ = server.accept()
     told = 0
     good = still = True

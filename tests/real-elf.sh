@@ -1,12 +1,14 @@
 #!/bin/bash
 # Compares the table that defmtl reads from really linked ELF files with what readelf lists.
 #
-# Run at the top of the repository after 'rt ci'. DEFMTL names the program (./defmtl where unset).
+#   tests/real-elf.sh PROGRAM
+#
 # It needs gcc, GNU ld and readelf; clang, ld.lld, ld.gold and arm-none-eabi's tools are used where they
 # are installed. The last line is 'N passed, M failed'.
 set -u
-program=${DEFMTL:-./defmtl}
-work=$(mktemp -d)
+[ $# -eq 1 ] || { echo "usage: tests/real-elf.sh PROGRAM"; exit 2; }
+program=$(realpath "$1") && [ -x "$program" ] || { echo "there is no program $1"; exit 2; }
+work=$(mktemp -d) || exit 2
 trap 'rm -rf "$work"' EXIT
 passed=0 failed=0
 
