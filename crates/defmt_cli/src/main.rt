@@ -6,12 +6,9 @@
 #![tactic(auto)]
 
 use defmt_run::{Fault, OpenGate, session};
-use dl_io::{Memory, Shelf, Sink, Source, StdSink, write_all};
-use std::alloc::Global;
+use dl_io::{Memory, StdSink, write_all};
 use std::process::ExitCode;
 use std::rt::Env;
-use std::sync::Wait;
-use std::thread::Threads;
 use std::{env, io};
 use std_outside::{Folder, Input};
 
@@ -26,14 +23,16 @@ fn main(rt: HostRuntime) -> ExitCode {
         return without_memory(&rt);
     };
     let mut sink = StdSink::new(io::writer(&rt));
-    let fault = fault_of(
+    let fault = session(
         &rt,
         rt.alloc(),
         words.as_slice(),
         &mut source,
         &mut shelf,
         &mut sink,
-    );
+        &OpenGate,
+    )
+    .fault;
     say(&rt, fault);
     ExitCode::from(fault.status())
 }
@@ -50,18 +49,6 @@ fn words_of(rt: &(impl Env + AllocGlobal)) -> Result<Vec<String>, Memory> {
         Err(error) if error.kind() == io::ErrorKind::OutOfMemory => Err(Memory),
         Err(_) => Ok(Vec::new(rt.alloc())),
     }
-}
-
-// What a session comes to.
-fn fault_of<S: Source, F: Shelf, K: Sink>(
-    rt: &(impl Threads + Wait + Sync),
-    alloc: Global,
-    words: &[String],
-    src: &mut S,
-    shelf: &mut F,
-    out: &mut K,
-) -> Fault {
-    session(rt, alloc, words, src, shelf, out, &OpenGate).fault
 }
 
 // Says a fault, if there is memory for its words.
