@@ -160,7 +160,7 @@ is 'each crate is proved once, test crates and those aside are not' "$(proofs)" 
 has 'the program is the proved one' "$said" 'proved one'
 has 'how far a build is' "$said" 'crate 2 of 6 is done: '
 has 'how long it will take' "$said" 'About '
-has 'how long the first build takes' "$said" 'twenty to forty minutes on four processors, twice that on two'
+has 'how long the first build takes' "$said" 'twelve to twenty-five minutes on four processors, twice that on two'
 is 'a crate that stands alone has four jobs, and the program one' "$(grep -c '^low lib --jobs 4$\|^top lib --jobs 4$\|^defmt_cli run --jobs 1 ' "$kit/calls")" 3
 is 'two side by side share the processors' "$(grep '^left\|^right' "$kit/calls" | grep -o '[0-9]*$' | sort | tr '\n' ' ')" '2 2 '
 is 'each crate has one call' "$(calls)" 6
