@@ -69,14 +69,16 @@ fn put_descriptor(side: &str, d: &Descriptor, out: &mut String) -> Result<(), Fa
     )?)
 }
 
-fn put_block(block: &Block, out: &mut String) -> Result<(), Fail> {
-    for descriptor in block.up.as_slice() {
-        put_descriptor("up", descriptor, out)?;
-    }
-    for descriptor in block.down.as_slice() {
-        put_descriptor("down", descriptor, out)?;
+fn put_side(side: &str, list: &Descriptors, out: &mut String) -> Result<(), Fail> {
+    for descriptor in list.as_slice() {
+        put_descriptor(side, descriptor, out)?;
     }
     Ok(())
+}
+
+fn put_block(block: &Block, out: &mut String) -> Result<(), Fail> {
+    put_side("up", &block.up, out)?;
+    put_side("down", &block.down, out)
 }
 
 /// Puts the descriptors of the block at a place, or the refusal.
@@ -240,6 +242,17 @@ fn descriptors_are_a_list(rt: HostRuntime) -> Result<(), Fail> {
     let Block { up, down: _ } = block;
     let back = up.into_vec();
     assert_eq!(rt; back.as_slice(), [descriptor_of("1 2 3 4 5 6")?].as_slice());
-    assert_eq!(rt; Cause::TwoIds.number(), 5);
     Ok(())
+}
+
+#[test]
+fn causes_have_their_numbers(rt: HostRuntime) {
+    let numbers = [
+        Cause::NoId.number(),
+        Cause::Bounds.number(),
+        Cause::Offset.number(),
+        Cause::Flags.number(),
+        Cause::TwoIds.number(),
+    ];
+    assert_eq!(rt; numbers.as_slice(), [1u8, 2, 3, 4, 5].as_slice());
 }

@@ -1,78 +1,20 @@
-//! Rings whose ends one thread moves by steps, and rings between two threads.
+//! Rings whose ends one thread moves by steps, and the image of a plain ring.
 ghost use Rattle.std.specs.Prelude.{◌≡◌, []};
 ghost use Rattle.rtt_ring.specs.PlainView.{up_of};
 
 use crate::blocks::{put_found, put_read, put_unread};
 use crate::rows::Kind;
+use crate::sizes::put_unlike;
 use crate::words::put_digits_or_nothing;
 use dl_io::Bytes;
 use rtt_control::Descriptor;
 use rtt_ring::{
-    Channel, DownEnd, IMAGE_BASE, PlainRing, QueueRing, RingFault, RingKind, Settled, UpEnd,
-    WordRing,
+    Channel, DownEnd, IMAGE_BASE, PlainRing, QueueRing, RingKind, Settled, UpEnd, WordRing,
 };
 use std::alloc::Global;
 use std::fmt::Write;
-use std::sync::Wait;
 use std::test::Fail;
-use std::thread;
-use std::thread::Threads;
 use test_rows::{bytes_of, each_line, expect, parted, put_str};
-
-fn put_no_ring(fault: RingFault, out: &mut String) -> Result<(), Fail> {
-    match fault {
-        RingFault::Size => put_str(out, "size"),
-        RingFault::Memory => put_str(out, "memory"),
-    }
-}
-
-fn put_plain_size(alloc: Global, size: u32, out: &mut String) -> Result<(), Fail> {
-    match PlainRing::split(alloc, size) {
-        Ok(ring) => Ok(write!(out, "{}", UpEnd::size(&ring))?),
-        Err(fault) => put_no_ring(fault, out),
-    }
-}
-
-fn put_size<C: Channel>(alloc: Global, size: u32, out: &mut String) -> Result<(), Fail> {
-    match C::split(alloc, size) {
-        Ok((up, _)) => Ok(write!(out, "{}", up.size())?),
-        Err(fault) => put_no_ring(fault, out),
-    }
-}
-
-// Puts the answer of another ring, where it is not the one of the plain ring.
-fn put_unlike(other: &str, out: &mut String) -> Result<(), Fail> {
-    if out.as_str() != other {
-        put_str(out, ", another ring: ")?;
-        put_str(out, other)?;
-    }
-    Ok(())
-}
-
-// Sizes of new rings.
-const SIZES: &str = "\
-15 = size
-16 = 16
-65536 = 65536
-65537 = size";
-
-fn put_unlike_size<C: Channel>(alloc: Global, size: u32, out: &mut String) -> Result<(), Fail> {
-    let mut other = String::new(alloc);
-    put_size::<C>(alloc, size, &mut other)?;
-    put_unlike(other.as_str(), out)
-}
-
-pub fn put_sizes(alloc: Global, size: &str, out: &mut String) -> Result<(), Fail> {
-    let size = size.parse::<u32>()?;
-    put_plain_size(alloc, size, out)?;
-    put_unlike_size::<QueueRing>(alloc, size, out)?;
-    put_unlike_size::<WordRing>(alloc, size, out)
-}
-
-#[test]
-fn sizes_from_16_to_65536_are_taken(rt: HostRuntime) -> Result<(), Fail> {
-    each_line(rt.alloc(), SIZES, 4, &Kind::Sizes)
-}
 
 // What an upper end and then a lower end found: the room, and the bytes before and behind the publishing.
 struct Found {
@@ -122,11 +64,11 @@ impl Stepped for Plain {
     }
 }
 
-// The two ends of a ring, with nothing staged.
+/// The two ends of a ring, with nothing staged.
 #[derive(Drop)]
-struct Ends<U: UpEnd, D: DownEnd> {
-    up: U,
-    down: D,
+pub struct Ends<U: UpEnd, D: DownEnd> {
+    pub up: U,
+    pub down: D,
     ghost published: { (U.view up).staged ≡ [] },
     ghost pair: { (U.view up).split ≡ (D.view down).split },
 }
@@ -229,7 +171,7 @@ fn put_plain(alloc: Global, size: u32, row: &str, out: &mut String) -> Result<()
     settle_plain(alloc, plain, out)
 }
 
-fn ends_of<C: Channel>(alloc: Global, size: u32) -> Result<Ends<C::Up, C::Down>, Fail> {
+pub fn ends_of<C: Channel>(alloc: Global, size: u32) -> Result<Ends<C::Up, C::Down>, Fail> {
     match C::split(alloc, size) {
         Ok((up, down)) => Ok(Ends { up, down }),
         Err(_) => Err(Fail::new("no ring")),
@@ -332,77 +274,4 @@ fn the_image_tells_what_waits(rt: HostRuntime) -> Result<(), Fail> {
         told.as_str(),
         "found 0; up 0 20000030 10 9 a 0; 0b 0c 0d 0e 0f 15 16 17 18 19 1a 1b 1c 1d 1e",
     )
-}
-
-// An upper end that has nothing staged.
-#[derive(Drop)]
-struct Writer<U: UpEnd> {
-    up: U,
-    ghost published: { (U.view up).staged ≡ [] },
-}
-
-impl<U: UpEnd> Writer<U> {
-    // Looks, sends as many of the first bytes as fit, and answers the room that the look found.
-    fn send(&mut self, bytes: &[u8]) -> u32 {
-        let room = self.up.look();
-        let count = bytes.len().min(room as usize);
-        self.up.put(&bytes[..count]);
-        self.up.publish();
-        room
-    }
-}
-
-fn send_all<U: UpEnd + Drop, W: Wait>(rt: &W, writer: Writer<U>, bytes: &[u8]) {
-    let mut writer = writer;
-    let mut left = bytes;
-    for _ in rt.forever() {
-        if left.is_empty() {
-            return;
-        }
-        let count = left.len().min(writer.send(left) as usize);
-        left = &left[count..];
-        thread::yield_now();
-    }
-    unreachable!()
-}
-
-// Takes as many bytes as are expected, and answers whether they are those.
-fn takes_all<D: DownEnd + Drop, W: Wait>(rt: &W, down: D, expected: &[u8]) -> bool {
-    let mut down = down;
-    let mut left = expected;
-    let mut buf = [0; 7];
-    let mut same = true;
-    for _ in rt.forever() {
-        if left.is_empty() {
-            return same;
-        }
-        let count = down.take(&mut buf).min(left.len());
-        same = same && buf[..count] == left[..count];
-        left = &left[count..];
-        thread::yield_now();
-    }
-    unreachable!()
-}
-
-// Sends bytes on one thread and takes them on another, and answers whether they came in order.
-fn go_through<C: Channel, R: Threads + Wait + Sync>(rt: &R, alloc: Global) -> Result<bool, Fail> {
-    let Ends { up, down } = ends_of::<C>(alloc, 16)?;
-    let writer = Writer { up };
-    let mut bytes = [0; 200];
-    for (i, byte) in (0..).zip(&mut bytes) {
-        *byte = i;
-    }
-    let (_, same) = thread::join(
-        rt,
-        || send_all(rt, writer, &bytes),
-        || takes_all(rt, down, &bytes),
-    );
-    Ok(same)
-}
-
-#[test]
-fn bytes_go_through_rings_between_threads_in_order(rt: HostRuntime) -> Result<(), Fail> {
-    assert!(rt; go_through::<QueueRing, _>(&rt, rt.alloc())?);
-    assert!(rt; go_through::<WordRing, _>(&rt, rt.alloc())?);
-    Ok(())
 }

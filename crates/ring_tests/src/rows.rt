@@ -1,8 +1,11 @@
 //! The rows of the tests, by what is asked of their inputs.
 use crate::blocks::{put_blocks, put_ids, put_waiting, put_written};
+use crate::lists::put_lists;
 use crate::modes::put_frames;
-use crate::rings::{put_rings, put_sizes};
-use crate::streams::{put_large, put_lists, put_shelves, put_sinks, put_sources};
+use crate::rings::put_rings;
+use crate::shelves::put_shelves;
+use crate::sizes::put_sizes;
+use crate::streams::{put_large, put_sinks, put_sources};
 use std::alloc::Global;
 use std::test::Fail;
 use test_rows::Question;

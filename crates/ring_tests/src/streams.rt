@@ -1,95 +1,17 @@
-//! Lists of bytes, sources, sinks and shelves.
+//! Sources and sinks, in memory and over std.
 ghost use Rattle.std.specs.Prelude.{None};
 
 use crate::rows::Kind;
-use crate::words::part;
 use dl_io::{
-    Bytes, DirShelf, Failed, MemShelf, MemSink, MemSource, ReadFault, RepeatSource, Shelf, Sink,
-    Source, StdSink, StdSource, fetch_all, read_all, write_all,
+    Bytes, Failed, MemSink, MemSource, ReadFault, RepeatSource, Sink, Source, StdSink, StdSource,
+    read_all, write_all,
 };
 use std::alloc::Global;
 use std::fmt::Write;
+use std::io;
 use std::test::Fail;
-use std::{io, mem, process};
-use test_rows::{bytes_of, each_line, expect, parted, put_digits, put_str};
-
-// Steps, the list that is made first, and the list behind each: its length, bytes and room.
-const LISTS: &str = "\
-of |push 01|add 02 03 = empty; 1: 01; 3: 01 02 03
-of 01 02 03|cut 2|again|clear = 3: 01 02 03; 2: 01 02; 2: 01 02; empty
-of |reserve 6|reserve 4|put 01|put 02 03|add 04 05 06 07 = empty; empty, room 6; empty, room 6; 1: 01, room 5; 3: 01 02 03, room 3; 7: 01 02 03 04 05 06 07";
-
-fn put_list(list: &Bytes, out: &mut String) -> Result<(), Fail> {
-    if list.is_empty() {
-        put_str(out, "empty")?;
-    } else {
-        write!(out, "{}: ", list.len())?;
-        put_digits(out, list.as_slice())?;
-    }
-    match list.spare() {
-        0 => Ok(()),
-        room => Ok(write!(out, ", room {room}")?),
-    }
-}
-
-// Appends within the room, a single byte by the call for one.
-fn put_reserved(list: &mut Bytes, bytes: &[u8]) -> Result<(), Fail> {
-    if list.spare() < bytes.len() {
-        return Err(Fail::new("too little room"));
-    }
-    match bytes {
-        [byte] => list.push_reserved(*byte),
-        _ => list.extend_reserved(bytes),
-    }
-    Ok(())
-}
-
-fn append(list: &mut Bytes, bytes: &[u8]) -> Result<(), Fail> {
-    match bytes {
-        [byte] => list.push(*byte)?,
-        _ => list.extend_from_slice(bytes)?,
-    }
-    Ok(())
-}
-
-fn add(list: &mut Bytes, what: &str, bytes: &[u8]) -> Result<(), Fail> {
-    match what {
-        "put" => put_reserved(list, bytes),
-        _ => append(list, bytes),
-    }
-}
-
-fn change(alloc: Global, list: &mut Bytes, step: &str) -> Result<(), Fail> {
-    let (what, rest) = parted(step, ' ');
-    match what {
-        "of" => *list = Bytes::from_slice(alloc, &bytes_of(alloc, rest)?)?,
-        "again" => *list = Bytes::from_vec(mem::replace(list, Bytes::new(alloc)).into_vec()),
-        "push" | "add" | "put" => add(list, what, &bytes_of(alloc, rest)?)?,
-        "reserve" => list.reserve(rest.parse::<usize>()?)?,
-        "cut" => list.truncate(rest.parse::<usize>()?),
-        "clear" => list.clear(),
-        _ => return Err(Fail::new("no step")),
-    }
-    Ok(())
-}
-
-fn put_changes(alloc: Global, list: &mut Bytes, steps: &str, out: &mut String) -> Result<(), Fail> {
-    for step in steps.split('|') {
-        part(out)?;
-        change(alloc, list, step)?;
-        put_list(list, out)?;
-    }
-    Ok(())
-}
-
-pub fn put_lists(alloc: Global, steps: &str, out: &mut String) -> Result<(), Fail> {
-    put_changes(alloc, &mut Bytes::new(alloc), steps, out)
-}
-
-#[test]
-fn a_list_and_its_room_grow_and_shrink(rt: HostRuntime) -> Result<(), Fail> {
-    each_line(rt.alloc(), LISTS, 3, &Kind::Lists)
-}
+use std_outside::Input;
+use test_rows::{each_line, parted, put_str};
 
 // A source that gives one byte at a time.
 #[derive(Drop)]
@@ -136,8 +58,8 @@ fn put_fault(fault: ReadFault, out: &mut String) -> Result<(), Fail> {
     }
 }
 
-// Puts what a read or fetch of a whole input gave.
-fn put_input(answer: Result<Bytes, ReadFault>, out: &mut String) -> Result<(), Fail> {
+/// Puts what a read or fetch of a whole input gave.
+pub fn put_input(answer: Result<Bytes, ReadFault>, out: &mut String) -> Result<(), Fail> {
     match answer {
         Ok(all) => put_plain(all.as_slice(), out),
         Err(fault) => put_fault(fault, out),
@@ -183,11 +105,23 @@ memory hello - 1 2 2 = long 2; long 3; nothing; 0 faults
 memory hello 0 9 9 = failed; hello; 1 faults
 trickle hello 2,200 9 9 = failed; llo; 1 faults
 std hello - 9 = hello; 0 faults
-broken - - 9 = failed; 1 faults";
+broken - - 9 = failed; 1 faults
+input hello - 1 9 9 = long 2; llo; nothing; 0 faults
+broken_input - - 9 = failed; 1 faults";
 
 fn memory(alloc: Global, bytes: &str, fails: &str) -> Result<MemSource, Fail> {
     let bytes = Bytes::from_slice(alloc, bytes.as_bytes())?;
     Ok(MemSource::new(bytes, fails_of(alloc, fails)?))
+}
+
+// Reads by the source of the program.
+fn put_read_by_program<R: io::Read + Drop>(
+    alloc: Global,
+    reader: R,
+    limits: &str,
+    out: &mut String,
+) -> Result<(), Fail> {
+    put_reads(alloc, &mut Input::new(alloc, reader)?, limits, out)
 }
 
 pub fn put_sources(alloc: Global, row: &str, out: &mut String) -> Result<(), Fail> {
@@ -204,6 +138,8 @@ pub fn put_sources(alloc: Global, row: &str, out: &mut String) -> Result<(), Fai
         ),
         "std" => put_reads(alloc, &mut StdSource::new(bytes.as_bytes()), limits, out),
         "broken" => put_reads(alloc, &mut StdSource::new(Broken), limits, out),
+        "input" => put_read_by_program(alloc, bytes.as_bytes(), limits, out),
+        "broken_input" => put_read_by_program(alloc, Broken, limits, out),
         _ => Err(Fail::new("no source")),
     }
 }
@@ -212,31 +148,30 @@ pub fn put_sources(alloc: Global, row: &str, out: &mut String) -> Result<(), Fai
 fn an_input_is_read_to_its_end_unless_a_read_fails_or_it_is_too_long(
     rt: HostRuntime,
 ) -> Result<(), Fail> {
-    each_line(rt.alloc(), SOURCES, 7, &Kind::Sources)
+    each_line(rt.alloc(), SOURCES, 9, &Kind::Sources)
 }
 
 // Inputs of so many sevens, read with the limit 100,000.
 const LARGE: &str = "\
-100000 = 100000 bytes, the last 7
+100000 = 100000 bytes, all 7
 100001 = long 100001";
 
-fn put_last(bytes: &[u8], out: &mut String) -> Result<(), Fail> {
-    match bytes.last() {
-        Some(last) => Ok(write!(out, "{} bytes, the last {last}", bytes.len())?),
-        None => Err(Fail::new("no bytes")),
-    }
+fn put_sevens(bytes: &[u8], out: &mut String) -> Result<(), Fail> {
+    let same = bytes.iter().all(|byte| *byte == 7);
+    let which = if same { "all 7" } else { "not all 7" };
+    Ok(write!(out, "{} bytes, {which}", bytes.len())?)
 }
 
 pub fn put_large(alloc: Global, count: &str, out: &mut String) -> Result<(), Fail> {
     let mut src = RepeatSource::new(7, count.parse::<u64>()?);
     match read_all(alloc, &mut src, 100_000) {
-        Ok(all) => put_last(all.as_slice(), out),
+        Ok(all) => put_sevens(all.as_slice(), out),
         Err(fault) => put_fault(fault, out),
     }
 }
 
 #[test]
-fn a_large_input_is_read_in_growing_pieces(rt: HostRuntime) -> Result<(), Fail> {
+fn a_large_input_is_read_whole_up_to_the_limit(rt: HostRuntime) -> Result<(), Fail> {
     each_line(rt.alloc(), LARGE, 2, &Kind::Large)
 }
 
@@ -347,98 +282,4 @@ fn all_bytes_are_written_unless_a_write_fails_or_there_is_no_room(
     rt: HostRuntime,
 ) -> Result<(), Fail> {
     each_line(rt.alloc(), SINKS, 5, &Kind::Sinks)
-}
-
-// Steps with a shelf whose call 2 is to fail: a file is put, fetched whole with a limit, or fetched from a place into three bytes.
-const SHELVES: &str = "\
-put a first|all a 5|faults = put; first; 0 faults
-put a first|all a 4 = put; long 5
-put a first|at a 3|at a 6 = put; 2: 73 74 00; 0: 00 00 00
-put a first|put a second|all a 9 = put; put; second
-put a |all b 9|all a 0|faults|all a 0|faults = put; failed; nothing; 0 faults; failed; 1 faults";
-
-fn put_file(alloc: Global, shelf: &mut MemShelf, name: &str, file: &str) -> Result<(), Fail> {
-    shelf.put(name, Bytes::from_slice(alloc, file.as_bytes())?)?;
-    Ok(())
-}
-
-fn put_at<F: Shelf>(shelf: &mut F, name: &str, at: &str, out: &mut String) -> Result<(), Fail> {
-    let mut buf = [0; 3];
-    match shelf.fetch(name, at.parse::<u64>()?, &mut buf) {
-        Ok(count) => {
-            write!(out, "{count}: ")?;
-            put_digits(out, &buf)
-        }
-        Err(Failed) => put_str(out, "failed"),
-    }
-}
-
-fn put_whole<F: Shelf>(
-    alloc: Global,
-    shelf: &mut F,
-    name: &str,
-    limit: &str,
-    out: &mut String,
-) -> Result<(), Fail> {
-    let limit = limit.parse::<u32>()? as usize;
-    put_input(fetch_all(alloc, shelf, name, limit), out)
-}
-
-fn put_step(alloc: Global, shelf: &mut MemShelf, step: &str, out: &mut String) -> Result<(), Fail> {
-    let (what, rest) = parted(step, ' ');
-    let (name, rest) = parted(rest, ' ');
-    match what {
-        "put" => {
-            put_file(alloc, shelf, name, rest)?;
-            put_str(out, "put")
-        }
-        "all" => put_whole(alloc, shelf, name, rest, out),
-        "at" => put_at(shelf, name, rest, out),
-        "faults" => Ok(write!(out, "{} faults", shelf.faults())?),
-        _ => Err(Fail::new("no step")),
-    }
-}
-
-fn put_steps(
-    alloc: Global,
-    shelf: &mut MemShelf,
-    steps: &str,
-    out: &mut String,
-) -> Result<(), Fail> {
-    for step in steps.split('|') {
-        part(out)?;
-        put_step(alloc, shelf, step, out)?;
-    }
-    Ok(())
-}
-
-pub fn put_shelves(alloc: Global, steps: &str, out: &mut String) -> Result<(), Fail> {
-    let mut shelf = MemShelf::new(alloc, Bytes::from_slice(alloc, &[2])?);
-    put_steps(alloc, &mut shelf, steps, out)
-}
-
-#[test]
-fn a_file_is_fetched_unless_it_is_missing_or_too_long_or_a_fetch_fails(
-    rt: HostRuntime,
-) -> Result<(), Fail> {
-    each_line(rt.alloc(), SHELVES, 5, &Kind::Shelves)
-}
-
-// Writes a file of a folder, fetches it, and fetches it again when it is gone.
-fn put_fetches(rt: &HostRuntime, name: &str, out: &mut String) -> Result<(), Fail> {
-    std::fs::write(rt, name, b"hello".as_slice())?;
-    let mut shelf = DirShelf::new(rt);
-    put_whole(rt.alloc(), &mut shelf, name, "9", out)?;
-    put_str(out, "; ")?;
-    std::fs::remove_file(rt, name)?;
-    put_whole(rt.alloc(), &mut shelf, name, "9", out)?;
-    Ok(write!(out, "; {} faults", shelf.faults())?)
-}
-
-#[test]
-fn a_folder_is_a_shelf(rt: HostRuntime) -> Result<(), Fail> {
-    let name = format!(in rt.alloc(); "/tmp/dl_io-{}", process::id(rt.process()))?;
-    let mut told = String::new(rt.alloc());
-    put_fetches(&rt, name.as_str(), &mut told)?;
-    expect(told.as_str(), "hello; failed; 1 faults")
 }
