@@ -176,6 +176,26 @@ fn a_core_file_that_is_cut_anywhere_is_refused(rt: HostRuntime) -> Result<(), Fa
 
 #[test]
 fn causes_and_flaws_have_their_numbers(rt: HostRuntime) {
-    assert_eq!(rt; (Cause::NoChannel.number(), Cause::Base.number()), (6, 8));
-    assert_eq!(rt; (Flaw::Class.number(), Flaw::Addresses.number()), (1, 8));
+    let causes = [
+        Cause::NoId.number(),
+        Cause::Bounds.number(),
+        Cause::Offset.number(),
+        Cause::Flags.number(),
+        Cause::TwoIds.number(),
+        Cause::NoChannel.number(),
+        Cause::Core.number(),
+        Cause::Base.number(),
+    ];
+    assert_eq!(rt; causes.as_slice(), [1u8, 2, 3, 4, 5, 6, 7, 8].as_slice());
+    let flaws = [
+        Flaw::Class.number(),
+        Flaw::Order.number(),
+        Flaw::Header.number(),
+        Flaw::Kind.number(),
+        Flaw::EntrySize.number(),
+        Flaw::ProgramHeaders.number(),
+        Flaw::Bytes.number(),
+        Flaw::Addresses.number(),
+    ];
+    assert_eq!(rt; flaws.as_slice(), [1u8, 2, 3, 4, 5, 6, 7, 8].as_slice());
 }

@@ -6,6 +6,10 @@ mod dumps;
 #[cfg(test)]
 mod files;
 #[cfg(test)]
+mod headers;
+#[cfg(test)]
+mod markers;
+#[cfg(test)]
 mod rows;
 #[cfg(test)]
 mod symbols;

@@ -1,6 +1,7 @@
 //! The rows of the tests, by what is asked of their inputs.
 use crate::dumps::{put_cuts, put_dumps, put_segments};
-use crate::symbols::{put_answer_to_header, put_answer_to_markers};
+use crate::headers::put_answer_to_header;
+use crate::markers::put_answer_to_markers;
 use crate::tables::put_answer_to_symbols;
 use crate::{symbols, tables};
 use std::alloc::Global;

@@ -1,10 +1,10 @@
-//! The symbols of files as linkers leave them, of written files and of damaged files.
+//! The symbols of files, and those of written files and of damaged ones.
 ghost use Rattle.std.specs.Prelude.{◌≤◌, ◌<◌, ◌^◌, ◌≢◌, length, All, IfOk};
 ghost use Rattle.std.specs.Bool.{OnTrue};
 ghost use Rattle.elf_section.specs.Symbol.{plain_all};
 ghost use Rattle.elf_section.specs.Written.{IsWritable};
 
-use crate::files::{Linked, REFUSED, damage, put_over, put_unlike};
+use crate::files::{REFUSED, damage};
 use crate::rows::Kind;
 use defmt_intern::Profile;
 use dl_io::Bytes;
@@ -48,8 +48,8 @@ fn put_profile(alloc: Global, file: &[u8], out: &mut String) -> Result<(), Fail>
     }
 }
 
-// The symbols of a file and its profile, or its refusal.
-fn put_symbols(alloc: Global, file: &[u8], out: &mut String) -> Result<(), Fail> {
+/// Puts the symbols of a file and its profile, or its refusal.
+pub fn put_symbols(alloc: Global, file: &[u8], out: &mut String) -> Result<(), Fail> {
     if file.len() >= 1 << 32 {
         return Err(Fail::new("the file is too long"));
     }
@@ -60,306 +60,6 @@ fn put_symbols(alloc: Global, file: &[u8], out: &mut String) -> Result<(), Fail>
         }
         Err(fault) => put_refusal(fault, out),
     }
-}
-
-// The symbols behind the markers: three of `.defmt`, of which one has another name, and one of another section.
-const OTHERS: &str =
-    r#"3 3 {"package":"app","tag":"defmt_info","data":"hello","disambiguator":"7","crate_name":"app","x":[1,{"y":null}]}
-2 4 {"out":0}
-3 0 {"zero":0}
-3 2 main"#;
-
-// Pushes the symbols of a file with these markers, of which the first lies in `.defmt`.
-fn push_marked(linked: &mut Linked, markers: &str) -> Result<(), Fail> {
-    let Some((version, others)) = markers.split_once('\n') else {
-        return Err(Fail::new("no markers"));
-    };
-    linked.begin("3 0\n3 0 $d")?;
-    linked.push_named(3, 0, version)?;
-    for marker in others.lines() {
-        linked.push_named(65521, 0, marker)?;
-    }
-    linked.push_lines(OTHERS)
-}
-
-fn put_marked(alloc: Global, wide: bool, markers: &str, file: &mut Vec<u8>) -> Result<(), Fail> {
-    let mut linked = Linked::new(alloc, wide);
-    push_marked(&mut linked, markers)?;
-    linked.put_file(file)
-}
-
-fn put_symbols_by_markers(
-    alloc: Global,
-    wide: bool,
-    markers: &str,
-    out: &mut String,
-) -> Result<(), Fail> {
-    let mut file = Vec::new(alloc);
-    put_marked(alloc, wide, markers, &mut file)?;
-    put_symbols(alloc, &file, out)
-}
-
-pub fn put_answer_to_markers(alloc: Global, markers: &str, out: &mut String) -> Result<(), Fail> {
-    put_symbols_by_markers(alloc, false, markers, out)?;
-    let mut wide = String::new(alloc);
-    put_symbols_by_markers(alloc, true, markers, &mut wide)?;
-    put_unlike(wide.as_str(), out)
-}
-
-const MARKERS: &str = "\
-\"_defmt_version_ = 4\"
-_defmt_encoding_ = rzcobs
-=
-2 symbols; 3 {\"package\":\"app\",\"tag\":\"defmt_info\",\"data\":\"hello\",\"disambiguator\":\"7\",\"crate_name\":\"app\",\"x\":[1,{\"y\":null}]}; 0 {\"zero\":0}
-
-\"_defmt_version_ = 4\"
-\"_defmt_encoding_ = rzcobs\"
-=
-2 symbols; 3 {\"package\":\"app\",\"tag\":\"defmt_info\",\"data\":\"hello\",\"disambiguator\":\"7\",\"crate_name\":\"app\",\"x\":[1,{\"y\":null}]}; 0 {\"zero\":0}
-
-_defmt_version_ = 4
-_defmt_encoding_ = rzcobs
-=
-2 symbols; 3 {\"package\":\"app\",\"tag\":\"defmt_info\",\"data\":\"hello\",\"disambiguator\":\"7\",\"crate_name\":\"app\",\"x\":[1,{\"y\":null}]}; 0 {\"zero\":0}
-
-_defmt_version_ = 4
-\"_defmt_encoding_ = rzcobs\"
-=
-2 symbols; 3 {\"package\":\"app\",\"tag\":\"defmt_info\",\"data\":\"hello\",\"disambiguator\":\"7\",\"crate_name\":\"app\",\"x\":[1,{\"y\":null}]}; 0 {\"zero\":0}
-
-_defmt_version_ = 5
-_defmt_encoding_ = rzcobs
-=
-cause 7 Nothing 0
-
-_defmt_version_ = 40
-_defmt_encoding_ = rzcobs
-=
-cause 7 Nothing 0
-
-_defmt_version_ =\x20
-_defmt_encoding_ = rzcobs
-=
-cause 7 Nothing 0
-
-_defmt_version_= 4
-_defmt_encoding_ = rzcobs
-=
-cause 7 Nothing 0
-
-'_defmt_version_ = 4'
-_defmt_encoding_ = rzcobs
-=
-cause 7 Nothing 0
-
-\"_defmt_version_ = 4
-_defmt_encoding_ = rzcobs
-=
-cause 7 Nothing 0
-
-_defmt_version_ = 4\"
-_defmt_encoding_ = rzcobs
-=
-cause 7 Nothing 0
-
-\"
-_defmt_encoding_ = rzcobs
-=
-cause 7 Nothing 0
-
-_defmt_version_ = 4
-_defmt_encoding_ = raw
-=
-cause 8 Nothing 0
-
-_defmt_version_ = 4
-_defmt_encoding_ = rzcobs\x20
-=
-cause 8 Nothing 0
-
-_defmt_version_ = 4
-\"_defmt_encoding_ = raw\"
-=
-cause 8 Nothing 0
-
-_defmt_version_ = 4
-_defmt_version_ = 4
-=
-cause 8 Nothing 0
-
-_defmt_version_ = 4
-_defmt_encoding_ = rzcobs
-_defmt_profile_ = 2
-=
-2 symbols; 3 {\"package\":\"app\",\"tag\":\"defmt_info\",\"data\":\"hello\",\"disambiguator\":\"7\",\"crate_name\":\"app\",\"x\":[1,{\"y\":null}]}; 0 {\"zero\":0}; profile Two
-
-_defmt_version_ = 4
-_defmt_encoding_ = rzcobs
-\"_defmt_profile_ = 2\"
-=
-2 symbols; 3 {\"package\":\"app\",\"tag\":\"defmt_info\",\"data\":\"hello\",\"disambiguator\":\"7\",\"crate_name\":\"app\",\"x\":[1,{\"y\":null}]}; 0 {\"zero\":0}; profile Two
-
-_defmt_version_ = 4
-_defmt_encoding_ = rzcobs
-_defmt_profile_ = 2
-\"_defmt_profile_ = 2\"
-=
-2 symbols; 3 {\"package\":\"app\",\"tag\":\"defmt_info\",\"data\":\"hello\",\"disambiguator\":\"7\",\"crate_name\":\"app\",\"x\":[1,{\"y\":null}]}; 0 {\"zero\":0}; profile Two
-
-_defmt_version_ = 4
-_defmt_encoding_ = rzcobs
-_defmt_profile_ = 1
-=
-2 symbols; 3 {\"package\":\"app\",\"tag\":\"defmt_info\",\"data\":\"hello\",\"disambiguator\":\"7\",\"crate_name\":\"app\",\"x\":[1,{\"y\":null}]}; 0 {\"zero\":0}
-
-_defmt_version_ = 4
-_defmt_encoding_ = rzcobs
-_defmt_profile_= 2
-=
-2 symbols; 3 {\"package\":\"app\",\"tag\":\"defmt_info\",\"data\":\"hello\",\"disambiguator\":\"7\",\"crate_name\":\"app\",\"x\":[1,{\"y\":null}]}; 0 {\"zero\":0}
-
-_defmt_version_ = 4
-_defmt_encoding_ = rzcobs
-\"_defmt_profile_ = 2
-=
-2 symbols; 3 {\"package\":\"app\",\"tag\":\"defmt_info\",\"data\":\"hello\",\"disambiguator\":\"7\",\"crate_name\":\"app\",\"x\":[1,{\"y\":null}]}; 0 {\"zero\":0}
-
-_defmt_version_ = 4
-_defmt_encoding_ = rzcobs
-_defmt_profile_ = 3
-=
-cause 9 Nothing 0
-
-_defmt_version_ = 4
-_defmt_encoding_ = rzcobs
-_defmt_profile_ = 22
-=
-cause 9 Nothing 0
-
-_defmt_version_ = 4
-_defmt_encoding_ = rzcobs
-_defmt_profile_ =\x20
-=
-cause 9 Nothing 0
-
-_defmt_version_ = 4
-_defmt_encoding_ = rzcobs
-_defmt_profile_ = 1
-\"_defmt_profile_ = 2\"
-=
-cause 9 Nothing 0
-
-_defmt_version_ = 5
-_defmt_encoding_ = rzcobs
-_defmt_profile_ = 3
-=
-cause 7 Nothing 0
-
-_defmt_version_ = 4
-_defmt_encoding_ = raw
-_defmt_profile_ = 3
-=
-cause 8 Nothing 0";
-
-#[test]
-fn the_markers_are_taken_in_both_spellings_and_in_no_other(rt: HostRuntime) -> Result<(), Fail> {
-    each_block(rt.alloc(), MARKERS, 28, &Kind::AnswerToMarkers)
-}
-
-// The class, the section whose header has other bytes or the file's own header, their place and the bytes. In their order: the
-// place of the section headers; no number of sections, as in extended numbering, and the escape for the section of the names;
-// the place, the size and the name of sections; a compressed symbol table, and compressed strings; strings that lie over the
-// symbol table, where no name is a marker; strings that end in front of the last name's zero, or are empty; no names of sections.
-const HEADERS: &str = "\
-32 file 32 ff ff ff ff = cause 4 Sections 0
-32 file 32 00 00 00 80 = cause 4 Sections 0
-32 file 32 f0 ff ff ff = cause 4 Sections 0
-64 file 40 ff ff ff ff ff ff ff ff = cause 4 Sections 0
-64 file 40 00 00 00 00 00 00 00 80 = cause 4 Sections 0
-64 file 40 40 fe ff ff ff ff ff ff = cause 4 Sections 0
-32 file 48 00 00 = cause 5 Nothing 0
-32 file 50 ff ff = cause 4 Names 65535
-32 4 16 ff ff ff ff = cause 4 Names 4
-64 4 32 ff ff ff ff ff ff ff ff = cause 4 Names 4
-32 2 0 ff ff ff ff = cause 4 SectionName 2
-64 6 0 ff ff ff ff = cause 4 SectionName 6
-32 5 20 f0 ff ff ff = cause 4 Symbols 5
-64 5 24 ff ff ff ff ff ff ff ff = cause 4 Symbols 5
-64 5 32 f8 ff ff ff ff ff ff ff = cause 4 Symbols 5
-32 5 24 ff ff ff ff = cause 4 Symbols 5
-64 5 56 ff ff ff ff ff ff ff ff = cause 4 Symbols 5
-32 6 16 ff ff ff ff = cause 4 Strings 6
-64 6 24 ff ff ff ff ff ff ff ff = cause 4 Strings 6
-32 5 9 08 = cause 6 Nothing 0
-64 5 9 08 = cause 6 Nothing 0
-32 6 9 08 = cause 6 Nothing 0
-64 6 9 08 = cause 6 Nothing 0
-32 6 16 1f 01 00 00 = cause 7 Nothing 0
-64 6 24 2b 01 00 00 = cause 7 Nothing 0
-32 6 20 ba = cause 4 SymbolName 8
-32 6 20 00 00 00 00 = cause 4 SymbolName 1
-32 4 20 00 00 00 00 = cause 4 SectionName 0";
-
-const SOUND: &str = "_defmt_version_ = 4\n_defmt_encoding_ = rzcobs";
-
-fn put_other_bytes(
-    alloc: Global,
-    linked: &Linked,
-    change: &str,
-    file: &mut Vec<u8>,
-) -> Result<(), Fail> {
-    let (section, rest) = parted(change, ' ');
-    let (field, digits) = parted(rest, ' ');
-    let at = linked
-        .header_at(section)?
-        .wrapping_add(field.parse::<u64>()?);
-    put_over(file, at as usize, &bytes_of(alloc, digits)?)
-}
-
-fn put_changed(alloc: Global, change: &str, file: &mut Vec<u8>) -> Result<(), Fail> {
-    let (class, change) = parted(change, ' ');
-    let mut linked = Linked::new(alloc, class == "64");
-    push_marked(&mut linked, SOUND)?;
-    linked.put_file(file)?;
-    put_other_bytes(alloc, &linked, change, file)
-}
-
-pub fn put_answer_to_header(alloc: Global, change: &str, out: &mut String) -> Result<(), Fail> {
-    let mut file = Vec::new(alloc);
-    put_changed(alloc, change, &mut file)?;
-    put_symbols(alloc, &file, out)
-}
-
-// 65,536 symbols more, whose names begin like quoted markers and all end at the end of one text of 4 MB.
-fn push_crowd(alloc: Global, linked: &mut Linked) -> Result<(), Fail> {
-    const FRONT: &str = "\"_defmt_version_ = ";
-    push_marked(linked, SOUND)?;
-    for _ in 0..65536 {
-        linked.push_symbol(3, 0)?;
-        linked.push_bytes(FRONT.as_bytes())?;
-    }
-    linked.push_bytes(FRONT.repeat(alloc, 150000)?.as_bytes())?;
-    linked.push_bytes(b"x\0")
-}
-
-fn put_crowded(alloc: Global, file: &mut Vec<u8>) -> Result<(), Fail> {
-    let mut linked = Linked::new(alloc, false);
-    push_crowd(alloc, &mut linked)?;
-    linked.put_file(file)
-}
-
-fn put_answer_to_crowd(alloc: Global, out: &mut String) -> Result<(), Fail> {
-    let mut file = Vec::new(alloc);
-    put_crowded(alloc, &mut file)?;
-    put_symbols(alloc, &file, out)
-}
-
-#[test]
-fn many_names_in_one_long_text_take_no_longer(rt: HostRuntime) -> Result<(), Fail> {
-    let mut told = String::new(rt.alloc());
-    put_answer_to_crowd(rt.alloc(), &mut told)?;
-    assert!(rt; told.as_str().starts_with("2 symbols; 3 "));
-    Ok(())
 }
 
 // Whether no byte is zero.
@@ -556,7 +256,6 @@ pub fn put_answer_of_two(alloc: Global, text: &str, out: &mut String) -> Result<
 fn a_damaged_file_gives_its_refusal_or_its_symbol_as_it_stands(
     rt: HostRuntime,
 ) -> Result<(), Fail> {
-    each_line(rt.alloc(), HEADERS, 28, &Kind::AnswerToHeader)?;
     each_line(rt.alloc(), REFUSED, 16, &Kind::SymbolAnswerToDamage)?;
     each_line(rt.alloc(), READ, 5, &Kind::SymbolAnswerToDamage)?;
     each_line(rt.alloc(), READ_OF_TWO, 5, &Kind::SymbolAnswerOfTwo)
