@@ -259,5 +259,15 @@ fn a_text_grows_and_gives_its_string_back(rt: HostRuntime) -> Result<(), Fail> {
 
 #[test]
 fn causes_have_their_numbers(rt: HostRuntime) {
-    assert_eq!(rt; (Cause::Brace.number(), Cause::Float.number()), (1, 8));
+    let numbers = [
+        Cause::Brace.number(),
+        Cause::Kind.number(),
+        Cause::Hint.number(),
+        Cause::Range.number(),
+        Cause::Conflict.number(),
+        Cause::Gap.number(),
+        Cause::Many.number(),
+        Cause::Float.number(),
+    ];
+    assert_eq!(rt; numbers.as_slice(), [1u8, 2, 3, 4, 5, 6, 7, 8].as_slice());
 }

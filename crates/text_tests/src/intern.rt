@@ -1,15 +1,12 @@
-//! Tables, what their texts stand for, and symbol names.
+//! Tables, and what their texts stand for.
 use crate::rows;
-use crate::shared::{entry_of, pieces_of, put, put_visible, table_of};
-use defmt_grammar::{Kind, Mode, Param, Piece, Text};
-use defmt_intern::{
-    Entry, Forms, NameFault, NameKey, Parsed, Profile, Table, TableFault, Tag, read_name,
-    symbol_name,
-};
+use crate::shared::{entry_of, pieces_of, put, table_of};
+use defmt_grammar::{Kind, Mode, Param, Piece};
+use defmt_intern::{Forms, Parsed, Profile, Table, TableFault};
 use std::alloc::Global;
 use std::fmt::Write;
 use std::test::Fail;
-use test_rows::{bytes_of, each_block, each_line, expect, put_str};
+use test_rows::{each_block, each_line, expect, put_str};
 
 const ENTRIES: &str = "\
 - defmt_info a*5
@@ -67,23 +64,6 @@ stamp Some(700)
 700 defmt_timestamp {=u64}
 701 defmt_info new
 ";
-
-const WRITTEN: &str =
-    r#"defmt_info 68 65 6c 6c 6f = 74 bytes {"data":"hello","disambiguator":"1","package":"script","tag":"defmt_info"}
-defmt_str 61 22 62 5c 0a 01 c3 a9 = 84 bytes {"data":"a\"b\\\n\u0001é","disambiguator":"1","package":"script","tag":"defmt_str"}"#;
-
-const READ: &str =
-    r#"{"data":"a\"b\\\n\u0001é","disambiguator":"1","package":"script","tag":"defmt_str"} = defmt_str, script, 1, a"b\<0a><01>é
-{"package":"p","crate_name":"c","tag":"defmt_warn","x":{"tag":[1,{"data":2}]},"data":"first","disambiguator":"9","data":"last"} = defmt_warn, p, 9, last
-{"package":"p","tag":"defmt_bitflags","data":"d","disambiguator":"9"} = other defmt_bitflags, p, 9, d
-{ = no object
-[] = no object
-{}{} = no object
-hex 7b 22 61 22 3a 22 ff 22 7d = no object
-{"tag":"defmt_info"} = no package
-{"package":"p","tag":7} = no tag
-{"package":"p","tag":"t"} = no data
-{"package":"p","tag":"t","data":"","disambiguator":null} = no disambiguator"#;
 
 fn put_entry(alloc: Global, table: &mut Table, line: &str, out: &mut String) -> Result<(), Fail> {
     match put(alloc, table, line)? {
@@ -226,68 +206,6 @@ fn put_copied(alloc: Global, lines: &str, out: &mut String) -> Result<(), Fail> 
     put_copy(&table, &copy, out)
 }
 
-fn name_of(alloc: Global, tag: &str, text: &str) -> Result<Text, Fail> {
-    let entry = entry_of(alloc, tag, text)?;
-    Ok(symbol_name(alloc, &entry)?)
-}
-
-fn put_name(alloc: Global, tag: &str, text: &str, out: &mut String) -> Result<(), Fail> {
-    let name = name_of(alloc, tag, text)?;
-    Ok(write!(out, "{} bytes {}", name.len(), name.as_str())?)
-}
-
-/// Puts the symbol name of an entry of this tag, whose text's bytes are given.
-pub fn put_written(alloc: Global, input: &str, out: &mut String) -> Result<(), Fail> {
-    let (tag, digits) = input.split_once(' ').ok_or("no text")?;
-    let bytes = bytes_of(alloc, digits)?;
-    put_name(alloc, tag, str::from_utf8(bytes.as_slice())?, out)
-}
-
-fn put_read_entry(entry: &Entry, out: &mut String) -> Result<(), Fail> {
-    let front = match entry.tag {
-        Tag::Other(_) => "other ",
-        _ => "",
-    };
-    write!(
-        out,
-        "{front}{}, {}, {}, ",
-        entry.tag.name(),
-        entry.package.as_str(),
-        entry.disambiguator.as_str()
-    )?;
-    put_visible(entry.text.as_str(), out)
-}
-
-fn fault_text(fault: NameFault) -> &'static str {
-    match fault {
-        NameFault::Json => "no object",
-        NameFault::Key {
-            key: NameKey::Package,
-        } => "no package",
-        NameFault::Key { key: NameKey::Tag } => "no tag",
-        NameFault::Key { key: NameKey::Data } => "no data",
-        NameFault::Key {
-            key: NameKey::Disambiguator,
-        } => "no disambiguator",
-        NameFault::Memory => "memory",
-    }
-}
-
-fn put_read(alloc: Global, name: &[u8], out: &mut String) -> Result<(), Fail> {
-    match read_name(alloc, name) {
-        Ok(entry) => put_read_entry(&entry, out),
-        Err(fault) => put_str(out, fault_text(fault)),
-    }
-}
-
-/// Puts what a name reads as, which stands as it is or as `hex` and the digits of its bytes.
-pub fn put_name_text(alloc: Global, input: &str, out: &mut String) -> Result<(), Fail> {
-    match input.strip_prefix("hex ") {
-        Some(digits) => put_read(alloc, bytes_of(alloc, digits)?.as_slice(), out),
-        None => put_read(alloc, input.as_bytes(), out),
-    }
-}
-
 #[test]
 fn entries_are_put_behind_the_greatest_index_and_refusals_leave_the_table(
     rt: HostRuntime,
@@ -313,12 +231,4 @@ fn variants_are_pushed_and_a_copy_has_the_same_entries_in_order(
     let mut copy = String::new(rt.alloc());
     put_copied(rt.alloc(), COPIED, &mut copy)?;
     expect(copy.as_str(), IN_THE_COPY)
-}
-
-#[test]
-fn names_are_compact_json_and_read_or_refused_and_the_last_of_equal_keys_counts(
-    rt: HostRuntime,
-) -> Result<(), Fail> {
-    each_line(rt.alloc(), WRITTEN, 2, &rows::Kind::Written)?;
-    each_line(rt.alloc(), READ, 11, &rows::Kind::NameText)
 }

@@ -12,6 +12,8 @@ mod hints;
 #[cfg(test)]
 mod intern;
 #[cfg(test)]
+mod names;
+#[cfg(test)]
 mod places;
 #[cfg(test)]
 mod rows;
