@@ -103,7 +103,8 @@ fn put_entry(line: &EntryLine<'_>, out: &mut String) -> Result<(), Fail> {
     Ok(write!(out, "entry <{name}> {tag} <{text}>")?)
 }
 
-fn name_of(form: Form) -> &'static str {
+/// The name of a form in rows.
+pub fn name_of(form: Form) -> &'static str {
     match form {
         Form::Ring => "ring",
         Form::Mode => "mode",
@@ -217,11 +218,4 @@ fn settings_are_decimal_numbers_and_words(rt: HostRuntime) -> Result<(), Fail> {
 fn a_text_is_read_by_its_tag_and_a_name_begins_with_a_letter(rt: HostRuntime) -> Result<(), Fail> {
     each_line(rt.alloc(), TEXTS, 5, &Kind::VerdictOf)?;
     each_line(rt.alloc(), NAMES, 2, &Kind::NameOf)
-}
-
-#[test]
-fn causes_have_numbers_and_forms_an_order(rt: HostRuntime) {
-    assert_eq!(rt; Cause::Text(6).number(), 10);
-    assert_eq!(rt; Cause::Text(6).inner(), 6);
-    assert!(rt; Form::Stamp.next().is_in_order(Form::Stamp));
 }

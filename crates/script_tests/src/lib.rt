@@ -8,6 +8,8 @@ mod calls;
 #[cfg(test)]
 mod content;
 #[cfg(test)]
+mod forms;
+#[cfg(test)]
 mod generated;
 #[cfg(test)]
 mod readers;

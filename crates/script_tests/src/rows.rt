@@ -4,6 +4,7 @@ use crate::calls::{put_quick_call, put_quick_number};
 use crate::content::{
     put_cut, put_name, put_said_by_bytes, put_said_by_text, put_setting, put_verdict,
 };
+use crate::forms::put_forms_behind;
 use crate::readers::put_quick_value;
 use crate::scripts::{put_refusal, put_refusal_at_limit};
 use crate::shapes::{
@@ -23,6 +24,7 @@ pub enum Kind {
     SaidByText,
     SaidByBytes,
     SettingOf,
+    FormsBehind,
     VerdictOf,
     NameOf,
     RefusalOf,
@@ -48,6 +50,7 @@ impl Question for Kind {
             Self::SaidByText => put_said_by_text(input, out),
             Self::SaidByBytes => put_said_by_bytes(alloc, input, out),
             Self::SettingOf => put_setting(input, out),
+            Self::FormsBehind => put_forms_behind(input, out),
             Self::VerdictOf => put_verdict(alloc, input, out),
             Self::NameOf => put_name(input, out),
             Self::RefusalOf => put_refusal(alloc, input, out),

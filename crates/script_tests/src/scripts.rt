@@ -191,13 +191,18 @@ fn put_steps(script: &Script, writer: u8, out: &mut String) -> Result<(), Fail> 
     Ok(out.push('\n')?)
 }
 
-// The statements of the writers that have some, and then the texts.
+// The statements of the writers that have some.
 fn put_writers(alloc: Global, script: &Script, out: &mut String) -> Result<(), Fail> {
     for writer in 0..9u8 {
         if script.count(writer) > 0 || script.statement(writer, 0).is_some() {
             put_writer(alloc, script, writer, out)?;
         }
     }
+    Ok(())
+}
+
+// The texts of the writers that say some, and their steps.
+fn put_speakers(script: &Script, out: &mut String) -> Result<(), Fail> {
     for writer in 0..9u8 {
         if script.count_said(writer) > 0 || script.said(writer, 0).is_some() {
             put_texts(script, writer, out)?;
@@ -230,7 +235,8 @@ fn put_script(alloc: Global, script: &Script, out: &mut String) -> Result<(), Fa
     put_orders(script, out)?;
     out.push('\n')?;
     put_strings(script, out)?;
-    put_writers(alloc, script, out)
+    put_writers(alloc, script, out)?;
+    put_speakers(script, out)
 }
 
 fn put_said(alloc: Global, text: &str, out: &mut String) -> Result<(), Fail> {

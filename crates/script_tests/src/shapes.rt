@@ -144,15 +144,18 @@ pub fn put_behind_spaces(row: &str, out: &mut String) -> Result<(), Fail> {
     Ok(write!(out, "<{rest}>")?)
 }
 
-// So many calls that are opened, and so many that are closed.
-fn put_calls(opened: u32, closed: u32, text: &mut String) -> Result<(), Fail> {
-    for _ in 0..opened {
-        put_str(text, "k(")?;
-    }
-    for _ in 0..closed {
-        text.push(')')?;
+// Puts a word so often.
+fn put_times(count: u32, word: &str, text: &mut String) -> Result<(), Fail> {
+    for _ in 0..count {
+        put_str(text, word)?;
     }
     Ok(())
+}
+
+// So many calls that are opened, and so many that are closed.
+fn put_calls(opened: u32, closed: u32, text: &mut String) -> Result<(), Fail> {
+    put_times(opened, "k(", text)?;
+    put_times(closed, ")", text)
 }
 
 fn put_behind(alloc: Global, text: &str, out: &mut String) -> Result<(), Fail> {
