@@ -2,7 +2,7 @@
 ghost use Rattle.std.specs.Prelude.{OnOk};
 ghost use Rattle.defmt_values.specs.Fits.{IsLogged};
 
-use crate::messages::{put_cause, put_place};
+use crate::reading::{put_cause, put_place};
 use defmt_eager::{EagerFault, line};
 use defmt_encode::{Heard, read_message};
 use defmt_grammar::Text;

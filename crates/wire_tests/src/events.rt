@@ -2,7 +2,7 @@
 use crate::rows::Kind;
 use crate::runs::{bytes_of, put_count};
 use crate::strings::{end_line, script_of, table_of};
-use defmt_decode::{Event, Host, gap};
+use defmt_decode::{Event, Host};
 use defmt_grammar::Text;
 use defmt_intern::Table;
 use std::alloc::Global;
@@ -111,16 +111,6 @@ hear 00 01 7e 00 00 7f 00 00 01 03 7a 00
 1 place 0: INFO  hello; 1 place 3: INFO  hello
 1 place 65535: INFO  hello; 1 place 1: INFO  hello
 1 place 0: INFO  hello; E2; 1 place 3: INFO  hello";
-
-// The places of two lines, and how many frames are missing between them.
-const GAPS: &str = "\
-0 1 = 0
-0 3 = 2
-1 3 = 1
-65535 1 = 1
-65535 0 = 0
-5 5 = 65535
-10 9 = 65534";
 
 fn put_line(out: &mut String, index: u16, place: Option<u16>, line: &Text) -> Result<(), Fail> {
     write!(out, "{index}")?;
@@ -246,14 +236,6 @@ pub fn put_told_by_table(alloc: Global, block: &str, out: &mut String) -> Result
     put_told_of_each(alloc, &table, rows, out)
 }
 
-pub fn put_gap_of(places: &str, out: &mut String) -> Result<(), Fail> {
-    let Some((last, next)) = places.split_once(' ') else {
-        return Err(Fail::new("no second place"));
-    };
-    let missing = gap(last.parse::<u16>()?, next.parse::<u16>()?);
-    Ok(write!(out, "{missing}")?)
-}
-
 fn put_call(host: &mut Host, bytes: &[u8], out: &mut String) -> Result<(), Fail> {
     let (taken, event) = host.feed(bytes)?;
     put_taken(out, taken, event)
@@ -305,9 +287,4 @@ fn streams_are_heard_by_calls_and_cut_at_any_place(rt: HostRuntime) -> Result<()
 fn strings_of_scripts_and_others_have_lines_and_faults(rt: HostRuntime) -> Result<(), Fail> {
     each_block(rt.alloc(), BY_SCRIPTS, 8, &Kind::ToldByScript)?;
     each_block(rt.alloc(), BY_TABLES, 3, &Kind::ToldByTable)
-}
-
-#[test]
-fn gaps_count_round_the_end(rt: HostRuntime) -> Result<(), Fail> {
-    each_line(rt.alloc(), GAPS, 7, &Kind::GapOf)
 }

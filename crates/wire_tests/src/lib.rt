@@ -10,6 +10,8 @@ mod ears;
 #[cfg(test)]
 mod events;
 #[cfg(test)]
+mod gaps;
+#[cfg(test)]
 mod hearing;
 #[cfg(test)]
 mod messages;
@@ -17,6 +19,8 @@ mod messages;
 mod parts;
 #[cfg(test)]
 mod plans;
+#[cfg(test)]
+mod reading;
 #[cfg(test)]
 mod rows;
 #[cfg(test)]

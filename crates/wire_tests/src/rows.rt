@@ -1,5 +1,5 @@
 //! The rows of the tests, by what is asked of their inputs.
-use crate::{codes, events, hearing, messages, parts, plans, screens};
+use crate::{codes, events, gaps, hearing, messages, parts, plans, reading, screens};
 use std::alloc::Global;
 use std::test::Fail;
 use test_rows::Question;
@@ -45,11 +45,11 @@ impl Question for Kind {
             Self::EventCallsOf => events::put_calls_of(alloc, input, out),
             Self::ToldByScript => events::put_told_by_script(alloc, input, out),
             Self::ToldByTable => events::put_told_by_table(alloc, input, out),
-            Self::GapOf => events::put_gap_of(input, out),
+            Self::GapOf => gaps::put_gap_of(input, out),
             Self::Shown => screens::put_shown_of(alloc, input, out),
             Self::Sent => messages::put_sent(alloc, input, out),
-            Self::ReadByScript => messages::put_read_by_script(alloc, input, out),
-            Self::ReadByTable => messages::put_read_by_table(alloc, input, out),
+            Self::ReadByScript => reading::put_read_by_script(alloc, input, out),
+            Self::ReadByTable => reading::put_read_by_table(alloc, input, out),
             Self::WrittenOfLetters => messages::put_written_of_letters(alloc, input, out),
             Self::PartsOf => parts::put_parts_of(alloc, input, out),
             Self::PartCallsOf => parts::put_calls_of(alloc, input, out),
