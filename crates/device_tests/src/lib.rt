@@ -3,7 +3,13 @@
 //! Tests of the device: stamps, the macros that put messages, a logger with its pens, a steered logger with its helms, and
 //! writers in threads, with texts and under orders too.
 #[cfg(test)]
+mod alone;
+#[cfg(test)]
+mod arguments;
+#[cfg(test)]
 mod forms;
+#[cfg(test)]
+mod gates;
 #[cfg(test)]
 mod hooks;
 #[cfg(test)]

@@ -1,5 +1,6 @@
 //! The rows of the tests, by what is asked of their inputs.
-use crate::forms::put_form;
+use crate::alone::put_alone;
+use crate::arguments::put_form;
 use crate::hooks::{put_packages, put_rank, put_rules, put_stamps};
 use crate::hosted::put_hosted;
 use crate::logger::{put_logged, put_logged_and_dropped};
@@ -7,7 +8,7 @@ use crate::macros::put_message;
 use crate::sites::{put_list, put_site};
 use crate::steering::{put_heard, put_steered};
 use crate::talks::put_talk;
-use crate::writers::{put_alone, put_in_time, put_meeting, put_open, put_queued};
+use crate::writers::{put_in_time, put_meeting, put_open, put_queued};
 use std::alloc::Global;
 use std::sync::Wait;
 use std::test::Fail;

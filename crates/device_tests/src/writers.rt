@@ -1,29 +1,20 @@
 //! Scripts that are run by threads, under gates that hold some of them.
-ghost use Rattle.std.specs.Prelude.{◌≡◌, [], IfOk};
-ghost use Rattle.defmt_frames.specs.Frames.{pace_of};
-ghost use Rattle.defmt_logger.specs.Kept.{TellsIn};
+ghost use Rattle.std.specs.Prelude.{◌≡◌, IfOk};
 ghost use Rattle.defmt_writers.specs.Runs.{ModeFits};
-ghost use Rattle.rtt_ring.specs.Views.{new_down, new_up};
-ghost use Rattle.shared_work.specs.Names.{AreNamed};
 
+use crate::gates::Hold;
 use crate::rows::{Kind, each_block};
 use crate::scripts::{put_digits_or_nothing, put_marks, script_of, stamp_of};
-use defmt_hooks::{Clock, Stamp};
-use defmt_logger::{EachStatement, Logger, Logging, Naming};
 use defmt_script::{RingMode, Script};
-use defmt_writers::{Gate, OpenGate, Run, run_script, serve_here};
-use dl_io::Bytes;
+use defmt_writers::{Gate, OpenGate, Run, run_script};
 use rtt_ring::{Channel, QueueRing, WordRing};
-use shared_work::{Blanks, Eight, Names};
 use std::alloc::Global;
 use std::fmt::Write;
-use std::marker::Brand;
 use std::sync::Wait;
 use std::sync::atomic::{AtomicU64, Ordering};
 use std::test::Fail;
-use std::thread;
 use std::thread::Threads;
-use test_rows::{put_digits, put_str};
+use test_rows::put_str;
 
 // A script of the writers 0 and 1 with a statement each: what came of it where they wait for each other.
 const MEETINGS: &str = "\
@@ -149,69 +140,6 @@ const EMPTY: &str = "
 captured nothing
 rest nothing";
 
-// A script that one thread runs alone, with room for 64 bytes, and what it sent.
-const ALONE: &str = r#"ring 16
-s say defmt_info {=str}
-w 0 say "abcdefghijklmnopqrstuvwxyzabcdefgh"
-=
-00 01 22 61 3a 62 63 64 65 66 67 68 69 6a 6b 6c 6d 6e 6f 70 71 72 73 74 75 76 77 78 79 7a 61 62 63 64 65 66 67 68 9a 00"#;
-
-// How many turns a gate holds a writer at most.
-const TURNS: u64 = 10_000_000;
-
-// Waits until the number is at least this, and tells whether it was within so many turns.
-fn reaches(number: &AtomicU64, least: u64) -> bool {
-    for _ in 0..TURNS {
-        if number.load(Ordering::SeqCst) >= least {
-            return true;
-        }
-        thread::yield_now();
-    }
-    false
-}
-
-// Holds the writers below a number at a place, until so many of them were asked there and so many bytes were taken. Those that
-// then pass are counted.
-#[derive(Drop)]
-struct Hold {
-    below: u8,
-    place: u32,
-    asked_least: u64,
-    taken_least: u64,
-    asked: AtomicU64,
-    taken: AtomicU64,
-    passed: AtomicU64,
-}
-
-impl Hold {
-    fn new(below: u8, place: u32, asked_least: u64, taken_least: u64) -> Hold {
-        Hold {
-            below,
-            place,
-            asked_least,
-            taken_least,
-            asked: AtomicU64::new(0),
-            taken: AtomicU64::new(0),
-            passed: AtomicU64::new(0),
-        }
-    }
-}
-
-impl Gate for Hold {
-    fn pass(&self, writer: u8, place: u32) {
-        if writer < self.below && place == self.place {
-            self.asked.fetch_add(1, Ordering::SeqCst);
-            if reaches(&self.asked, self.asked_least) && reaches(&self.taken, self.taken_least) {
-                self.passed.fetch_add(1, Ordering::SeqCst);
-            }
-        }
-    }
-
-    fn took(&self, total: u64) {
-        self.taken.store(total, Ordering::SeqCst);
-    }
-}
-
 // What is told of a run in front of its account, and the count of the writers that passed a gate.
 #[derive(Drop)]
 enum Told<'g> {
@@ -264,7 +192,7 @@ fn put_run<H: Channel, G: Gate + Sync, R: Threads + Wait + Sync>(
 }
 
 // A script in blocking mode.
-fn blocking_script_of(alloc: Global, text: &str) -> Result<Script, Fail>
+pub(crate) fn blocking_script_of(alloc: Global, text: &str) -> Result<Script, Fail>
     ensures { IfOk result (λ script. script.settings.mode ≡ RingMode.Block) }
 {
     let script = script_of(alloc, text)?;
@@ -318,99 +246,6 @@ pub(crate) fn put_open<R: Threads + Wait + Sync>(
     put_run::<WordRing, _, R>(rt, alloc, script, &OpenGate, &Told::Marks, out)
 }
 
-// Logs the statements of the writer 0 on this thread alone. What was sent is then captured or the rest.
-fn serve_alone<H: Channel, E: Names, K: Naming, C: Clock + Drop, W: Wait>(
-    rt: &W,
-    alloc: Global,
-    blanks: Blanks,
-    script: Script,
-    stamp: Stamp<C>,
-    up: H::Up,
-    mut down: H::Down,
-    captured: &mut Bytes,
-    rest: &mut Bytes,
-) -> Result<(), Fail>
-    requires pace { stamp ≡ pace_of script.settings.stamp }
-    requires up { H.Up.view up
-        ≡ new_up (H.Up.view up).split script.settings.ring (H.Up.view up).tells }
-    requires told { TellsIn script.settings.mode (H.Up.view up) }
-    requires down { H.Down.view down ≡ new_down (H.Up.view up).split script.settings.ring }
-    requires empty { (captured.old.items ≡ []) × (rest.old.items ≡ []) }
-    requires names { (K.script ≡ script) × (K.split ≡ (H.Up.view up).split) }
-    requires ledgers { AreNamed blanks E.names }
-{
-    let (logger, mut pens) = Logger::<Eight<E>, EachStatement<K>, Logging<K, H::Up, C>>::start(
-        alloc, blanks, script, stamp, up,
-    )?;
-    let count = pens.p0.total();
-    serve_here::<H, _, _, _, _, _, _, _>(
-        rt,
-        &logger,
-        count,
-        &mut pens.p0,
-        &mut down,
-        captured,
-        &OpenGate,
-    );
-    let (_, up, _) = logger.close(pens);
-    H::settle(up, down, rest)?;
-    Ok(())
-}
-
-// The same of a script, with room for 64 bytes.
-fn run_alone<W: Wait>(
-    rt: &W,
-    alloc: Global,
-    text: &str,
-    captured: &mut Bytes,
-    rest: &mut Bytes,
-) -> Result<(), Fail>
-    requires { (captured.old.items ≡ []) × (rest.old.items ≡ []) }
-{
-    captured.reserve(64)?;
-    let script = blocking_script_of(alloc, text)?;
-    let Ok((up, down)) = WordRing::split(alloc, script.ring()) else {
-        return Err(Fail::new("no ring"));
-    };
-    let stamp = stamp_of(&script);
-    serve_alone::<WordRing, Brand, Brand, _, _>(
-        rt,
-        alloc,
-        Blanks::new(),
-        script,
-        stamp,
-        up,
-        down,
-        captured,
-        rest,
-    )
-}
-
-fn put_sent_alone<W: Wait>(
-    rt: &W,
-    alloc: Global,
-    text: &str,
-    sent: &mut Bytes,
-    out: &mut String,
-) -> Result<(), Fail>
-    requires { sent.old.items ≡ [] }
-{
-    let mut rest = Bytes::new(alloc);
-    run_alone(rt, alloc, text, sent, &mut rest)?;
-    sent.extend_from_slice(rest.as_slice())?;
-    put_digits(out, sent.as_slice())
-}
-
-pub(crate) fn put_alone<W: Wait>(
-    rt: &W,
-    alloc: Global,
-    text: &str,
-    out: &mut String,
-) -> Result<(), Fail> {
-    let mut sent = Bytes::new(alloc);
-    put_sent_alone(rt, alloc, text, &mut sent, out)
-}
-
 #[test]
 fn two_writers_wait_for_each_other_and_for_room(rt: HostRuntime) -> Result<(), Fail> {
     each_block(&rt, rt.alloc(), MEETINGS, 4, &Kind::Meeting)?;
@@ -424,7 +259,6 @@ fn frames_are_dropped_or_cut_beside_a_late_reader_alone(rt: HostRuntime) -> Resu
 }
 
 #[test]
-fn no_lines_send_nothing_and_one_thread_serves_itself(rt: HostRuntime) -> Result<(), Fail> {
-    each_block(&rt, rt.alloc(), EMPTY, 1, &Kind::Open)?;
-    each_block(&rt, rt.alloc(), ALONE, 1, &Kind::Alone)
+fn no_lines_send_nothing(rt: HostRuntime) -> Result<(), Fail> {
+    each_block(&rt, rt.alloc(), EMPTY, 1, &Kind::Open)
 }

@@ -1,6 +1,6 @@
 use Rattle.rtt_ring.specs.WordEnds.{up_of}
 use Rattle.shared_work.specs.Names.{names_of}
-use Rattle.device_tests.proofs.writers.run_alone.Given as goal
+use Rattle.device_tests.proofs.alone.run_alone.Given as goal
 
 abbrev pub ghosts-serve_alone-E-Names : goal.ghosts-serve_alone-E-Names
 ghosts-serve_alone-E-Names g a = record { names = names_of a.blanks }
