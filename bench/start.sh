@@ -3,14 +3,16 @@
 #
 #   bench/start.sh        at the repository's top, once ./defmtl has built the program; needs GNU time
 #
-# Each runs an empty script a hundred times, in the least of five rounds.
+# Each runs an empty script a hundred times, in the least of five rounds. A source that has changed is built first, which isn't counted.
 
 . "$(dirname "$0")/common.sh"
 need time
 
 # a_call: the milliseconds of one call of what `program` names
 a_call() {
-    measured 5 100 /dev/null run | awk '{ printf "%.1f", $1 * 10 }'
+    "$program" run < /dev/null > "$work/out" 2>&1 || { cat "$work/out" >&2; return 1; }
+    spent=$(measured 5 100 /dev/null run) || return
+    echo "$spent" | awk '{ printf "%.1f", $1 * 10 }'
 }
 
 own=$(a_call) || exit 1

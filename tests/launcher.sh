@@ -523,6 +523,13 @@ fails 'an unproved program that is not read' 70 'the program could not be built'
 has 'an unproved program that is not read: what was said' "$said" 'error: the program is not read'
 unset DEFMTL_UNPROVED
 
+begin 0
+for unproved in '' 1; do
+    wrote=$(TMPDIR=/proc/nowhere DEFMTL_UNPROVED=$unproved ./defmtl run < /dev/null 2> "$work/said"); status=$?; said=$(< "$work/said")
+    fails "no place for temporary files${unproved:+, unproved}" 73 "${unproved:+running with no proof: nothing that follows is proved
+defmtl: }there is no place for a temporary folder"
+done
+
 # as_nobody WORD..: as a user who can't write here
 as_nobody() { if [ "$(id -u)" -eq 0 ]; then setpriv --reuid=65534 --regid=65534 --clear-groups "$@"; else "$@"; fi; }
 begin 0
@@ -534,11 +541,6 @@ if as_nobody test -r defmtl; then
     wrote=$(DEFMTL_UNPROVED=1 as_nobody ./defmtl run < /dev/null 2> "$work/said"); status=$?; said=$(< "$work/said")
     fails 'a folder that is read-only, unproved' 73 'the folder'
     chmod -R u+w crates
-    for unproved in '' 1; do
-        wrote=$(TMPDIR=/proc/nowhere DEFMTL_UNPROVED=$unproved ./defmtl run < /dev/null 2> "$work/said"); status=$?; said=$(< "$work/said")
-        fails "no place for temporary files${unproved:+, unproved}" 73 "${unproved:+running with no proof: nothing that follows is proved
-defmtl: }there is no place for a temporary folder"
-    done
     call run < /dev/null
     wrote=$(echo hello | as_nobody ./defmtl run 2> "$work/said"); status=$?
     is 'a program that was built, in a folder that is read-only' "$status $wrote" '0 hello'
