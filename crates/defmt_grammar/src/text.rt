@@ -87,6 +87,11 @@ impl Text {
         self.text.as_str()
     }
 
+    /// The allocator by which it grows.
+    pub fn allocator(&self) -> Global {
+        *self.text.allocator()
+    }
+
     /// The number of bytes.
     pub fn len(&self) -> usize
         ensures { result ≡ length self.now }
