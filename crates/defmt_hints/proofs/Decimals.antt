@@ -1,14 +1,20 @@
 -- The decimal digits that std prints.
-use Rattle.std.proofs.Common.{◌≡◌, ◌<◌, ◌≤◌, ◌*◌, ◌/◌, ◌%◌, ◌^◌, ℕ, zero, suc, Bool, true, false, eqb, List, [], ◌∷◌, ◌++◌, map, refl, sym, ap, subst, ◌∙◌, arith}
+use Rattle.std.proofs.Common.{◌≡◌, ◌<◌, ◌≤◌, ◌*◌, ◌/◌, ◌%◌, ◌^◌, ℕ, zero, suc, Bool, true, false, eqb, List, [], ◌∷◌, ◌++◌, map, append_assoc, refl, sym, ap, subst, ◌∙◌, arith}
 use Rattle.std.proofs.lemmas.Bool.{eqb-true}
-use Rattle.std.proofs.lemmas.List.{append-nil}
+use Rattle.std.proofs.lemmas.List.{append-nil, map_push}
+use Rattle.std.proofs.lemmas.Int.Digits.{digits_of_step}
 use Rattle.std.proofs.Math.Nat.{div-lt_iff_lt-mul, pow-suc, pow-zero}
 use Rattle.std.specs.Fmt.{decimal, digit_glyph, digits_onto, digits as std_digits}
 use Rattle.std.specs.Int.Digits.{digits_of}
 use Rattle.std.specs.Prelude.{if◌then◌else◌}
 use Rattle.defmt_hints.specs.Digits.{number_text}
 use Rattle.defmt_hints.proofs.DigitsLaws.{above_zero, number_text_zero, number_text_some}
-use Rattle.defmt_hints.proofs.FillLaws.{digit_before}
+
+digit_before : (base rest : ℕ) (upper : Bool) (w : List ℕ) → 2 ≤ base → 0 < rest → map (digit_glyph upper) (digits_of base rest) ++ w ≡ map (digit_glyph upper) (digits_of base (rest / base)) ++ digit_glyph upper (rest % base) ∷ w
+digit_before base rest upper w two some =
+    ap (λ (t : List ℕ). map (digit_glyph upper) t ++ w) (digits_of_step base rest two some)
+    ∙ ap (λ (t : List ℕ). t ++ w) (map_push (digit_glyph upper) (digits_of base (rest / base)) (rest % base))
+    ∙ append_assoc (map (digit_glyph upper) (digits_of base (rest / base))) (digit_glyph upper (rest % base) ∷ []) w
 
 -- one digit in front of those that are there, and all before it in the same way
 turn : (k base n : ℕ) (upper : Bool) (acc : List ℕ) (b : Bool) → eqb (n / base) 0 ≡ b → 2 ≤ base → 0 < n

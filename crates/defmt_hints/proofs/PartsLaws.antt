@@ -1,14 +1,11 @@
 -- The digits behind a decimal point.
 use Rattle.std.proofs.Common.{◌≡◌, ◌<◌, ◌≤◌, ◌+◌, ◌*◌, ◌-◌, ◌^◌, ℕ, zero, suc, false, List, [], ◌∷◌, ◌++◌, length, map, drop, refl, sym, ap, ◌∙◌, arith}
 use Rattle.std.proofs.lemmas.List.{length-append, length-map, length-replicate}
-use Rattle.std.proofs.lemmas.Fmt.{decimal_nonempty}
 use Rattle.std.proofs.lemmas.Nat.{pow_pos}
-use Rattle.std.proofs.lemmas.Str.{IsCharBoundary-after_ascii, IsUtf8-from_ascii}
 use Rattle.std.proofs.Math.Nat.{pow-le-pow_left}
 use Rattle.std.specs.Fmt.{decimal, digit_glyph}
 use Rattle.std.specs.Int.Digits.{AllBelowBase}
 use Rattle.std.specs.Prelude.{replicate}
-use Rattle.std.specs.Str.{IsAscii, IsCharBoundary}
 use Rattle.defmt_hints.specs.Digits.{AreDigits, HasNoLeadingZero, weighted_sum, digits, number_text, zero_filled}
 use Rattle.defmt_hints.specs.Printed.{decimal_text}
 use Rattle.defmt_hints.proofs.Decimals.{std_decimal}
@@ -68,24 +65,3 @@ unit_some unit places e =
     let two : 2 ≤ 10 = omega arith in
     let least : 2 ^ places ≤ 10 ^ places = pow-le-pow_left two places in
     omega (arith, least, pow_pos places, e)
-
--- the sum of a unit and of parts that are fewer, as it is printed
-pub record IsSum (unit parts : ℕ) (sum : List ℕ) : Type 0 where
-  pub few : parts < unit
-  pub small : unit ≤ 1000000
-  pub printed : sum ≡ decimal (unit + parts)
-  pub ascii : IsAscii sum
-
-sum_some : (unit parts : ℕ) (sum : List ℕ) → IsSum unit parts sum → 0 < length sum
-sum_some unit parts sum h = omega (arith, h.few, h.small, ap length h.printed, decimal_nonempty (unit + parts) (omega (arith, h.few, h.small)))
-
-pub sum_boundary : (unit parts : ℕ) (sum : List ℕ) → IsSum unit parts sum → IsCharBoundary sum 1
-sum_boundary unit parts sum h = IsCharBoundary-after_ascii sum 0 (IsUtf8-from_ascii sum h.ascii) (sum_some unit parts sum h) (h.ascii 0)
-
-pub sum_shown : (unit places rest parts : ℕ) (sum shown : List ℕ) → IsSum unit parts sum → 0 < places → unit ≡ 10 ^ places → parts ≡ rest → shown ≡ drop 1 sum → shown ≡ zero_filled places (decimal_text rest)
-sum_shown unit places rest parts sum shown h some u p s =
-    let few : parts < 10 ^ places = omega (arith, h.few, u) in
-    let small : 10 ^ places + parts < 2 ^ 128 = omega (arith, h.few, h.small, u) in
-    s ∙ ap (drop 1) (h.printed ∙ ap (λ (n : ℕ). decimal (n + parts)) u)
-    ∙ behind_one places parts some few small
-    ∙ ap (λ (n : ℕ). zero_filled places (decimal_text n)) p

@@ -3,8 +3,6 @@
 use Rattle.std.specs.Prelude.{ℕ, List, [], ◌∷◌, ◌++◌, Option, Some, None, unwrap_or, codes, nat_le, false, ◌||◌, ◌&&◌, is_some, ◌==◌, if◌then◌else◌}
 use Rattle.std.specs.List.{flat_map}
 use Rattle.defmt_hints.specs.Digits.{number_text, zero_filled}
-use Rattle.defmt_hints.specs.declared.escapes.Quote.{Quote}
-use Rattle.defmt_hints.specs.declared.escapes.Quote.TheVariants.{Single, Double}
 
 -- the escape of a byte between two of these quotes: the backslash, the quote itself, newline, carriage return and tab
 -- have one
@@ -36,8 +34,3 @@ byte_escaped c = unwrap_or (byte_escape_of c) (c ∷ [])
 -- bytes as `b"..."`
 unfoldable pub byte_text : List ℕ → List ℕ
 byte_text bytes = codes "b\"" ++ (flat_map byte_escaped bytes ++ codes "\"")
-
--- the two quotes
-abbrev pub quote_code : Quote → ℕ
-quote_code Single = 39
-quote_code Double = 34

@@ -1,100 +1,144 @@
 //! Numbers.
 
-ghost use Rattle.std.specs.Prelude.{◌≡◌, ◌<◌, ◌≤◌, ◌+◌, ◌^◌};
-ghost use Rattle.defmt_hints.specs.Appends.{Appends};
+ghost use Rattle.std.specs.Prelude.{◌≡◌, ◌≤◌, ◌<◌, ◌+◌, ◌-◌, ◌^◌, ◌++◌, ℤ, codes, length, decimal, IfNone, IfSome};
 ghost use Rattle.defmt_grammar.specs.Sizes.{size_bits, IsSigned};
-ghost use Rattle.defmt_hints.specs.Printed.{twos_complement, base_number, is_upper, prefix_text, radix_text, fraction_text, decimal_text, signed_text, printed_uint, printed_int};
+ghost use Rattle.defmt_hints.specs.Printed.{decimal_text, signed_text, twos_complement, printed_int, printed_uint};
+ghost use Rattle.defmt_hints.specs.Written.{Writes};
 
-use crate::digits::{divided, push, push_char, push_digits};
-use defmt_grammar::{Base, Hint, IntSize, Memory, Text};
-use itoa::Buffer;
+use crate::radix::{put_fraction, put_radix, put_wide_radix};
+use crate::seconds::put_micros;
+use crate::texts::put;
+use defmt_grammar::{Hint, IntSize};
+use itoa::{Buffer, write_digits};
 
-/// Appends the decimal digits of a value.
-pub fn push_decimal(out: &mut Text, value: u128) -> Result<(), Memory>
-    ensures { Appends result out.old out.new (decimal_text value) }
+// The number of decimal digits.
+fn digit_count(number: u64) -> usize
+    ensures { result ≡ length (decimal number) }
 {
-    let mut buffer = Buffer::new();
-    push(out, buffer.format(value))
+    let mut count = 0;
+    let mut rest = number;
+    'digits: while rest >= 10_000 {
+        rest = rest / 10_000;
+        count += 4;
+    }
+    count + short_count(rest)
 }
 
-fn base_number(base: Base) -> u64
-    ensures { result ≡ base_number base }
+// The number of decimal digits of a number with at most four.
+#[inline(always)]
+fn short_count(number: u64) -> usize
+    requires { number < 10000 }
+    ensures { result ≡ length (decimal number) }
 {
-    match base {
-        Base::Hex | Base::HexUpper => 16,
-        Base::Binary => 2,
-        Base::Octal => 8,
+    if number < 10 {
+        1
+    } else if number < 100 {
+        2
+    } else if number < 1000 {
+        3
+    } else {
+        4
     }
 }
 
-fn prefix_text(base: Base, alt: bool) -> &'static str
-    ensures { result.now ≡ prefix_text base alt }
+/// Writes a number of up to 64 bits in decimal. `None` exactly where its digits don't fit.
+pub fn put_decimal(out: &mut [u8], at: usize, number: u64) -> Option<usize>
+    requires { at ≤ length out.old }
+    ensures { Writes result out.old at out.new (decimal_text number) }
 {
-    match base {
-        _ if !alt => "",
-        Base::Hex | Base::HexUpper => "0x",
-        Base::Binary => "0b",
-        Base::Octal => "0o",
+    if number < 10 {
+        return put(out, at, &[b'0' + number as u8]);
+    }
+    put_all_digits(out, at, number)
+}
+
+// The same, of any number. It stands apart, so that a single digit is written at once.
+#[inline(never)]
+fn put_all_digits(out: &mut [u8], at: usize, number: u64) -> Option<usize>
+    requires { at ≤ length out.old }
+    ensures { Writes result out.old at out.new (decimal_text number) }
+{
+    let count = digit_count(number);
+    if out.len() - at < count {
+        return None;
+    }
+    let end = at + count;
+    write_digits(number, out, end);
+    Some(end)
+}
+
+// Writes any number in decimal, above 64 bits too.
+pub(crate) fn put_wide_decimal(out: &mut [u8], at: usize, number: u128) -> Option<usize>
+    requires { at ≤ length out.old }
+    ensures { Writes result out.old at out.new (decimal_text number) }
+{
+    if number <= u128::from(u64::MAX) {
+        return put_decimal(out, at, number as u64);
+    }
+    let mut buffer = Buffer::new();
+    put(out, at, buffer.format(number).as_bytes())
+}
+
+/// Writes a number of up to 64 bits under a display hint of the defmt book: in decimal, in the hint's base as Rust prints it, or
+/// under `Micros` and `Millis` divided by 1,000,000 and 1,000, with six and three digits behind the point. `None` exactly where this
+/// doesn't fit.
+pub fn put_uint(out: &mut [u8], at: usize, number: u64, hint: Hint) -> Option<usize>
+    requires { at ≤ length out.old }
+    ensures { Writes result out.old at out.new (printed_uint number hint) }
+{
+    match hint {
+        Hint::Plain | Hint::Debug | Hint::Ascii => put_decimal(out, at, number),
+        Hint::Radix { base, alt, width } => { put_radix(out, at, number, base, alt, width) }
+        Hint::Micros => put_micros(out, at, number),
+        Hint::Millis => put_fraction(out, at, u128::from(number), 1_000, 3),
     }
 }
 
-fn is_upper(base: Base) -> bool
-    ensures { result ≡ is_upper base }
+// Writes a number above 64 bits under a hint.
+#[inline(never)]
+fn put_great(out: &mut [u8], at: usize, number: u128, hint: Hint) -> Option<usize>
+    requires { at ≤ length out.old }
+    ensures { Writes result out.old at out.new (printed_uint number hint) }
 {
-    matches!(base, Base::HexUpper)
+    match hint {
+        Hint::Plain | Hint::Debug | Hint::Ascii => put_wide_decimal(out, at, number),
+        Hint::Radix { base, alt, width } => put_wide_radix(out, at, number, base, alt, width),
+        Hint::Micros => put_fraction(out, at, number, 1_000_000, 6),
+        Hint::Millis => put_fraction(out, at, number, 1_000, 3),
+    }
 }
 
-/// Appends a value in a base.
-pub fn push_radix(
-    out: &mut Text,
-    value: u128,
-    base: Base,
-    alt: bool,
-    width: u8,
-) -> Result<(), Memory>
-    ensures { Appends result out.old out.new (radix_text base alt width value) }
+/// Writes a number of up to 128 bits as `put_uint` writes smaller ones. `None` exactly where this doesn't fit.
+pub fn put_wide_uint(out: &mut [u8], at: usize, number: u128, hint: Hint) -> Option<usize>
+    requires { at ≤ length out.old }
+    ensures { Writes result out.old at out.new (printed_uint number hint) }
 {
-    let prefix = prefix_text(base, alt);
-    push(out, prefix)?;
-    let zeros_and_digits = width.saturating_sub(prefix.len() as u8);
-    push_digits(
-        out,
-        value,
-        base_number(base),
-        is_upper(base),
-        zeros_and_digits,
-    )
+    if number <= u128::from(u64::MAX) {
+        put_uint(out, at, number as u64, hint)
+    } else {
+        put_great(out, at, number, hint)
+    }
 }
 
-// Appends a value divided by a unit, with as many digits after the point as the unit has zeros.
-fn push_fraction(out: &mut Text, value: u128, unit: u64, places: u8) -> Result<(), Memory>
-    requires some { 0 < places }
-    requires unit { unit ≡ 10 ^ places }
-    requires small { unit ≤ 1000000 }
-    ensures { Appends result out.old out.new (fraction_text unit places value) }
+// Writes the text of a negative number.
+fn put_negative(out: &mut [u8], at: usize, magnitude: u128) -> Option<usize>
+    requires { at ≤ length out.old }
+    ensures { Writes result out.old at out.new (codes "-" ++ decimal_text magnitude) }
 {
-    let (units, parts) = divided(value, unit);
-    push_decimal(out, units)?;
-    push_char(out, '.')?;
-    // The digits of this sum are a one, and behind it those of the parts with their zeros.
-    let mut buffer = Buffer::new();
-    let sum = buffer.format(unit + parts);
-    push(out, &sum[1..])
+    let digits = put(out, at, b"-")?;
+    put_wide_decimal(out, digits, magnitude)
 }
 
-/// Appends an unsigned number under a display hint of the defmt book: in decimal, in the hint's base as Rust prints it,
-/// or under `Micros` and `Millis` divided by 1,000,000 and 1,000, with six and three digits behind the point.
-///
-/// `Memory` is want of memory: a front of the text was appended.
-#[tactic(auto, unfolding(crate::specs::Printed::printed_uint))]
-pub fn show_uint(value: u128, hint: &Hint, out: &mut Text) -> Result<(), Memory>
-    ensures { Appends result out.old out.new (printed_uint value hint.now) }
+// Writes a signed number in decimal.
+fn put_signed(out: &mut [u8], at: usize, number: i128) -> Option<usize>
+    requires { at ≤ length out.old }
+    ensures { Writes result out.old at out.new (signed_text number) }
 {
-    match *hint {
-        Hint::Plain | Hint::Debug | Hint::Ascii => push_decimal(out, value),
-        Hint::Radix { base, alt, width } => push_radix(out, value, base, alt, width),
-        Hint::Micros => push_fraction(out, value, 1_000_000, 6),
-        Hint::Millis => push_fraction(out, value, 1_000, 3),
+    let magnitude = number.unsigned_abs();
+    if number < 0 {
+        put_negative(out, at, magnitude)
+    } else {
+        put_wide_decimal(out, at, magnitude)
     }
 }
 
@@ -111,44 +155,85 @@ fn greatest(size: IntSize) -> u128
     }
 }
 
-// The two's complement of a value in its own width.
-fn twos_complement(value: i128, size: IntSize) -> u128
-    requires { IsSigned (size_bits size) value }
-    ensures { result ≡ twos_complement (size_bits size) value }
+// The two's complement of a number in its own size.
+fn twos_complement(number: i128, size: IntSize) -> u128
+    requires { IsSigned (size_bits size) number }
+    ensures { result ≡ twos_complement (size_bits size) number }
 {
-    let magnitude = value.unsigned_abs();
-    if value < 0 {
+    let magnitude = number.unsigned_abs();
+    if number < 0 {
         greatest(size) - (magnitude - 1)
     } else {
         magnitude
     }
 }
 
-// Appends a signed value in decimal.
-fn push_signed(out: &mut Text, value: i128) -> Result<(), Memory>
-    ensures { Appends result out.old out.new (signed_text value) }
+/// Writes a signed number, which lies in the size, under a display hint of the defmt book: in decimal, or under `Radix` its two's
+/// complement in the size's width, in the hint's base as Rust prints it. `Native` has 32 bits. `None` exactly where this doesn't fit.
+pub fn put_int(out: &mut [u8], at: usize, number: i128, size: IntSize, hint: Hint) -> Option<usize>
+    requires place { at ≤ length out.old }
+    requires sized { IsSigned (size_bits size) number }
+    ensures { Writes result out.old at out.new (printed_int number size hint) }
 {
-    if value < 0 {
-        push(out, "-")?;
-    }
-    push_decimal(out, value.unsigned_abs())
-}
-
-/// Appends a signed number of a size under a display hint of the defmt book: in decimal, or under `Radix` its two's
-/// complement in the size's width, in the hint's base as Rust prints it. `Native` has 32 bits.
-///
-/// `Memory` is want of memory: a front of the text was appended.
-#[tactic(auto, unfolding(crate::specs::Printed::printed_int))]
-pub fn show_int(value: i128, size: IntSize, hint: &Hint, out: &mut Text) -> Result<(), Memory>
-    requires { IsSigned (size_bits size) value }
-    ensures { Appends result out.old out.new (printed_int value size hint.now) }
-{
-    match *hint {
+    match hint {
         Hint::Radix { base, alt, width } => {
-            push_radix(out, twos_complement(value, size), base, alt, width)
+            put_wide_radix(out, at, twos_complement(number, size), base, alt, width)
         }
         Hint::Plain | Hint::Debug | Hint::Ascii | Hint::Micros | Hint::Millis => {
-            push_signed(out, value)
+            put_signed(out, at, number)
+        }
+    }
+}
+
+// Half of the numbers of a size of up to 64 bits: in two's complement those below it stand for themselves.
+fn half_of(size: IntSize) -> Option<u64>
+    ensures half { IfSome result (λ half. half ≡ 2 ^ (size_bits size - 1)) }
+    ensures wide { IfNone result (size ≡ IntSize.W128) }
+{
+    match size {
+        IntSize::W8 => Some(0x80),
+        IntSize::W16 => Some(0x8000),
+        IntSize::W32 | IntSize::Native => Some(0x8000_0000),
+        IntSize::W64 => Some(0x8000_0000_0000_0000),
+        IntSize::W128 => None,
+    }
+}
+
+// Writes in decimal the signed number of a size whose two's complement this is.
+fn put_shown(out: &mut [u8], at: usize, number: u64, size: IntSize) -> Option<usize>
+    requires place { at ≤ length out.old }
+    requires small { number < 2 ^ size_bits size }
+    ensures { (z : ℤ) → IsSigned (size_bits size) z → twos_complement (size_bits size) z ≡ number
+        → Writes result out.old at out.new (signed_text z) }
+{
+    let Some(half) = half_of(size) else {
+        return put_decimal(out, at, number);
+    };
+    if number < half {
+        return put_decimal(out, at, number);
+    }
+    let digits = put(out, at, b"-")?;
+    put_decimal(out, digits, half - (number - half))
+}
+
+/// Writes, as `put_int` does, the signed number whose two's complement in the size this is: a number below 2 to the power of the
+/// size's bits, as messages carry it. `None` exactly where the text doesn't fit.
+pub fn put_complement(
+    out: &mut [u8],
+    at: usize,
+    number: u64,
+    size: IntSize,
+    hint: Hint,
+) -> Option<usize>
+    requires place { at ≤ length out.old }
+    requires small { number < 2 ^ size_bits size }
+    ensures { (z : ℤ) → IsSigned (size_bits size) z → twos_complement (size_bits size) z ≡ number
+        → Writes result out.old at out.new (printed_int z size hint) }
+{
+    match hint {
+        Hint::Radix { base, alt, width } => { put_radix(out, at, number, base, alt, width) }
+        Hint::Plain | Hint::Debug | Hint::Ascii | Hint::Micros | Hint::Millis => {
+            put_shown(out, at, number, size)
         }
     }
 }

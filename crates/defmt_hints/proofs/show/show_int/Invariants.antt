@@ -1,0 +1,8 @@
+use Rattle.std.proofs.Common.{◌≡◌, ◌<◌, ◌-◌, ◌^◌}
+use Rattle.defmt_hints.proofs.show.show_int.Given as goal
+
+abbrev pub invariant-rooms : goal.invariant-rooms
+invariant-rooms l = (l.out ≡ l.fn.out) × (0 < l.many)
+
+abbrev pub decreases-rooms : goal.decreases-rooms
+decreases-rooms l = 2 ^ 64 - l.many

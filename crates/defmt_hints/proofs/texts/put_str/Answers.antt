@@ -1,0 +1,11 @@
+use Rattle.std.proofs.Common.{rules}
+use Rattle.defmt_hints.specs.Printed.{printed_str}
+use Rattle.defmt_hints.proofs.texts.put_str.Goals as goal
+
+pub returns-in-Debug : goal.returns-in-Debug
+unfolding printed_str
+returns-in-Debug c = search rules
+
+pub returns-in-Plain : goal.returns-in-Plain
+unfolding printed_str
+returns-in-Plain c = search rules

@@ -1,9 +1,0 @@
-use Rattle.std.proofs.Common.{◌+◌, ◌≡◌, length}
-use Rattle.std.specs.Int.Digits.{digits_of}
-use Rattle.defmt_put.proofs.radix.count_in.Given as goal
-
-abbrev pub invariant-digits : goal.invariant-digits
-invariant-digits l = l.count + length (digits_of l.base l.rest) ≡ length (digits_of l.base l.number)
-
-abbrev pub decreases-digits : goal.decreases-digits
-decreases-digits l = l.rest

@@ -1,8 +1,0 @@
-use Rattle.defmt_put.proofs.Filling.{Filling}
-use Rattle.defmt_put.proofs.radix.put_digits.Given as goal
-
-abbrev pub invariant-digits : goal.invariant-digits
-invariant-digits l = Filling l.base l.upper l.number l.fn.out l.at l.end l.place l.rest l.out
-
-abbrev pub decreases-digits : goal.decreases-digits
-decreases-digits l = l.place

@@ -1,4 +1,0 @@
-pub mod Left
-pub mod Lists
-pub mod Signed
-pub mod Written
