@@ -1,33 +1,18 @@
--- One text after another, within a limit.
-use Rattle.std.proofs.Common.{◌≡◌, ◌≤◌, ℕ, zero, suc, Bool, true, false, List, [], ◌∷◌, ◌++◌, length, Option, Some, None, Result, Ok, Err, refl, sym, ap, ◌∙◌, subst, arith, append_assoc, length-append}
+-- The texts of parameters, pieces and elements, one behind another.
+use Rattle.std.proofs.Common.{◌≡◌, ◌≤◌, ℕ, zero, suc, Bool, true, false, List, [], ◌∷◌, ◌++◌, Option, Some, None, refl, ap, arith}
 use Rattle.std.specs.List.{slice_get, flat_map}
 use Rattle.std.specs.Option.{option_map}
 use Rattle.std.specs.Prelude.{codes}
-use Rattle.std.proofs.lemmas.List.{append-nil}
 use Rattle.defmt_grammar.specs.declared.hint.Hint.{Hint}
 use Rattle.defmt_grammar.specs.declared.kind.Kind.{Kind}
 use Rattle.defmt_grammar.specs.declared.piece.Piece.{Piece}
-use Rattle.defmt_hints.specs.Printed.{list_text, parted}
+use Rattle.defmt_hints.specs.Printed.{parted}
 use Rattle.defmt_intern.specs.Table.{Map}
 use Rattle.defmt_values.specs.Plain.{Val, Vals, no_vals, val, vals_get, val_size, vals_size, elems_size}
 use Rattle.defmt_values.specs.View.{elems_of}
 use Rattle.defmt_values.specs.declared.value.Item.{Item}
-use Rattle.defmt_eager.specs.Answers.{Appended, Shows, comma}
+use Rattle.defmt_eager.specs.Answers.{comma}
 use Rattle.defmt_eager.specs.Show.{Shown, show_val, shows, show_elems, acting, pieces_text, piece_text, node_pieces, param_text}
-use Rattle.defmt_eager.specs.declared.eager.EagerFault.{EagerFault}
-use Rattle.defmt_eager.specs.declared.eager.EagerFault.TheVariants.{Wide, Memory}
-
-pub chain : (limit : ℕ) (old mid new : List ℕ) (r : Result (Unit {0}) EagerFault) (a b : List ℕ) → Appended limit old mid a → Shows limit mid new r b → Shows limit old new r (a ++ b)
-chain limit old mid new (Ok u) a b w p = record { is = p.is ∙ ap (λ t. t ++ b) w.is ∙ append_assoc old a b; short = p.short }
-chain limit old mid new (Err Wide) a b w p = omega (arith, ap length w.is, length-append old a, length-append a b, p)
-chain limit old mid new (Err Memory) a b w p = tt
-
-pub fails : (limit : ℕ) (old mid new : List ℕ) (e : EagerFault) (a b : List ℕ) → Shows limit old mid (Err e) a → Shows limit old new (Err e) (a ++ b)
-fails limit old mid new Wide a b p = omega (arith, length-append a b, p)
-fails limit old mid new Memory a b p = tt
-
-pub nothing : (limit : ℕ) (old : List ℕ) → length old ≤ limit → Appended limit old old []
-nothing limit old h = record { is = sym (append-nil old); short = h }
 
 -- ---- the text of a parameter
 
@@ -52,17 +37,6 @@ size_get (val u us) zero v e = let k : v ≡ u = cc in omega (arith, ap val_size
 size_get (val u us) (suc p) v e = omega (arith, size_get us p v e)
 
 -- ---- loops
-
-pub joins_on : (done one others whole all : List ℕ) → whole ≡ one ++ others → done ++ whole ≡ all → (done ++ one) ++ others ≡ all
-joins_on done one others whole all p q = append_assoc done one others ∙ ap (λ t. done ++ t) (sym p) ∙ q
-
-pub done_all : (limit : ℕ) (old new done all whole : List ℕ) → Appended limit old new done → done ++ whole ≡ all → whole ≡ [] → Appended limit old new all
-done_all limit old new done all whole w q e = subst (λ (t : List ℕ). Appended limit old new t) (sym (append-nil done) ∙ ap (λ t. done ++ t) (sym e) ∙ q) w
-
-pub passes : (limit : ℕ) (old mid new : List ℕ) (e : EagerFault) (done one others whole all : List ℕ) → Appended limit old mid done → whole ≡ one ++ others → done ++ whole ≡ all → Shows limit mid new (Err e) one → Shows limit old new (Err e) all
-passes limit old mid new Wide done one others whole all w p q h =
-    omega (arith, ap length w.is, length-append old done, ap length p, ap length q, length-append done whole, length-append one others, h)
-passes limit old mid new Memory done one others whole all w p q h = tt
 
 pub pieces_step : (outer : Hint) (rest more : List Piece) (x : Piece) (all : List Shown) → rest ≡ x ∷ more → pieces_text outer rest all ≡ piece_text outer x all ++ pieces_text outer more all
 unfolding pieces_text
@@ -95,17 +69,3 @@ elems_none t i hint first items p = rw p (joined_none first)
 
 pub elems_smaller : (items more : List Item) (x : Item) (n : ℕ) → items ≡ x ∷ more → elems_size (elems_of items) ≤ n → elems_size (elems_of more) ≤ n
 elems_smaller items more x n p h = let e = ap (λ (xs : List Item). elems_size (elems_of xs)) p in omega (arith, e)
-
--- ---- lists
-
-pub list_opens : (limit : ℕ) (old new : List ℕ) (e : EagerFault) (xs : List (List ℕ)) → Shows limit old new (Err e) (codes "[") → Shows limit old new (Err e) (list_text xs)
-unfolding list_text
-list_opens limit old new e xs h = fails limit old new new e (codes "[") (parted xs ++ codes "]") h
-
-pub list_fails : (limit : ℕ) (old mid new : List ℕ) (e : EagerFault) (xs : List (List ℕ)) → Appended limit old mid (codes "[") → Shows limit mid new (Err e) (parted xs) → Shows limit old new (Err e) (list_text xs)
-unfolding list_text
-list_fails limit old mid new e xs w h = chain limit old mid new (Err e) (codes "[") (parted xs ++ codes "]") w (fails limit mid new new e (parted xs) (codes "]") h)
-
-pub list_closes : (limit : ℕ) (old mid last new : List ℕ) (r : Result (Unit {0}) EagerFault) (xs : List (List ℕ)) → Appended limit old mid (codes "[") → Appended limit mid last (parted xs) → Shows limit last new r (codes "]") → Shows limit old new r (list_text xs)
-unfolding list_text
-list_closes limit old mid last new r xs w v h = chain limit old mid new r (codes "[") (parted xs ++ codes "]") w (chain limit mid last new r (parted xs) (codes "]") v h)

@@ -1,4 +1,7 @@
 pub mod Appends
 pub mod Bounds
-pub mod Lengths
+pub mod Parts
 mod PieceBounds
+mod RoomSizes
+mod StampParts
+pub mod Utf8

@@ -1,8 +1,10 @@
 //! The text of a statement.
+
 ghost use Rattle.defmt_eager.specs.Answers.{GivesText};
 ghost use Rattle.defmt_values.specs.Fits.{Fits};
 
-use crate::values::push_statement;
+use crate::pieces::own_pieces;
+use crate::rooms::push_pieces;
 use defmt_grammar::{Memory, Text};
 use defmt_intern::Table;
 use defmt_values::Statement;
@@ -41,6 +43,6 @@ pub fn text_of(alloc: Global, table: &Table, stm: &Statement) -> Result<Text, Ea
     ensures { GivesText result table.now.entries stm.now.index stm.now.args }
 {
     let mut out = Text::new(alloc);
-    push_statement(table, &mut out, PRINTED_LIMIT, stm.index, &stm.args)?;
+    push_pieces(table, &mut out, own_pieces(table, stm.index), &stm.args)?;
     Ok(out)
 }

@@ -1,5 +1,6 @@
 //! The pieces of texts, as the table has them, and what acts on them and stands between them.
 ghost use Rattle.std.specs.Prelude.{◌≡◌};
+ghost use Rattle.std.specs.Str.{IsUtf8};
 ghost use Rattle.defmt_eager.specs.Answers.{comma};
 ghost use Rattle.defmt_eager.specs.Show.{interned_text, node_pieces, pieces_in, own_pieces, acting};
 ghost use Rattle.defmt_values.specs.Entries.{look};
@@ -11,7 +12,8 @@ use defmt_values::{form_of, look_up, pick};
 
 /// The text of an interned string, none where there is none.
 pub fn interned_text(table: &Table, index: u16) -> &str
-    ensures { result.now ≡ interned_text (look table.now.entries index) }
+    ensures text { result.now ≡ interned_text (look table.now.entries index) }
+    ensures utf8 { IsUtf8 result.now }
 {
     match look_up(table, index) {
         None => "",

@@ -1,16 +1,16 @@
 //! The printed line of a statement.
-ghost use Rattle.std.specs.Prelude.{◌≡◌, ◌≤◌, ◌++◌, [], codes, length, IfOk, IfSome, OnOk};
-ghost use Rattle.std.specs.Option.{option_map, ForSome};
+ghost use Rattle.std.specs.Prelude.{◌≡◌, ◌++◌, [], codes, length, IfOk, IfSome, OnOk};
+ghost use Rattle.std.specs.Option.{option_map};
 ghost use Rattle.defmt_eager.specs.Answers.{Shows, GivesFront, GivesLine};
-ghost use Rattle.defmt_eager.specs.Line.{level_text, level_at, stamp_text, stamp_space, printed_limit};
+ghost use Rattle.defmt_eager.specs.Line.{level_text, level_at, stamp_text, stamp_space};
 ghost use Rattle.defmt_eager.specs.Show.{own_pieces};
 ghost use Rattle.defmt_intern.specs.Stamp.{stamp_of};
 ghost use Rattle.defmt_values.specs.Fits.{Fits, FitsStamp, IsLogged};
 
-use crate::eager::{EagerFault, PRINTED_LIMIT};
-use crate::pieces::pieces_of;
-use crate::values::{push_pieces, push_statement};
-use defmt_grammar::{Hint, Memory, Piece, Text};
+use crate::eager::EagerFault;
+use crate::pieces::{own_pieces, pieces_of};
+use crate::rooms::push_pieces;
+use defmt_grammar::{Memory, Piece, Text};
 use defmt_intern::{Table, Tag};
 use defmt_values::{Args, Statement, look_up};
 use std::alloc::Global;
@@ -31,7 +31,8 @@ pub fn level_text(tag: &Tag) -> Option<&'static str>
 }
 
 // The level of an index's entry, and the pieces of its text. It is looked up once for both.
-fn parts_at(table: &Table, index: u16) -> (Option<&'static str>, &[Piece])
+#[inline(always)]
+pub(crate) fn parts_at(table: &Table, index: u16) -> (Option<&'static str>, &[Piece])
     ensures level { option_map (λ level. level.now) result.0 ≡ level_at table.now.entries index }
     ensures width { IfSome result.0 (λ level. length level.now ≡ 5) }
     ensures pieces { result.1.now ≡ own_pieces table.now.entries index }
@@ -49,12 +50,11 @@ fn push_stamp(
     at: Option<u16>,
     stamp: &Args,
 ) -> Result<(), EagerFault>
-    requires { length out.old ≤ printed_limit }
-    ensures { Shows printed_limit out.old out.new result (stamp_text table.now.entries at stamp.now) }
+    ensures { Shows result out.old out.new (stamp_text table.now.entries at stamp.now) }
 {
     match at {
         None => Ok(()),
-        Some(index) => push_statement(table, out, PRINTED_LIMIT, index, stamp),
+        Some(index) => push_pieces(table, out, own_pieces(table, index), stamp),
     }
 }
 
@@ -92,7 +92,6 @@ fn front_of(
     stamp: &Args,
     level: Option<&str>,
 ) -> Result<Text, EagerFault>
-    requires { ForSome level (λ l. length l.now ≡ 5) }
     ensures { GivesFront result table.now.entries at stamp.now
         (option_map (λ l. l.now) level.entry) }
 {
@@ -123,7 +122,6 @@ pub fn line(alloc: Global, table: &Table, stamp: &Args, stm: &Statement) -> Resu
 {
     let (level, pieces) = parts_at(table, stm.index);
     let mut out = front_of(alloc, table, table.stamp(), stamp, level)?;
-    let limit = out.len() + PRINTED_LIMIT;
-    push_pieces(table, &mut out, limit, Hint::Plain, pieces, &stm.args)?;
+    push_pieces(table, &mut out, pieces, &stm.args)?;
     Ok(out)
 }

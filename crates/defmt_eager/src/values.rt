@@ -1,197 +1,177 @@
-//! Values in the pieces of their texts, to the depth of the values.
-ghost use Rattle.std.specs.Prelude.{◌≤◌, ◌++◌, length, true};
-ghost use Rattle.defmt_eager.specs.Answers.{Shows, comma};
-ghost use Rattle.defmt_eager.specs.Show.{node_pieces, show_val, shows, show_elems, pieces_text, piece_text, param_text, eager_text};
+//! The walk over pieces: values in the pieces of their texts, to the depth of the values, written at a place.
+
+ghost use Rattle.std.specs.Prelude.{◌≤◌, ◌++◌, length};
+ghost use Rattle.defmt_eager.specs.Answers.{Puts, comma};
+ghost use Rattle.defmt_eager.specs.Show.{node_pieces, show_val, shows, show_elems, pieces_text, piece_text, param_text};
 ghost use Rattle.defmt_hints.specs.Printed.{list_text, parted};
 ghost use Rattle.defmt_values.specs.View.{plain};
 
-use crate::eager::EagerFault;
-use crate::parts::{
-    push, push_bits, push_bool, push_bytes, push_char, push_int, push_str, push_uint,
-};
-use crate::pieces::{acting, comma, interned_text, node_pieces, own_pieces};
-use defmt_grammar::{Hint, Kind, Param, Piece, Text};
+use crate::leaves::{put_bits, put_character, put_signed};
+use crate::pieces::{acting, comma, interned_text, node_pieces};
+use defmt_grammar::{Hint, Kind, Param, Piece};
+use defmt_hints::{put, put_bool, put_bytes, put_str, put_wide_uint};
 use defmt_intern::Table;
 use defmt_values::{Args, Item, Items, Value, cut};
 
-// Appends the text of a value where a parameter of this kind stands, under the hint that acts on it.
+// Writes the text of a value where a parameter of this kind stands, under the hint that acts on it.
 #[cycle(show)]
-#[tactic(auto, unfolding(crate::specs::Show::show_val))]
-fn push_value(
+fn put_value(
     table: &Table,
-    out: &mut Text,
-    limit: usize,
+    out: &mut [u8],
+    at: usize,
     kind: Kind,
     hint: Hint,
     value: &Value,
-) -> Result<(), EagerFault>
-    requires { length out.old ≤ limit }
-    ensures { Shows limit out.old out.new result
+) -> Option<usize>
+    requires { at ≤ length out.old }
+    ensures { Puts result out.old at out.new
         (show_val table.now.entries (plain value.now) kind hint) }
 {
     match value {
-        Value::Uint(n) => push_uint(out, limit, *n, &hint),
-        Value::Int(n) => push_int(out, limit, *n, kind, &hint),
-        Value::Bool(b) => push_bool(out, limit, *b),
-        Value::Char(c) => push_char(out, limit, *c, &hint),
-        Value::Str(text) => push_str(out, limit, text.as_str(), &hint),
-        Value::Istr(index) => push_str(out, limit, interned_text(table, *index), &hint),
-        Value::Bytes(bytes) => push_bytes(out, limit, bytes.as_slice(), &hint),
-        Value::Bits(n) => push_bits(out, limit, *n, kind, &hint),
+        Value::Uint(number) => put_wide_uint(out, at, *number, hint),
+        Value::Int(number) => put_signed(out, at, *number, kind, hint),
+        Value::Bool(value) => put_bool(out, at, *value),
+        Value::Char(character) => put_character(out, at, *character, hint),
+        Value::Bits(number) => put_bits(out, at, *number, kind, hint),
+        Value::Str(text) => put_str(out, at, text.as_str(), hint),
+        Value::Istr(index) => put_str(out, at, interned_text(table, *index), hint),
+        Value::Bytes(bytes) => put_bytes(out, at, bytes.as_slice(), hint),
         Value::Format(node) => {
             let pieces = node_pieces(table, node.index, node.variant);
-            push_pieces(table, out, limit, hint, pieces, &node.args)
+            put_pieces(table, out, at, hint, pieces, &node.args)
         }
-        Value::Seq(seq) => push_list(table, out, limit, hint, seq.index.unwrap_or(0), &seq.items),
+        Value::Seq(seq) => put_list(table, out, at, hint, seq.index.unwrap_or(0), &seq.items),
     }
 }
 
-// Appends what stands for a parameter.
+// Writes what stands for a parameter.
 #[cycle(show)]
-fn push_param(
+fn put_param(
     table: &Table,
-    out: &mut Text,
-    limit: usize,
+    out: &mut [u8],
+    at: usize,
     outer: Hint,
     param: Param,
     args: &Args,
-) -> Result<(), EagerFault>
-    requires { length out.old ≤ limit }
-    ensures { Shows limit out.old out.new result
+) -> Option<usize>
+    requires { at ≤ length out.old }
+    ensures { Puts result out.old at out.new
         (param_text outer (shows table.now.entries args.now) param.position param.kind param.hint) }
 {
     match args.get(param.position) {
-        None => Ok(()),
+        None => Some(at),
         Some(value) => {
             let hint = acting(outer, param.hint);
-            push_value(table, out, limit, param.kind, hint, value)
+            put_value(table, out, at, param.kind, hint, value)
         }
     }
 }
 
 #[cycle(show)]
-fn push_piece(
+fn put_piece(
     table: &Table,
-    out: &mut Text,
-    limit: usize,
+    out: &mut [u8],
+    at: usize,
     outer: Hint,
     piece: &Piece,
     args: &Args,
-) -> Result<(), EagerFault>
-    requires { length out.old ≤ limit }
-    ensures { Shows limit out.old out.new result
+) -> Option<usize>
+    requires { at ≤ length out.old }
+    ensures { Puts result out.old at out.new
         (piece_text outer piece.now (shows table.now.entries args.now)) }
 {
     match piece {
-        Piece::Literal(text) => push(out, limit, text.as_str()),
-        Piece::Param(param) => push_param(table, out, limit, outer, *param, args),
+        Piece::Literal(text) => put(out, at, text.as_str().as_bytes()),
+        Piece::Param(param) => put_param(table, out, at, outer, *param, args),
     }
 }
 
-/// Appends the text of pieces with these arguments, under the hint that acts round them.
+/// Writes the text of pieces with these arguments, under the hint that acts round them. `None` exactly where the buffer ends before it.
 #[cycle(show)]
-pub fn push_pieces(
+pub fn put_pieces(
     table: &Table,
-    out: &mut Text,
-    limit: usize,
+    out: &mut [u8],
+    at: usize,
     outer: Hint,
     pieces: &[Piece],
     args: &Args,
-) -> Result<(), EagerFault>
-    requires { length out.old ≤ limit }
-    ensures { Shows limit out.old out.new result
+) -> Option<usize>
+    requires { at ≤ length out.old }
+    ensures { Puts result out.old at out.new
         (pieces_text outer pieces.now (shows table.now.entries args.now)) }
 {
+    let mut place = at;
     let mut rest = pieces;
     'each: while let Some((piece, more)) = cut(rest) {
-        push_piece(table, out, limit, outer, piece, args)?;
+        let end = put_piece(table, out, place, outer, piece, args)?;
+        place = end;
         rest = more;
     }
-    Ok(())
+    Some(place)
 }
 
-// Appends an element of a list, behind a comma where it isn't the first.
+// Writes an element of a list, behind a comma where it isn't the first.
 #[cycle(show)]
-fn push_item(
+fn put_item(
     table: &Table,
-    out: &mut Text,
-    limit: usize,
+    out: &mut [u8],
+    at: usize,
     hint: Hint,
     index: u16,
     first: bool,
     item: &Item,
-) -> Result<(), EagerFault>
-    requires { length out.old ≤ limit }
-    ensures { Shows limit out.old out.new result
-        (comma first
+) -> Option<usize>
+    requires { at ≤ length out.old }
+    ensures { Puts result out.old at out.new (comma first
         ++ pieces_text hint (node_pieces table.now.entries index item.now.variant)
         (shows table.now.entries item.now.args)) }
 {
-    push(out, limit, comma(first))?;
+    let behind = put(out, at, comma(first).as_bytes())?;
     let pieces = node_pieces(table, index, item.variant);
-    push_pieces(table, out, limit, hint, pieces, &item.args)
+    put_pieces(table, out, behind, hint, pieces, &item.args)
 }
 
-// Appends the elements of a list.
+// Writes the elements of a list.
 #[cycle(show)]
-fn push_items(
+fn put_items(
     table: &Table,
-    out: &mut Text,
-    limit: usize,
+    out: &mut [u8],
+    at: usize,
     hint: Hint,
     index: u16,
     items: &Items,
-) -> Result<(), EagerFault>
-    requires { length out.old ≤ limit }
-    ensures { Shows limit out.old out.new result
+) -> Option<usize>
+    requires { at ≤ length out.old }
+    ensures { Puts result out.old at out.new
         (parted (show_elems table.now.entries index hint items.now)) }
 {
+    let mut place = at;
     let mut rest = items.as_slice();
     let mut first = true;
     'each: while let Some((item, more)) = cut(rest) {
-        push_item(table, out, limit, hint, index, first, item)?;
+        let end = put_item(table, out, place, hint, index, first, item)?;
+        place = end;
         rest = more;
         first = false;
     }
-    Ok(())
+    Some(place)
 }
 
-// Appends a list between its brackets.
+// Writes a list between its brackets.
 #[cycle(show)]
-fn push_list(
+fn put_list(
     table: &Table,
-    out: &mut Text,
-    limit: usize,
+    out: &mut [u8],
+    at: usize,
     hint: Hint,
     index: u16,
     items: &Items,
-) -> Result<(), EagerFault>
-    requires { length out.old ≤ limit }
-    ensures { Shows limit out.old out.new result
+) -> Option<usize>
+    requires { at ≤ length out.old }
+    ensures { Puts result out.old at out.new
         (list_text (show_elems table.now.entries index hint items.now)) }
 {
-    push(out, limit, "[")?;
-    push_items(table, out, limit, hint, index, items)?;
-    push(out, limit, "]")
-}
-
-/// Appends the text of a statement, without stamp and level.
-pub fn push_statement(
-    table: &Table,
-    out: &mut Text,
-    limit: usize,
-    index: u16,
-    args: &Args,
-) -> Result<(), EagerFault>
-    requires { length out.old ≤ limit }
-    ensures { Shows limit out.old out.new result (eager_text table.now.entries index args.now) }
-{
-    push_pieces(
-        table,
-        out,
-        limit,
-        Hint::Plain,
-        own_pieces(table, index),
-        args,
-    )
+    let open = put(out, at, b"[")?;
+    let behind = put_items(table, out, open, hint, index, items)?;
+    put(out, behind, b"]")
 }

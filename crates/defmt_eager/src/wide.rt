@@ -13,14 +13,16 @@ ghost use Rattle.defmt_values.specs.View.{plain};
 
 use crate::eager::{EagerFault, PRINTED_LIMIT, text_of};
 use crate::pieces::{acting, interned_text, node_pieces, own_pieces};
-use defmt_grammar::{Hint, Memory, Piece};
+use defmt_grammar::{Hint, Piece};
 use defmt_intern::Table;
 use defmt_values::{Args, Items, Statement, Value, cut};
+use dl_io::Memory;
 use std::alloc::Global;
 
 // More bytes than a number, a truth value or a character has under a hint.
-fn most_bytes(hint: Hint) -> usize
-    ensures { result ≡ most_bytes hint }
+pub(crate) fn most_bytes(hint: Hint) -> usize
+    ensures value { result ≡ most_bytes hint }
+    ensures few { result ≤ 555 }
 {
     match hint {
         Hint::Radix { width, .. } => 300 + usize::from(width),

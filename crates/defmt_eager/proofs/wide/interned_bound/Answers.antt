@@ -7,4 +7,4 @@ use Rattle.defmt_eager.proofs.wide.interned_bound.Goals as goal
 
 pub returns : goal.returns
 returns c = λ hint. text_bound (interned_text (look c.args.table.now.entries c.args.index)) hint c.bytes_of.result
-    (subst (λ (text : List ℕ). c.bytes_of.result ≤ printed_limit → c.bytes_of.result ≡ length text * 2 + 3) c.interned_text.ensures c.bytes_of.ensures)
+    (subst (λ (text : List ℕ). c.bytes_of.result ≤ printed_limit → c.bytes_of.result ≡ length text * 2 + 3) c.interned_text.ensures.text c.bytes_of.ensures)
