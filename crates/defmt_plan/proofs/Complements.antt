@@ -1,101 +1,61 @@
--- Signed numbers by their two's complements.
-use Rattle.std.proofs.Common.{◌≡◌, ◌<◌, ◌≤◌, ◌-◌, ◌*◌, ◌^◌, ℕ, suc, ℤ, pos, negsuc, ◌-ℤ◌, Bool, true, false, nat_lt, [], refl, sym, ap, subst, ◌∙◌, arith}
+-- Signed numbers by the bytes of their two's complements.
+use Rattle.std.proofs.Common.{◌≡◌, ◌<◌, ◌≤◌, ◌-◌, ◌*◌, ◌^◌, ℕ, suc, ℤ, pos, negsuc, ◌-ℤ◌, Bool, true, false, nat_lt, refl, ap, subst, ◌∙◌, arith}
 use Rattle.std.proofs.lemmas.Bool.{lt-ltb}
 use Rattle.std.proofs.lemmas.Int.{ints}
-use Rattle.std.proofs.Math.Nat.{pow-succ'}
 use Rattle.std.specs.Int.{w128, cast_unsigned}
 use Rattle.std.specs.Prelude.{if◌then◌else◌}
 use Rattle.byteorder.specs.Endian.{little_bytes, twos_complement}
 use Rattle.defmt_grammar.specs.Sizes.{size_bits, is_signed, IsSigned}
-use Rattle.defmt_grammar.specs.declared.hint.Hint.{Hint}
-use Rattle.defmt_grammar.specs.declared.hint.Hint.TheVariants as hints
 use Rattle.defmt_grammar.specs.declared.kind.IntSize.{IntSize}
 use Rattle.defmt_grammar.specs.declared.kind.IntSize.TheVariants.{W8, W16, W32, W64, W128, Native}
-use Rattle.defmt_grammar.specs.declared.kind.Kind.TheVariants as kinds
-use Rattle.defmt_hints.specs.Printed.{printed_int, radix_text, twos_complement as printed_complement}
+use Rattle.defmt_hints.specs.Printed.{twos_complement as printed_complement}
 use Rattle.defmt_encode.proofs.Signed.{twos, same_power}
 use Rattle.defmt_encode.specs.Carry.{size_bytes}
-use Rattle.defmt_eager.specs.Show.{int_text}
-use Rattle.defmt_put.specs.Signed.{signed_by, printed_by}
 
--- what a signed number of a size is, by the number of so many bytes that is its two's complement
-pub record IsComplement (size : IntSize) (w n : ℕ) (half : ℕ) : Type 0 where
-  pub signed : IsSigned (size_bits size) (signed_by half n)
-  pub bytes : little_bytes w n ≡ little_bytes (size_bytes size) (cast_unsigned w128 (signed_by half n))
-  pub text : (hint : Hint) → printed_by half n hint ≡ int_text (kinds.Int size) (signed_by half n) hint
+-- the signed number of a size that has this two's complement, and its bytes
+pub record IsComplement (size : IntSize) (n : ℕ) (z : ℤ) : Type 0 where
+  pub signed : IsSigned (size_bits size) z
+  pub back : printed_complement (size_bits size) z ≡ n
+  pub bytes : little_bytes (size_bytes size) n ≡ little_bytes (size_bytes size) (cast_unsigned w128 z)
 
-bits_are : (size : IntSize) (w : ℕ) → w ≡ size_bytes size → 8 * w ≡ size_bits size
-bits_are W8 w e = omega (arith, e)
-bits_are W16 w e = omega (arith, e)
-bits_are W32 w e = omega (arith, e)
-bits_are W64 w e = omega (arith, e)
-bits_are W128 w e = omega (arith, e)
-bits_are Native w e = omega (arith, e)
+-- the bytes and the bits of a size
+record IsSize (size : IntSize) : Type 0 where
+  some : 0 < size_bytes size
+  few : size_bytes size ≤ 16
+  bits : 8 * size_bytes size ≡ size_bits size
 
-some_bytes : (size : IntSize) → 0 < size_bytes size
-some_bytes W8 = omega arith
-some_bytes W16 = omega arith
-some_bytes W32 = omega arith
-some_bytes W64 = omega arith
-some_bytes W128 = omega arith
-some_bytes Native = omega arith
+sized : (size : IntSize) → IsSize size
+sized W8 = record { some = omega arith; few = omega arith; bits = refl }
+sized W16 = record { some = omega arith; few = omega arith; bits = refl }
+sized W32 = record { some = omega arith; few = omega arith; bits = refl }
+sized W64 = record { some = omega arith; few = omega arith; bits = refl }
+sized W128 = record { some = omega arith; few = omega arith; bits = refl }
+sized Native = record { some = omega arith; few = omega arith; bits = refl }
 
-few_bytes : (size : IntSize) → size_bytes size ≤ 16
-few_bytes W8 = omega arith
-few_bytes W16 = omega arith
-few_bytes W32 = omega arith
-few_bytes W64 = omega arith
-few_bytes W128 = omega arith
-few_bytes Native = omega arith
+pub small_bits : (size : IntSize) (n : ℕ) → n < 256 ^ size_bytes size → n < 2 ^ size_bits size
+small_bits size n h = subst (λ (bits : ℕ). n < 2 ^ bits) (sized size).bits (subst (λ (m : ℕ). n < m) (same_power (size_bytes size)) h)
 
--- twice the half is all
-halves : (k : ℕ) → 0 < k → 2 ^ (8 * k) ≡ 2 * 2 ^ (8 * k - 1)
-halves k h = let e : 8 * k ≡ suc (8 * k - 1) = omega arith in ap (λ m. 2 ^ m) e ∙ pow-succ' 2 (8 * k - 1)
-
-below_all : (x p q : ℕ) → x < p → q ≡ p → negsuc (q - suc x) ≡ pos x -ℤ pos p
-below_all x p q lt e = omega (arith, ints, lt, e)
-
-both : (b : Bool) (x p q : ℕ) → negsuc (q - suc x) ≡ pos x -ℤ pos p → (if b then pos x else negsuc (q - suc x)) ≡ (if b then pos x else pos x -ℤ pos p)
-both true x p q e = refl
-both false x p q e = e
-
-signed_is : (k x half : ℕ) → half ≡ 2 ^ (8 * k - 1) → 2 * half ≡ 2 ^ (8 * k) → x < 2 ^ (8 * k) → signed_by half x ≡ twos_complement k x
-signed_is k x half e two lt =
-    ap (λ (h : ℕ). if nat_lt x h then pos x else negsuc (2 * half - suc x)) e
-    ∙ both (nat_lt x (2 ^ (8 * k - 1))) x (2 ^ (8 * k)) (2 * half) (below_all x (2 ^ (8 * k)) (2 * half) lt two)
-
-signed_test : (bits : ℕ) (z : ℤ) → IsSigned bits z → is_signed bits z ≡ true
+pub signed_test : (bits : ℕ) (z : ℤ) → IsSigned bits z → is_signed bits z ≡ true
 signed_test bits (pos n) h = lt-ltb n (2 ^ (bits - 1)) h
 signed_test bits (negsuc n) h = lt-ltb n (2 ^ (bits - 1)) h
 
-back_by : (bits x half : ℕ) (b : Bool) → 2 * half ≡ 2 ^ bits → x < 2 ^ bits → printed_complement bits (if b then pos x else negsuc (2 * half - suc x)) ≡ x
-back_by bits x half true two lt = refl
-back_by bits x half false two lt = omega (arith, two, lt)
+-- from the sign bit on a number stands for one below 0
+below : (bits x : ℕ) → x < 2 ^ bits → pos x -ℤ pos (2 ^ bits) ≡ negsuc (2 ^ bits - suc x)
+below bits x lt = omega (arith, ints, lt)
 
-printed_is : (size : IntSize) (x half : ℕ) (hint : Hint) → 2 * half ≡ 2 ^ size_bits size → x < 2 ^ size_bits size → printed_by half x hint ≡ printed_int (signed_by half x) size hint
-unfolding printed_int
-printed_is size x half hints.Plain two lt = refl
-printed_is size x half hints.Debug two lt = refl
-printed_is size x half (hints.Radix base alt width) two lt = ap (λ (m : ℕ). radix_text base alt width m) (sym (back_by (size_bits size) x half (nat_lt x half) two lt))
-printed_is size x half hints.Ascii two lt = refl
-printed_is size x half hints.Micros two lt = refl
-printed_is size x half hints.Millis two lt = refl
+back_by : (bits x : ℕ) (b : Bool) → x < 2 ^ bits → printed_complement bits (if b then pos x else pos x -ℤ pos (2 ^ bits)) ≡ x
+back_by bits x true lt = refl
+back_by bits x false lt = ap (printed_complement bits) (below bits x lt) ∙ omega (arith, lt)
 
-pub complement_is : (size : IntSize) (w half n : ℕ) → w ≡ size_bytes size → half ≡ 2 ^ (size_bits size - 1) → n < 256 ^ w → IsComplement size w n half
-complement_is size w half n e f small =
-    let some : 0 < w = omega (arith, e, some_bytes size) in
-    let few : w ≤ 16 = omega (arith, e, few_bytes size) in
-    let bits : 8 * w ≡ size_bits size = bits_are size w e in
-    let half_is : half ≡ 2 ^ (8 * w - 1) = f ∙ ap (λ (m : ℕ). 2 ^ (m - 1)) (sym bits) in
-    let two : 2 * half ≡ 2 ^ (8 * w) = ap (λ (m : ℕ). 2 * m) half_is ∙ sym (halves w some) in
-    let lt : n < 2 ^ (8 * w) = subst (λ (m : ℕ). n < m) (same_power w) small in
-    let is : signed_by half n ≡ twos_complement w n = signed_is w n half half_is two lt in
-    let t = twos w n some few small in
-    let signed : IsSigned (size_bits size) (signed_by half n) = subst (λ (b : ℕ). IsSigned b (signed_by half n)) bits (subst (λ (z : ℤ). IsSigned (8 * w) z) (sym is) t.signed) in
-    let two_bits : 2 * half ≡ 2 ^ size_bits size = two ∙ ap (λ (m : ℕ). 2 ^ m) bits in
-    let lt_bits : n < 2 ^ size_bits size = subst (λ (m : ℕ). n < 2 ^ m) bits lt in
+pub complement_is : (size : IntSize) (n : ℕ) → n < 256 ^ size_bytes size → IsComplement size n (twos_complement (size_bytes size) n)
+complement_is size n small =
+    let k : ℕ = size_bytes size in
+    let z : ℤ = twos_complement k n in
+    let s = sized size in
+    let t = twos k n s.some s.few small in
+    let lt : n < 2 ^ (8 * k) = subst (λ (m : ℕ). n < m) (same_power k) small in
     record {
-      signed = signed;
-      bytes = t.bytes ∙ ap (λ (z : ℤ). little_bytes w (cast_unsigned w128 z)) (sym is) ∙ ap (λ (m : ℕ). little_bytes m (cast_unsigned w128 (signed_by half n))) e;
-      text = λ hint. printed_is size n half hint two_bits lt_bits ∙ sym (ap (λ (b : Bool). if b then printed_int (signed_by half n) size hint else []) (signed_test (size_bits size) (signed_by half n) signed));
+      signed = subst (λ (bits : ℕ). IsSigned bits z) s.bits t.signed;
+      back = subst (λ (bits : ℕ). printed_complement bits z ≡ n) s.bits (back_by (8 * k) n (nat_lt n (2 ^ (8 * k - 1))) lt);
+      bytes = t.bytes;
     }

@@ -20,8 +20,10 @@ use Rattle.defmt_encode.specs.Read.{OneAt, ◌⇒◌, number_at, form_in, form_o
 use Rattle.defmt_encode.proofs.Chains.{done, same, bound}
 use Rattle.defmt_encode.proofs.ReadsBack.{adds, below_is, some_is}
 use Rattle.defmt_eager.specs.Show.{show_val, show_elems, shows, pieces_text, node_pieces}
-use Rattle.defmt_put.proofs.Chains.{written_none, written_two}
-use Rattle.defmt_put.specs.Written.{Kept, Written}
+use Rattle.defmt_eager.proofs.Parts.{placed_none}
+use Rattle.defmt_plan.proofs.Placing.{placed_two}
+use Rattle.defmt_hints.specs.Written.{Kept}
+use Rattle.defmt_eager.specs.Answers.{Placed}
 use Rattle.defmt_plan.proofs.Forming.{IsSomeBody, VariantIs, one_body, some_body}
 use Rattle.defmt_plan.specs.Forms.{AreVariants, IsBody, IsFormIn, StandsFor}
 use Rattle.defmt_plan.specs.Inside.{elem_text, elems_text, inner_text}
@@ -84,8 +86,8 @@ module _ (t : Map) (left : ℕ) (form : Form) (hint : Hint) (bytes : List ℕ) (
             (elem_one (value_at t left) o.pieces before.opened after.opened p.value (drop before.read bytes) (drop after.read bytes) light read);
         few = p.few;
         within = p.within;
-        written = subst (λ (ps : List Piece). Written old before.written new after.written (pieces_text hint ps (shows t p.value))) pieces
-            (subst (λ (n : ℕ). Written old n new after.written (pieces_text hint o.pieces (shows t p.value))) f p.written);
+        written = subst (λ (ps : List Piece). Placed old before.written new after.written (pieces_text hint ps (shows t p.value))) pieces
+            (subst (λ (n : ℕ). Placed old n new after.written (pieces_text hint o.pieces (shows t p.value))) f p.written);
       }
 
   variant_by : (r : Option Reach) (all : Vec (Vec Step)) (v : ℕ) (steps : Vec Step) → before.opened + 1 ≤ 8192 → v < 256 → number_at 1 (drop before.read bytes) ≡ Ok (v, drop (before.read + 1) bytes) → inside.read ≡ before.read + 1 → inside.written ≡ before.written → inside.opened ≡ before.opened + 1
@@ -104,8 +106,8 @@ module _ (t : Map) (left : ℕ) (form : Form) (hint : Hint) (bytes : List ℕ) (
             (elem_variant (value_at t left) o.forms v i.pieces before.opened after.opened p.value (drop before.read bytes) (drop (before.read + 1) bytes) (drop after.read bytes) light n at read);
         few = p.few;
         within = p.within;
-        written = subst (λ (ps : List Piece). Written old before.written new after.written (pieces_text hint ps (shows t p.value))) pieces
-            (subst (λ (m : ℕ). Written old m new after.written (pieces_text hint i.pieces (shows t p.value))) f p.written);
+        written = subst (λ (ps : List Piece). Placed old before.written new after.written (pieces_text hint ps (shows t p.value))) pieces
+            (subst (λ (m : ℕ). Placed old m new after.written (pieces_text hint i.pieces (shows t p.value))) f p.written);
       }
 
   pub form_variant : (r : Option Reach) (all : Vec (Vec Step)) (v : ℕ) (steps : Vec Step) → form.body ≡ bodies.Variants all → before.opened + 1 ≤ 8192 → v < 256 → number_at 1 (drop before.read bytes) ≡ Ok (v, drop (before.read + 1) bytes)
@@ -140,7 +142,7 @@ module _ (t : Map) (left : ℕ) (form : Form) (hint : Hint) (bytes : List ℕ) (
         reads = rw (below_is t left deep) (node_from t (value_at t (left - 1)) form.index what before.opened after.opened p.value.0 p.value.1 (drop before.read bytes) (drop (before.read + 2) bytes) (drop after.read bytes) n (form_read t form what s) read);
         few = p.few;
         within = p.within;
-        written = subst (λ (m : ℕ). Written old m new after.written (elem_text t hint form.index p.value)) f p.written;
+        written = subst (λ (m : ℕ). Placed old m new after.written (elem_text t hint form.index p.value)) f p.written;
       }
 
   -- the elements of a list behind their index
@@ -160,7 +162,7 @@ module _ (t : Map) (left : ℕ) (form : Form) (hint : Hint) (bytes : List ℕ) (
         reads = some_is t left count 1 before.opened (drop before.read bytes) deep some ∙ (rw (n, form_read t form what s, read) refl);
         few = p.few;
         within = p.within;
-        written = subst (λ (m : ℕ). Written old m new after.written (elems_text t hint form.index p.value)) f p.written;
+        written = subst (λ (m : ℕ). Placed old m new after.written (elems_text t hint form.index p.value)) f p.written;
       }
 
 -- ---- a list between its brackets
@@ -195,12 +197,12 @@ some_none t left count hint bytes before old none few le most = record {
   reads = rw none refl;
   few = few;
   within = le;
-  written = written_none old before.written most;
+  written = placed_none old before.written most;
 }
 
 module _ (t : Map) (left : ℕ) (kind : Kind) (hint : Hint) (bytes : List ℕ) (before inside all after : Reach) (old mid last new : List ℕ) where
   -- a list, with its elements between its brackets
-  pub list_by : (count : ℕ) → inside.read ≡ before.read → inside.opened ≡ before.opened → Written old before.written mid inside.written (codes "[") → PassedBy (some_at t (below t left) count 1) (inner_text t hint) bytes inside all mid last → Written last all.written new after.written (codes "]") → after.read ≡ all.read → after.opened ≡ all.opened
+  pub list_by : (count : ℕ) → inside.read ≡ before.read → inside.opened ≡ before.opened → Placed old before.written mid inside.written (codes "[") → PassedBy (some_at t (below t left) count 1) (inner_text t hint) bytes inside all mid last → Placed last all.written new after.written (codes "]") → after.read ≡ all.read → after.opened ≡ all.opened
       → PassedBy (some_at t (below t left) count 1) (λ (v : Val). show_val t v kind hint) bytes before after old new
   list_by count e f v p w g h =
       let read : some_at t (below t left) count 1 before.opened (drop before.read bytes) ≡ Ok (p.value, all.opened, drop all.read bytes) =
@@ -213,9 +215,9 @@ module _ (t : Map) (left : ℕ) (kind : Kind) (hint : Hint) (bytes : List ℕ) (
             (subst (λ (n : ℕ). some_at t (below t left) count 1 before.opened (drop before.read bytes) ≡ Ok (p.value, n, drop all.read bytes)) (sym h) read);
         few = omega (arith, h, p.few);
         within = omega (arith, g, p.within);
-        written = subst (λ (x : List ℕ). Written old before.written new after.written x) (sym text)
-            (written_two old mid new before.written inside.written after.written (codes "[") (inner_text t hint p.value ++ codes "]") v
-            (written_two mid last new inside.written all.written after.written (inner_text t hint p.value) (codes "]") p.written w));
+        written = subst (λ (x : List ℕ). Placed old before.written new after.written x) (sym text)
+            (placed_two old mid new before.written inside.written after.written (codes "[") (inner_text t hint p.value ++ codes "]") v
+            (placed_two mid last new inside.written all.written after.written (inner_text t hint p.value) (codes "]") p.written w));
       }
 
 -- a list whose number of elements stands in front
@@ -231,5 +233,5 @@ counted_passes (Some after) t left count hint bytes before inside old new n e f 
       reads = rw n read;
       few = p.few;
       within = p.within;
-      written = subst (λ (m : ℕ). Written old m new after.written (show_val t p.value kinds.FormatSlice hint)) f p.written;
+      written = subst (λ (m : ℕ). Placed old m new after.written (show_val t p.value kinds.FormatSlice hint)) f p.written;
     }

@@ -18,16 +18,11 @@ use Rattle.defmt_encode.proofs.Numbers.{AreBytes, bytes_rest}
 use Rattle.defmt_encode.specs.Lengths.{LengthsFit}
 use Rattle.defmt_eager.specs.Show.{Shown, pieces_text, shows}
 use Rattle.defmt_plan.specs.Carried.{Carried}
-use Rattle.defmt_plan.proofs.Slotting.{slots_are, fits_are, weighs_are, texts_are}
-use Rattle.defmt_plan.specs.Passed.{Passed, Passes, text_along}
 use Rattle.defmt_plan.specs.Plans.{led, lead_text}
-use Rattle.defmt_plan.specs.Steps.{AreSteps, slots_along}
 use Rattle.defmt_plan.specs.Readers.{PassesPieces}
-use Rattle.defmt_plan.specs.Told.{ArgumentsPassed, PassesArguments}
-use Rattle.defmt_plan.specs.declared.leaves.Progress.{Progress}
+use Rattle.defmt_plan.specs.Told.{ArgumentsPassed}
 use Rattle.defmt_plan.specs.declared.reach.Reach.{Reach}
-use Rattle.defmt_plan.specs.declared.steps.Step.{Step}
-use Rattle.defmt_put.specs.Written.{Written}
+use Rattle.defmt_eager.specs.Answers.{Placed}
 
 -- arguments that the bytes between two places carry for the pieces' slots, with what the text of the pieces has behind the literal
 pub record PassedLed (t : Map) (lead : Option (List ℕ)) (qs : List Piece) (bytes : List ℕ) (from to : ℕ) (old : List ℕ) (at : ℕ) (new : List ℕ) (end : ℕ) : Type 0 where
@@ -39,40 +34,17 @@ pub record PassedLed (t : Map) (lead : Option (List ℕ)) (qs : List Piece) (byt
   pub carried : Carried bytes from to (bytes_vals t (slots_of qs) args)
   pub rest : List ℕ
   pub text_is : pieces_text hints.Plain qs (shows t args) ≡ lead_text lead ++ rest
-  pub written : Written old at new end rest
+  pub written : Placed old at new end rest
 
 text_led : (lead : Option (List ℕ)) (ps : List Piece) (all : List Shown) → pieces_text hints.Plain (led lead ps) all ≡ lead_text lead ++ pieces_text hints.Plain ps all
 unfolding pieces_text
 text_led None ps all = refl
 text_led (Some text) ps all = refl
 
--- the arguments that steps without values in others pass
-pub arguments_flat : (t : Map) (all ps : List Piece) (ss : List Step) (bytes : List ℕ) (from to : ℕ) (old : List ℕ) (at : ℕ) (new : List ℕ) (end : ℕ)
-    → AreSteps all ps ss → Passed t ss bytes from to old at new end → ArgumentsPassed t all ps bytes from to old at new end
-arguments_flat t all ps ss bytes from to old at new end are p =
-    let slots : slots_along ss ≡ slots_of all = sym (slots_are all ss are.pass) in
-    let none : weigh_vals t (places_of all) 1 p.args ≡ 0 = weighs_are t 16 all ss p.args are.pass p.fits ∙ p.weightless in
-    let text : text_along t hints.Plain ss p.args ≡ pieces_text hints.Plain ps (shows t p.args)
-    = sym (ap (λ (rs : List Piece). pieces_text hints.Plain rs (shows t p.args)) (sym are.are) ∙ texts_are t hints.Plain 16 all ss p.args are.pass p.fits) in
-    record {
-      args = p.args;
-      fits = fits_are t 16 all ss p.args are.pass p.fits;
-      light = omega (arith, none);
-      sound = p.sound;
-      lengths = subst (λ (some : List Slot). LengthsFit t some p.args) slots p.lengths;
-      carried = subst (λ (some : List Slot). Carried bytes from to (bytes_vals t some p.args)) slots p.carried;
-      written = subst (λ (x : List ℕ). Written old at new end x) text p.written;
-    }
-
-pub flat_by : (r : Option Progress) (t : Map) (all ps : List Piece) (ss : List Step) (bytes : List ℕ) (from : ℕ) (old : List ℕ) (at : ℕ) (new : List ℕ)
-    → AreSteps all ps ss → Passes r t ss bytes from old at new → PassesArguments r t all ps bytes from old at new
-flat_by None t all ps ss bytes from old at new are p = p
-flat_by (Some after) t all ps ss bytes from old at new are p = arguments_flat t all ps ss bytes from after.read old at new after.written are p
-
--- the arguments that steps with values in others pass
-pub arguments_nested : (t : Map) (all ps : List Piece) (bytes : List ℕ) (from at : ℕ) (after : Reach) (old new : List ℕ) → AreBytes bytes → from ≤ length bytes
+-- the arguments that steps pass
+pub arguments_by : (t : Map) (all ps : List Piece) (bytes : List ℕ) (from at : ℕ) (after : Reach) (old new : List ℕ) → AreBytes bytes → from ≤ length bytes
     → PassesPieces (Some after) t 16 hints.Plain all ps bytes (record { read = from; written = at; opened = 0 }) old new → ArgumentsPassed t all ps bytes from after.read old at new after.written
-arguments_nested t all ps bytes from at after old new small le p =
+arguments_by t all ps bytes from at after old new small le p =
     let behind : AreBytes (drop from bytes) = bytes_rest bytes (take from bytes) (drop from bytes) small (sym (take-append-drop from bytes)) in
     let f = each_found t 16 (value_at t 16) (value_found t 16) (places_of all) 1 0 (drop from bytes) (p.value, after.opened, drop after.read bytes) behind p.reads in
     let slots : slots_at (places_of all) ≡ slots_of all = slots_at_places all in

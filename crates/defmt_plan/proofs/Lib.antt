@@ -9,11 +9,11 @@ pub mod Leading
 pub mod Onward
 pub mod Padding
 pub mod Places
+pub mod Placing
 pub mod Planning
 pub mod Reached
 pub mod Remaining
 pub mod Running
-pub mod Slotting
 pub mod Striding
 pub mod Telling
 pub mod Values

@@ -1,14 +1,15 @@
--- Steps on their way, where values may stand in others.
-use Rattle.std.proofs.Common.{◌≡◌, ◌≤◌, ◌+◌, ℕ, List, [], ◌∷◌, length, refl, sym, subst, arith, Option, Some, None}
+-- Steps on their way.
+use Rattle.std.proofs.Common.{◌≡◌, ◌<◌, ◌≤◌, ◌+◌, ℕ, suc, List, [], ◌∷◌, length, drop, drop-cons, get_or, refl, sym, ap, subst, ◌∙◌, arith, Option, Some, None}
 use Rattle.defmt_grammar.specs.declared.hint.Hint.{Hint}
 use Rattle.defmt_grammar.specs.declared.piece.Piece.{Piece}
 use Rattle.defmt_intern.specs.Table.{Map}
 use Rattle.defmt_eager.specs.Show.{show_val, shows, acting, pieces_text}
 use Rattle.defmt_plan.proofs.Remaining.{Rest, rest_none, rest_more}
-use Rattle.defmt_put.proofs.Chains.{written_end, kept_written, kept_two}
+use Rattle.defmt_hints.proofs.Chains.{written_end, kept_written, kept_two}
 use Rattle.defmt_plan.specs.Readers.{PassedStepBy, PassesPieces, PassesStepBy}
 use Rattle.defmt_plan.specs.Steps.{AreSteps, PassAll, behind}
-use Rattle.defmt_put.specs.Written.{Kept, Written}
+use Rattle.defmt_hints.specs.Written.{Kept}
+use Rattle.defmt_eager.specs.Answers.{Placed}
 use Rattle.defmt_plan.specs.declared.reach.Reach.{Reach}
 use Rattle.defmt_plan.specs.declared.steps.Step.{Step}
 use Rattle.defmt_plan.specs.declared.steps.Step.TheVariants as steps
@@ -29,13 +30,16 @@ record Ends (bytes : List ℕ) (before after : Reach) (old new : List ℕ) : Typ
   pub few : after.opened ≤ 8192
   pub read : after.read ≤ length bytes
   pub text : List ℕ
-  pub written : Written old before.written new after.written text
+  pub written : Placed old before.written new after.written text
 
 step_ends : (t : Map) (left : ℕ) (outer : Hint) (step : Step) (bytes : List ℕ) (before after : Reach) (old new : List ℕ) → before.opened ≤ 8192 → before.read ≤ length bytes → PassedStepBy t left outer step bytes before after old new → Ends bytes before after old new
 step_ends t left outer (steps.Text text) bytes before after old new few le p = record { few = omega (arith, p.0.opened, few); read = omega (arith, p.0.read, le); text = text; written = p.1 }
 step_ends t left outer (steps.Value kind hint) bytes before after old new few le p = record { few = p.few; read = p.within; text = show_val t p.value kind (acting outer hint); written = p.written }
 step_ends t left outer (steps.Peek f hint) bytes before after old new few le p = record { few = omega (arith, p.0.opened, few); read = omega (arith, p.0.read, le); text = _; written = p.1.written }
 step_ends t left outer (steps.Bits f hint) bytes before after old new few le p = record { few = omega (arith, p.0.opened, few); read = omega (arith, p.0.read, p.1.carried.within); text = _; written = p.1.written }
+
+pub next_step : (ss : List Step) (i : ℕ) (step : Step) → i < length ss → step ≡ get_or ss i step → drop i ss ≡ step ∷ drop (i + 1) ss
+next_step ss i step lt e = let one : suc i ≡ i + 1 = omega arith in drop-cons ss i step lt ∙ ap (λ (q : Step). q ∷ drop (suc i) ss) (sym e) ∙ ap (λ (n : ℕ). step ∷ drop n ss) one
 
 module _ (t : Map) (left : ℕ) (outer : Hint) (whole : List Step) (bytes : List ℕ) (start : Reach) (old : List ℕ) where
   pub going_none : start.opened ≤ 8192 → start.read ≤ length bytes → start.written ≤ length old → Going t left outer whole whole bytes start start old old
@@ -53,15 +57,15 @@ module _ (t : Map) (left : ℕ) (outer : Hint) (whole : List Step) (bytes : List
   pub going_more : (step : Step) (rest more : List Step) (now after : Reach) (out new : List ℕ) → Going t left outer whole rest bytes start now old out → rest ≡ step ∷ more → PassedStepBy t left outer step bytes now after out new → Going t left outer whole more bytes start after old new
   going_more step rest more now after out new h e p =
       let ends = step_ends t left outer step bytes now after out new h.few h.read p in
-      let far : after.written ≡ now.written + length ends.text = written_end out new now.written after.written ends.text h.written ends.written in
+      let far : after.written ≡ now.written + length ends.text = written_end out new now.written after.written ends.text h.written ends.written.written in
       let there : (all : List Piece) → PassAll all 0 whole → PassAll all h.next (step ∷ more) = λ all a. subst (λ (ss : List Step). PassAll all h.next ss) e (h.passes all a) in
       record {
         next = behind h.next step;
         few = ends.few;
         read = ends.read;
-        written = omega (arith, ends.written.within, ends.written.long);
+        written = omega (arith, ends.written.written.within, ends.written.written.long);
         behind = omega (arith, far, h.behind);
-        kept = kept_two old out new start.written now.written h.behind h.kept (kept_written out new now.written after.written ends.text h.written ends.written);
+        kept = kept_two old out new start.written now.written h.behind h.kept (kept_written out new now.written after.written ends.text h.written ends.written.written);
         passes = λ all a. (there all a).1;
         finishes = λ all a to last r.
             h.finishes all a to last (subst (λ (ss : List Step). Rest t left outer all ss h.next bytes now to out last) (sym e)
@@ -78,7 +82,7 @@ module _ (t : Map) (left : ℕ) (outer : Hint) (whole : List Step) (bytes : List
         reads = r.reads;
         few = h.few;
         within = h.read;
-        written = subst (λ (ps : List Piece). Written old start.written out now.written (pieces_text outer ps (shows t r.args))) a.are (r.written [] refl);
+        written = subst (λ (ps : List Piece). Placed old start.written out now.written (pieces_text outer ps (shows t r.args))) a.are (r.written [] refl);
       }
 
   pub going_fails : (rest : List Step) (now : Reach) (out new : List ℕ) (step : Step) (q r : Option Reach) → Going t left outer whole rest bytes start now old out → q ≡ None → r ≡ None → PassesStepBy q t left outer step bytes now out new → (all pieces : List Piece) → PassesPieces r t left outer all pieces bytes start old new

@@ -12,7 +12,7 @@ use Rattle.defmt_encode.proofs.Back.{val_back}
 use Rattle.defmt_encode.proofs.Chains.{done}
 use Rattle.defmt_encode.proofs.Joins.{value_is}
 use Rattle.defmt_eager.specs.Show.{show_val, acting}
-use Rattle.defmt_put.specs.Written.{Written}
+use Rattle.defmt_eager.specs.Answers.{Placed}
 use Rattle.defmt_plan.specs.Passed.{PassedField, PassesField, PassesOne}
 use Rattle.defmt_plan.specs.Readers.{PassedBy, PassesBy, PassesStepBy, progress_of}
 use Rattle.defmt_plan.specs.declared.bits.Field.{Field}
@@ -72,6 +72,6 @@ bits_by (Some after) t left outer hint acts field bytes before old new same p e 
     (record { read = e; opened = f }, subst (λ (h : Hint). PassedField field h bytes before.read old before.written new after.written) same p)
 
 -- a literal
-pub text_by : (t : Map) (left : ℕ) (outer : Hint) (text : List ℕ) (bytes : List ℕ) (before : Reach) (old new : List ℕ) (end : ℕ) → Written old before.written new end text
+pub text_by : (t : Map) (left : ℕ) (outer : Hint) (text : List ℕ) (bytes : List ℕ) (before : Reach) (old new : List ℕ) (end : ℕ) → Placed old before.written new end text
     → PassesStepBy (Some (record { read = before.read; written = end; opened = before.opened })) t left outer (steps.Text text) bytes before old new
 text_by t left outer text bytes before old new end w = (record { read = omega arith; opened = refl }, w)

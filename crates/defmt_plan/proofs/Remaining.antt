@@ -1,4 +1,4 @@
--- What is left to read and to write behind some steps, where values may stand in others.
+-- What is left to read and to write behind some steps.
 use Rattle.std.proofs.Common.{◌≡◌, ◌<◌, ◌≤◌, ◌+◌, ◌*◌, ◌^◌, ℕ, zero, suc, List, [], ◌∷◌, ◌++◌, length, drop, drop_of_length-le, Option, Some, Ok, refl, sym, ap, subst, ◌∙◌, arith, append_assoc, length-append}
 use Rattle.std.specs.List.{slice_get}
 use Rattle.defmt_grammar.specs.Slots.{slots_of, uses_at}
@@ -14,8 +14,9 @@ use Rattle.defmt_encode.specs.Read.{OneAt, ◌⇒◌, number_at, each_at, value_
 use Rattle.defmt_encode.proofs.Chains.{done, same, bound}
 use Rattle.defmt_encode.proofs.Joins.{value_is}
 use Rattle.defmt_eager.specs.Show.{Shown, show_val, shows, shown_at, acting, pieces_text}
-use Rattle.defmt_put.proofs.Chains.{written_two, written_none}
-use Rattle.defmt_put.specs.Written.{Written}
+use Rattle.defmt_eager.proofs.Parts.{placed_none}
+use Rattle.defmt_plan.proofs.Placing.{placed_two}
+use Rattle.defmt_eager.specs.Answers.{Placed}
 use Rattle.byteorder.specs.Endian.{little_bytes}
 use Rattle.defmt_encode.proofs.Numbers.{number_back}
 use Rattle.defmt_plan.specs.Carried.{Carried}
@@ -119,14 +120,14 @@ size_more front x next e = length-append front (x ∷ []) ∙ ap (λ (n : ℕ). 
 pub record Rest (t : Map) (left : ℕ) (outer : Hint) (all : List Piece) (rest : List Step) (next : ℕ) (bytes : List ℕ) (from to : Reach) (old new : List ℕ) : Type 0 where
   pub args : Vals
   pub reads : each_at (value_at t left) (places_left all next) 1 from.opened (drop from.read bytes) ≡ Ok (args, to.opened, drop to.read bytes)
-  pub written : (front : List Shown) → length front ≡ next → Written old from.written new to.written (pieces_text outer (pieces_from next rest) (front ++ shows t args))
+  pub written : (front : List Shown) → length front ≡ next → Placed old from.written new to.written (pieces_text outer (pieces_from next rest) (front ++ shows t args))
 
 pub rest_none : (t : Map) (left : ℕ) (outer : Hint) (all : List Piece) (next : ℕ) (bytes : List ℕ) (from : Reach) (old : List ℕ) → length (slots_of all) ≡ next → from.written ≤ length old → Rest t left outer all [] next bytes from from old old
 unfolding pieces_text
 rest_none t left outer all next bytes from old e most = record {
   args = no_vals;
   reads = rw (no_places all next e) (each_none (value_at t left) from.opened (drop from.read bytes));
-  written = λ front l. written_none old from.written most;
+  written = λ front l. placed_none old from.written most;
 }
 
 module _ (t : Map) (left : ℕ) (outer : Hint) (all : List Piece) (more : List Step) (next : ℕ) (bytes : List ℕ) (before after to : Reach) (old mid new : List ℕ) where
@@ -137,23 +138,23 @@ module _ (t : Map) (left : ℕ) (outer : Hint) (all : List Piece) (more : List S
       subst (λ (n : ℕ). each_at (value_at t left) (places_left all at) 1 before.opened (drop n bytes) ≡ Ok (args, to.opened, drop to.read bytes)) e
       (subst (λ (n : ℕ). each_at (value_at t left) (places_left all at) 1 n (drop after.read bytes) ≡ Ok (args, to.opened, drop to.read bytes)) y.opened h)
 
-  rest_text : (text : List ℕ) → Stays before after 0 → Written old before.written mid after.written text → Rest t left outer all more next bytes after to mid new → Rest t left outer all (steps.Text text ∷ more) next bytes before to old new
+  rest_text : (text : List ℕ) → Stays before after 0 → Placed old before.written mid after.written text → Rest t left outer all more next bytes after to mid new → Rest t left outer all (steps.Text text ∷ more) next bytes before to old new
   unfolding pieces_text
   rest_text text y w r = record {
     args = r.args;
     reads = same_reads r.args next y r.reads;
-    written = λ front l. written_two old mid new before.written after.written to.written text (pieces_text outer (pieces_from next more) (front ++ shows t r.args)) w (r.written front l);
+    written = λ front l. placed_two old mid new before.written after.written to.written text (pieces_text outer (pieces_from next more) (front ++ shows t r.args)) w (r.written front l);
   }
 
   -- the text of a parameter of the next position, in front of the rest's
-  text_more : (v : Val) (vs : Vals) (kind : Kind) (hint : Hint) → Written old before.written mid after.written (show_val t v kind (acting outer hint))
-      → ((front : List Shown) → length front ≡ next + 1 → Written mid after.written new to.written (pieces_text outer (pieces_from (next + 1) more) (front ++ shows t vs)))
-      → (front : List Shown) → length front ≡ next → Written old before.written new to.written (shown_at (slice_get (front ++ shows t (val v vs)) next) kind (acting outer hint) ++ pieces_text outer (pieces_from (next + 1) more) (front ++ shows t (val v vs)))
+  text_more : (v : Val) (vs : Vals) (kind : Kind) (hint : Hint) → Placed old before.written mid after.written (show_val t v kind (acting outer hint))
+      → ((front : List Shown) → length front ≡ next + 1 → Placed mid after.written new to.written (pieces_text outer (pieces_from (next + 1) more) (front ++ shows t vs)))
+      → (front : List Shown) → length front ≡ next → Placed old before.written new to.written (shown_at (slice_get (front ++ shows t (val v vs)) next) kind (acting outer hint) ++ pieces_text outer (pieces_from (next + 1) more) (front ++ shows t (val v vs)))
   text_more v vs kind hint w r front l =
-      let behind : Written mid after.written new to.written (pieces_text outer (pieces_from (next + 1) more) (front ++ shows t (val v vs))) =
-      subst (λ (all_ : List Shown). Written mid after.written new to.written (pieces_text outer (pieces_from (next + 1) more) all_)) (front_more t front v vs) (r (front ++ show_val t v ∷ []) (size_more front (show_val t v) next l)) in
-      subst (λ (o : Option Shown). Written old before.written new to.written (shown_at o kind (acting outer hint) ++ pieces_text outer (pieces_from (next + 1) more) (front ++ shows t (val v vs)))) (sym (shown_next t front v vs next l))
-      (written_two old mid new before.written after.written to.written (show_val t v kind (acting outer hint)) (pieces_text outer (pieces_from (next + 1) more) (front ++ shows t (val v vs))) w behind)
+      let behind : Placed mid after.written new to.written (pieces_text outer (pieces_from (next + 1) more) (front ++ shows t (val v vs))) =
+      subst (λ (all_ : List Shown). Placed mid after.written new to.written (pieces_text outer (pieces_from (next + 1) more) all_)) (front_more t front v vs) (r (front ++ show_val t v ∷ []) (size_more front (show_val t v) next l)) in
+      subst (λ (o : Option Shown). Placed old before.written new to.written (shown_at o kind (acting outer hint) ++ pieces_text outer (pieces_from (next + 1) more) (front ++ shows t (val v vs)))) (sym (shown_next t front v vs next l))
+      (placed_two old mid new before.written after.written to.written (show_val t v kind (acting outer hint)) (pieces_text outer (pieces_from (next + 1) more) (front ++ shows t (val v vs))) w behind)
 
   rest_value : (kind : Kind) (hint : Hint) → slice_get (slots_of all) next ≡ Some (slots.One kind) → uses_at next all ≡ 1 → PassedBy (value_at t left (slots.One kind) 1) (λ (v : Val). show_val t v kind (acting outer hint)) bytes before after old mid → Rest t left outer all more (next + 1) bytes after to mid new → Rest t left outer all (steps.Value kind hint ∷ more) next bytes before to old new
   unfolding pieces_text
@@ -198,8 +199,8 @@ module _ (t : Map) (left : ℕ) (outer : Hint) (all : List Piece) (more : List S
         reads = reads;
         written = λ front l.
             let found : slice_get (front ++ shows t r.args) next ≡ Some (show_val t (bits n)) = ap (λ (vs : Vals). slice_get (front ++ shows t vs) next) first.is ∙ shown_next t front (bits n) first.others next l in
-            subst (λ (s : Option Shown). Written old before.written new to.written (shown_at s (field_kind f) (acting outer hint) ++ pieces_text outer (pieces_from next more) (front ++ shows t r.args))) (sym found)
-            (written_two old mid new before.written after.written to.written (show_val t (bits n) (field_kind f) (acting outer hint)) (pieces_text outer (pieces_from next more) (front ++ shows t r.args)) p.written (r.written front l));
+            subst (λ (s : Option Shown). Placed old before.written new to.written (shown_at s (field_kind f) (acting outer hint) ++ pieces_text outer (pieces_from next more) (front ++ shows t r.args))) (sym found)
+            (placed_two old mid new before.written after.written to.written (show_val t (bits n) (field_kind f) (acting outer hint)) (pieces_text outer (pieces_from next more) (front ++ shows t r.args)) p.written (r.written front l));
       }
 
 -- behind one step more

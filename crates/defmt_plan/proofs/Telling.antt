@@ -23,15 +23,15 @@ use Rattle.defmt_encode.specs.Read.{all_zero}
 use Rattle.defmt_eager.specs.Line.{stamp_text, level_at, level_text, front_text, IsWide}
 use Rattle.defmt_eager.specs.Show.{eager_text, own_pieces, pieces_text, shows}
 use Rattle.defmt_plan.proofs.Carrying.{carried_two, carried_none}
-use Rattle.defmt_put.proofs.Chains.{written_none, written_end}
+use Rattle.defmt_hints.proofs.Chains.{written_end}
 use Rattle.defmt_plan.proofs.Fronting.{fronted, lead_within, line_written}
-use Rattle.defmt_plan.proofs.Leading.{PassedLed, arguments_flat, passed_led}
+use Rattle.defmt_plan.proofs.Leading.{PassedLed, passed_led}
 use Rattle.defmt_plan.specs.Carried.{Carried}
-use Rattle.defmt_plan.specs.Passed.{Passed, Passes}
 use Rattle.defmt_plan.specs.Plans.{AreStepsOf, IsPlanIn, AreStampSteps, lead_text}
-use Rattle.defmt_plan.specs.Steps.{PassAll}
-use Rattle.defmt_plan.specs.Told.{ArgumentsPassed, Fronts, IsHead, StampPassed, StampPasses, IsTold}
-use Rattle.defmt_put.specs.Written.{Written}
+use Rattle.defmt_plan.specs.Steps.{AreSteps}
+use Rattle.defmt_plan.specs.Told.{ArgumentsPassed, PassesArguments, Fronts, IsHead, StampPassed, StampPasses, IsTold, Lined}
+use Rattle.defmt_eager.specs.Answers.{Placed}
+use Rattle.defmt_eager.proofs.Parts.{placed_none}
 use Rattle.defmt_plan.specs.declared.leaves.Progress.{Progress}
 use Rattle.defmt_plan.specs.declared.message.Head.{Head}
 use Rattle.defmt_plan.specs.declared.plan.Plan.{Plan}
@@ -51,12 +51,12 @@ record OwnPassed (t : Map) (index : ℕ) (bytes : List ℕ) (from to : ℕ) (old
   pub sound : AreSound args
   pub lengths : LengthsFit t (own_slots t index) args
   pub carried : Carried bytes from to (bytes_vals t (own_slots t index) args)
-  pub written : Written old at new end (eager_text t index args)
+  pub written : Placed old at new end (eager_text t index args)
 
-own_passed : (t : Map) (index : ℕ) (steps : List Step) (bytes : List ℕ) (from to : ℕ) (old : List ℕ) (at : ℕ) (new : List ℕ) (end : ℕ) → AreStepsOf t index steps → Passed t steps bytes from to old at new end → OwnPassed t index bytes from to old at new end
+own_passed : (t : Map) (index : ℕ) (steps : List Step) (bytes : List ℕ) (from to : ℕ) (old : List ℕ) (at : ℕ) (new : List ℕ) (end : ℕ) → (own : AreStepsOf t index steps) → ArgumentsPassed t own.pieces own.pieces bytes from to old at new end → OwnPassed t index bytes from to old at new end
 own_passed t index steps bytes from to old at new end own passed =
     let ps : List Piece = own.pieces in
-    let p = passed_led t None ps ps bytes from to old at new end refl (arguments_flat t ps ps steps bytes from to old at new end own.steps_are passed) in
+    let p = passed_led t None ps ps bytes from to old at new end refl passed in
     let same : slots_of ps ≡ own_slots t index = sym (own_slots_are t index own.entry ps own.there own.body) in
     record {
       args = p.args;
@@ -64,7 +64,7 @@ own_passed t index steps bytes from to old at new end own passed =
       sound = p.sound;
       lengths = subst (λ (ss : List Slot). LengthsFit t ss p.args) same p.lengths;
       carried = subst (λ (ss : List Slot). Carried bytes from to (bytes_vals t ss p.args)) same p.carried;
-      written = subst (λ (x : List ℕ). Written old at new end x) (sym (ap (λ (qs : List Piece). pieces_text hints.Plain qs (shows t p.args)) (own_pieces_are t index own.entry ps own.there own.body) ∙ p.text_is)) p.written;
+      written = subst (λ (x : List ℕ). Placed old at new end x) (sym (ap (λ (qs : List Piece). pieces_text hints.Plain qs (shows t p.args)) (own_pieces_are t index own.entry ps own.there own.body) ∙ p.text_is)) p.written;
     }
 
 -- arguments of an entry, with what its text has behind the literal
@@ -76,7 +76,7 @@ record OwnLed (t : Map) (index : ℕ) (lead : Option (List ℕ)) (bytes : List �
   pub carried : Carried bytes from to (bytes_vals t (own_slots t index) args)
   pub rest : List ℕ
   pub text_is : eager_text t index args ≡ lead_text lead ++ rest
-  pub written : Written old at new end rest
+  pub written : Placed old at new end rest
 
 own_led : (t : Map) (index : ℕ) (e : Entry) (lead : Option (List ℕ)) (qs : List Piece) (bytes : List ℕ) (from to : ℕ) (old : List ℕ) (at : ℕ) (new : List ℕ) (end : ℕ) → look t index ≡ Some e → body_of e ≡ One qs → PassedLed t lead qs bytes from to old at new end → OwnLed t index lead bytes from to old at new end
 own_led t index e lead qs bytes from to old at new end there body p =
@@ -102,20 +102,20 @@ stamp_none t bytes from old at none le most = record {
   sound = tt;
   lengths = tt;
   carried = subst (λ (o : Option ℕ). Carried bytes from from (bytes_vals t (stamp_slots t o) no_vals)) (sym none) (carried_none bytes from le);
-  written = subst (λ (o : Option ℕ). Written old at old at (stamp_text t o no_vals)) (sym none) (written_none old at most);
+  written = subst (λ (o : Option ℕ). Placed old at old at (stamp_text t o no_vals)) (sym none) (placed_none old at most);
 }
 
-pub stamp_steps : (r : Option Progress) (t : Map) (steps : List Step) (bytes : List ℕ) (from : ℕ) (old : List ℕ) (at : ℕ) (new : List ℕ) → AreStampSteps t steps → ((t : Map) (all : List Piece) → PassAll all 0 steps → Passes r t steps bytes from old at new) → StampPasses r t bytes from old at new
-stamp_steps None t steps bytes from old at new s k = k t s.own.pieces s.own.steps_are.pass
+pub stamp_steps : (r : Option Progress) (t : Map) (steps : List Step) (bytes : List ℕ) (from : ℕ) (old : List ℕ) (at : ℕ) (new : List ℕ) → AreStampSteps t steps → ((t : Map) (all pieces : List Piece) → AreSteps all pieces steps → PassesArguments r t all pieces bytes from old at new) → StampPasses r t bytes from old at new
+stamp_steps None t steps bytes from old at new s k = k t s.own.pieces s.own.pieces s.own.steps_are
 stamp_steps (Some after) t steps bytes from old at new s k =
-    let p = own_passed t s.index steps bytes from after.read old at new after.written s.own (k t s.own.pieces s.own.steps_are.pass) in
+    let p = own_passed t s.index steps bytes from after.read old at new after.written s.own (k t s.own.pieces s.own.pieces s.own.steps_are) in
     record {
       stamp = p.args;
       fits = subst (λ (o : Option ℕ). FitsStamp t o p.args) (sym s.is) p.fits;
       sound = p.sound;
       lengths = subst (λ (o : Option ℕ). LengthsFit t (stamp_slots t o) p.args) (sym s.is) p.lengths;
       carried = subst (λ (o : Option ℕ). Carried bytes from after.read (bytes_vals t (stamp_slots t o) p.args)) (sym s.is) p.carried;
-      written = subst (λ (o : Option ℕ). Written old at new after.written (stamp_text t o p.args)) (sym s.is) p.written;
+      written = subst (λ (o : Option ℕ). Placed old at new after.written (stamp_text t o p.args)) (sym s.is) p.written;
     }
 
 -- ---- a message
@@ -143,11 +143,11 @@ told_at t plan head bytes padding middle to old mid begun new at m k end le room
     let rest : drop to bytes ≡ padding = sym (pad ∙ take_all (length bytes - to) (drop to bytes) (omega (arith, length-drop to bytes))) in
     let stamp : List ℕ = stamp_text es (stamp_of es) s.stamp in
     let text : List ℕ = eager_text es plan.index o.args in
-    let started = fronted plan.front stamp old mid begun at m k le s.written f in
-    let stamp_ends : m ≡ at + length stamp = written_end old mid at m stamp le s.written in
+    let started = fronted plan.front stamp old mid begun at m k le s.written.written f in
+    let stamp_ends : m ≡ at + length stamp = written_end old mid at m stamp le s.written.written in
     let lead : List ℕ = lead_text is.own.lead in
-    let rest_ends : end ≡ k + length o.rest = written_end begun new k end o.rest started.within o.written in
-    let lead_ends : length lead ≤ k = lead_within es (level_text is.entry.tag) is.own.lead plan.front mid begun at m k (omega (arith, s.written.within, s.written.long)) is.own.front_is f in
+    let rest_ends : end ≡ k + length o.rest = written_end begun new k end o.rest started.within o.written.written in
+    let lead_ends : length lead ≤ k = lead_within es (level_text is.entry.tag) is.own.lead plan.front mid begun at m k (omega (arith, s.written.written.within, s.written.written.long)) is.own.front_is f in
     let size : length text ≡ length lead + length o.rest = ap length o.text_is ∙ length-append lead o.rest in
     let line = line_written es (level_text is.entry.tag) is.own.lead plan.front s.stamp o.rest old mid begun new at m k end le is.own.front_is s.written f o.written in
     record {
@@ -166,9 +166,9 @@ told_at t plan head bytes padding middle to old mid begun new at m k end le room
         zeros = p.1;
         message = all.parts ∙ ap (λ (x : List ℕ). (x ++ body) ++ drop to bytes) (append_assoc index place first) ∙ ap (λ (x : List ℕ). ((index ++ (place ++ first)) ++ body) ++ x) rest;
       };
-      narrow = narrow_by es s.stamp plan.index o.args (omega (arith, stamp_ends, s.written.within)) (omega (arith, size, lead_ends, rest_ends, o.written.within, started.kept.long));
-      written = subst (λ (l : Option (List ℕ)). Written old at new end (front_text es (stamp_of es) s.stamp l ++ text)) (sym (level_is es plan.index is.entry is.there))
-          (subst (λ (x : List ℕ). Written old at new end (front_text es (stamp_of es) s.stamp (level_text is.entry.tag) ++ x)) (sym o.text_is) line);
+      narrow = narrow_by es s.stamp plan.index o.args (omega (arith, stamp_ends, s.written.written.within)) (omega (arith, size, lead_ends, rest_ends, o.written.written.within, started.kept.long));
+      written = subst (λ (l : Option (List ℕ)). Lined old at new end (front_text es (stamp_of es) s.stamp l ++ text)) (sym (level_is es plan.index is.entry is.there))
+          (subst (λ (x : List ℕ). Lined old at new end (front_text es (stamp_of es) s.stamp (level_text is.entry.tag) ++ x)) (sym o.text_is) line);
     }
 
 pub told_all : (t : Catalog) (plan : Plan) (head : Head) (bytes padding : List ℕ) (middle to : ℕ) (old mid begun new : List ℕ) (at m k end : ℕ) → at ≤ length old → length old ≤ 65536

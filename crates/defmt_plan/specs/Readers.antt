@@ -1,4 +1,4 @@
--- What one pass over values leaves that may have others inside, by the readers that message_at of defmt_encode is made of.
+-- What one pass over steps leaves, by the readers that message_at of defmt_encode is made of.
 use Rattle.std.specs.Prelude.{◌≡◌, ◌≤◌, ◌+◌, ℕ, List, length, drop, Option, Some, None, Ok}
 use Rattle.defmt_grammar.specs.declared.hint.Hint.{Hint}
 use Rattle.defmt_grammar.specs.declared.piece.Piece.{Piece}
@@ -6,9 +6,10 @@ use Rattle.defmt_grammar.specs.declared.slot.Slot.TheVariants as slots
 use Rattle.defmt_intern.specs.Table.{Map}
 use Rattle.defmt_values.specs.Entries.{places_of}
 use Rattle.defmt_encode.specs.Read.{Read, each_at, value_at}
+use Rattle.defmt_eager.specs.Answers.{Placed}
 use Rattle.defmt_eager.specs.Show.{show_val, shows, acting, pieces_text}
 use Rattle.defmt_plan.specs.Passed.{PassedField}
-use Rattle.defmt_put.specs.Written.{Kept, Written}
+use Rattle.defmt_hints.specs.Written.{Kept}
 use Rattle.defmt_plan.specs.declared.leaves.Progress.{Progress}
 use Rattle.defmt_plan.specs.declared.reach.Reach.{Reach}
 use Rattle.defmt_plan.specs.declared.steps.Step.{Step}
@@ -26,7 +27,7 @@ pub record PassedBy {A : Type 0} (reader : Reader A) (text : A → List ℕ) (by
       ≡ Ok (value, after.opened, drop after.read bytes)
   pub few : after.opened ≤ 8192
   pub within : after.read ≤ length bytes
-  pub written : Written old before.written new after.written (text value)
+  pub written : Placed old before.written new after.written (text value)
 
 abbrev pub PassesBy : {A : Type 0} → Option Reach → Reader A → (A → List ℕ) → List ℕ → Reach
     → List ℕ → List ℕ → Type 0
@@ -43,7 +44,7 @@ pub record Stays (before after : Reach) (count : ℕ) : Type 0 where
 abbrev pub PassedStepBy : Map → ℕ → Hint → Step → List ℕ → Reach → Reach → List ℕ → List ℕ
     → Type 0
 PassedStepBy t left outer (steps.Text text) bytes before after old new =
-    Stays before after 0 × Written old before.written new after.written text
+    Stays before after 0 × Placed old before.written new after.written text
 PassedStepBy t left outer (steps.Value kind hint) bytes before after old new =
     PassedBy (value_at t left (slots.One kind) 1) (λ v. show_val t v kind (acting outer hint))
     bytes before after old new
@@ -70,3 +71,7 @@ PassesPieces r t left outer all pieces bytes before old new =
 -- how far a pass has come, without how many it has opened
 abbrev pub progress_of : Reach → Progress
 progress_of reach = record { read = reach.read; written = reach.written }
+
+-- how far a pass has come that has opened nothing
+abbrev pub reached : Progress → Reach
+reached progress = record { read = progress.read; written = progress.written; opened = 0 }

@@ -69,14 +69,6 @@ pub record AreSteps (all pieces : List Piece) (steps : List Step) : Type 0 where
   pub are : pieces_of steps ≡ pieces
   pub pass : PassAll all 0 steps
 
--- the slots of the values that steps pass
-abbrev pub slots_along : List Step → List Slot
-slots_along [] = []
-slots_along (steps.Text text ∷ more) = slots_along more
-slots_along (steps.Value kind hint ∷ more) = slots.One kind ∷ slots_along more
-slots_along (steps.Peek field hint ∷ more) = slots_along more
-slots_along (steps.Bits field hint ∷ more) = field_slot field ∷ slots_along more
-
 -- other values may stand inside one of this kind
 abbrev pub holds_values : Kind → Bool
 holds_values kinds.Format = true

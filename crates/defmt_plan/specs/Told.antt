@@ -1,5 +1,6 @@
 -- What one pass over a whole message leaves.
-use Rattle.std.specs.Prelude.{◌≡◌, ◌≤◌, ℕ, List, [], Option, Some, None}
+use Rattle.std.specs.Prelude.{◌≡◌, ◌≤◌, ℕ, List, [], ◌++◌, length, take, Option, Some, None}
+use Rattle.std.specs.Str.{IsUtf8}
 use Rattle.defmt_grammar.specs.Slots.{slots_of}
 use Rattle.defmt_grammar.specs.declared.hint.Hint.TheVariants as hints
 use Rattle.defmt_grammar.specs.declared.piece.Piece.{Piece}
@@ -15,13 +16,14 @@ use Rattle.defmt_encode.specs.Carry.{bytes_vals, message_head, stamp_slots}
 use Rattle.defmt_encode.specs.Heard.{IsHeard}
 use Rattle.defmt_encode.specs.Lengths.{LengthsFit}
 use Rattle.defmt_encode.specs.Placed.{HasPlace}
+use Rattle.defmt_eager.specs.Answers.{Placed, Puts}
 use Rattle.defmt_eager.specs.Line.{eager_line, stamp_text, IsWide}
 use Rattle.defmt_eager.specs.Show.{pieces_text, shows}
 use Rattle.defmt_plan.specs.Carried.{Carried}
-use Rattle.defmt_put.specs.Written.{Kept, Written, Writes}
+use Rattle.defmt_hints.specs.Written.{Kept}
 use Rattle.defmt_plan.specs.declared.leaves.Progress.{Progress}
 use Rattle.defmt_plan.specs.declared.message.Head.{Head}
-use Rattle.defmt_plan.specs.declared.message.Told.{Told}
+use Rattle.defmt_plan.specs.declared.message.Origin.{Origin}
 
 -- the index and the place that a message begins with: its head without a stamp
 pub record IsHead (profile : Profile) (bytes : List ℕ) (head : Head) : Type 0 where
@@ -36,7 +38,7 @@ pub record StampPassed (t : Map) (bytes : List ℕ) (from to : ℕ) (old : List 
   pub sound : AreSound stamp
   pub lengths : LengthsFit t (stamp_slots t (stamp_of t)) stamp
   pub carried : Carried bytes from to (bytes_vals t (stamp_slots t (stamp_of t)) stamp)
-  pub written : Written old at new end (stamp_text t (stamp_of t) stamp)
+  pub written : Placed old at new end (stamp_text t (stamp_of t) stamp)
 
 abbrev pub StampPasses : Option Progress → Map → List ℕ → ℕ → List ℕ → ℕ → List ℕ → Type 0
 StampPasses None t bytes from old at new = Kept old at new
@@ -52,13 +54,21 @@ pub record ArgumentsPassed (t : Map) (all pieces : List Piece) (bytes : List ℕ
   pub sound : AreSound args
   pub lengths : LengthsFit t (slots_of all) args
   pub carried : Carried bytes from to (bytes_vals t (slots_of all) args)
-  pub written : Written old at new end (pieces_text hints.Plain pieces (shows t args))
+  pub written : Placed old at new end (pieces_text hints.Plain pieces (shows t args))
 
 abbrev pub PassesArguments : Option Progress → Map → List Piece → List Piece → List ℕ → ℕ
     → List ℕ → ℕ → List ℕ → Type 0
 PassesArguments None t all pieces bytes from old at new = Kept old at new
 PassesArguments (Some after) t all pieces bytes from old at new =
     ArgumentsPassed t all pieces bytes from after.read old at new after.written
+
+-- A line, which is UTF-8, stands behind what stood in front of a place, and ends at another. What stands behind it isn't as before where a
+-- stamp was read that the line doesn't have.
+pub record Lined (old : List ℕ) (at : ℕ) (new : List ℕ) (end : ℕ) (line : List ℕ) : Type 0 where
+  pub long : length new ≡ length old
+  pub within : end ≤ length old
+  pub written : take end new ≡ take at old ++ line
+  pub utf8 : IsUtf8 line
 
 -- a message that is heard, with its line behind a place
 pub record IsTold (t : Catalog) (bytes : List ℕ) (place : Option ℕ) (index : ℕ) (old : List ℕ)
@@ -67,14 +77,14 @@ pub record IsTold (t : Catalog) (bytes : List ℕ) (place : Option ℕ) (index :
   pub args : Vals
   pub heard : IsHeard t bytes place stamp index args
   pub narrow : IsWide t.entries stamp index args → ⊥
-  pub written : Written old at new end (eager_line t.entries stamp index args)
+  pub written : Lined old at new end (eager_line t.entries stamp index args)
 
-abbrev pub Tells : Option Told → Catalog → List ℕ → List ℕ → ℕ → List ℕ → Type 0
+abbrev pub Tells : Option (Origin × ℕ) → Catalog → List ℕ → List ℕ → ℕ → List ℕ → Type 0
 Tells None t bytes old at new = Kept old at new
-Tells (Some told) t bytes old at new = IsTold t bytes told.place told.index old at new told.end
+Tells (Some told) t bytes old at new = IsTold t bytes told.0.place told.0.index old at new told.1
 
 -- What stands in front of a text is written behind the stamp's, where there is something; else the text begins at the place
 -- where the stamp's did.
 abbrev pub Fronts : Option (List ℕ) → Option ℕ → List ℕ → ℕ → ℕ → List ℕ → Type 0
-Fronts (Some front) r old stamped at new = Writes r old stamped new front
+Fronts (Some front) r old stamped at new = Puts r old stamped new front
 Fronts None r old stamped at new = (r ≡ Some at) × (new ≡ old)

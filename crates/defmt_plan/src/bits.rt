@@ -1,12 +1,12 @@
 //! Bits of numbers.
 
-ghost use Rattle.std.specs.Prelude.{◌≡◌, ◌≤◌, ◌*◌, ◌/◌, ◌%◌, ◌-◌, ◌^◌, length, IfSome};
+ghost use Rattle.std.specs.Prelude.{◌≡◌, ◌≤◌, ◌+◌, ◌*◌, ◌/◌, ◌%◌, ◌-◌, ◌^◌, length, IfSome, if◌then◌else◌, option_map};
 ghost use Rattle.defmt_plan.specs.Passed.{PassesField};
 
 use crate::leaves::Progress;
 use crate::take::take_uint;
 use defmt_grammar::Hint;
-use defmt_put::put_uint;
+use defmt_hints::put_uint;
 
 // The bits `lo` to `hi - 1` of a number of which `width` bytes are sent, the lowest of them its byte `first`.
 #[derive(Clone, Copy)]
@@ -57,7 +57,7 @@ fn field_of(sent: u64, field: Field) -> Option<u64>
 }
 
 // Writes the field of the number whose bytes stand behind a place. It is not passed by.
-pub(crate) fn put_field(
+fn put_field(
     field: Field,
     hint: Hint,
     bytes: &[u8],
@@ -71,4 +71,29 @@ pub(crate) fn put_field(
     let sent = take_uint(bytes, before.read, usize::from(field.width))?;
     let bits = field_of(sent, field)?;
     put_uint(out, before.written, bits, hint)
+}
+
+// The same; the number is passed by where it is used for the last time. It stands apart from the steps that most strings have.
+#[inline(never)]
+pub(crate) fn pass_field(
+    field: Field,
+    hint: Hint,
+    last: bool,
+    bytes: &[u8],
+    before: Progress,
+    out: &mut [u8],
+) -> Option<Progress>
+    requires read { before.read ≤ length bytes.now }
+    requires written { before.written ≤ length out.old }
+    ensures field { PassesField (option_map (λ after. after.written) result) field hint bytes.now
+        before out.old out.new }
+    ensures read { IfSome result (λ after. after.read
+        ≡ (if last then before.read + field.width else before.read)) }
+{
+    let written = put_field(field, hint, bytes, before, out)?;
+    let passed = if last { usize::from(field.width) } else { 0 };
+    Some(Progress {
+        read: before.read + passed,
+        written,
+    })
 }

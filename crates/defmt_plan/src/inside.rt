@@ -20,7 +20,7 @@ use crate::steps::Step;
 use crate::take::take_uint;
 use defmt_eager::{acting, comma};
 use defmt_grammar::{Hint, Kind};
-use defmt_put::{put, put_text};
+use defmt_hints::{put, put_text};
 
 // The most Format values of a message.
 const MOST_OPENED: usize = 8192;

@@ -8,7 +8,7 @@ ghost use Rattle.defmt_plan.specs.Passed.{PassesOne};
 
 use crate::take::{take_bool, take_char, take_chunk, take_sized, take_str, take_uint, width_of};
 use defmt_grammar::{Hint, IntSize, Kind};
-use defmt_put::{half_of, put_bool, put_bytes, put_char, put_int, put_str, put_uint};
+use defmt_hints::{put_bool, put_bytes, put_char, put_complement, put_str, put_uint};
 
 // How far a pass has come: the place in the message, and the place in the buffer.
 #[derive(Clone, Copy)]
@@ -81,9 +81,8 @@ fn pass_int(
     ensures { (t : Map) → PassesOne result t (kinds.Int size) hint bytes.now before
         out.old out.new }
 {
-    let half = half_of(size)?;
     let number = take_sized(bytes, before.read, size)?;
-    let written = put_int(out, before.written, number, half, hint)?;
+    let written = put_complement(out, before.written, number, size, hint)?;
     Some(Progress {
         read: before.read + width_of(size),
         written,

@@ -23,5 +23,5 @@ mod run;
 mod steps;
 mod take;
 
-pub use message::Told;
+pub use message::Origin;
 pub use planned::PlannedTable;

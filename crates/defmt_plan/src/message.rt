@@ -15,12 +15,13 @@ pub(crate) struct Head {
     pub read: usize,
 }
 
-/// A line that was written: its statement's index, the place of its message, and where it ends in the buffer.
+/// Where a line comes from: what it has beside its text.
 #[derive(Clone, Copy)]
-pub struct Told {
+pub struct Origin {
+    /// The index of its entry in the table.
     pub index: u16,
+    /// The place of its frame: there is one exactly in profile Two.
     pub place: Option<u16>,
-    pub end: usize,
 }
 
 // The front of a message in a profile.

@@ -11,14 +11,15 @@ ghost use Rattle.defmt_plan.specs.Told.{Fronts, PassesArguments, StampPasses, Te
 use crate::forms::{Forms, forms_of};
 use crate::inside::pass_steps;
 use crate::leaves::Progress;
-use crate::message::{Told, is_padding, read_head};
+use crate::message::{Origin, is_padding, read_head};
 use crate::numbers::numbers_of;
 use crate::plan::{Plan, StampPlan, plans_of, stamp_plan};
 use crate::reach::Reach;
 use crate::run::run;
-use defmt_grammar::{Hint, Memory, Text};
+use defmt_grammar::{Hint, Memory as OutOfMemory, Text};
+use defmt_hints::put;
 use defmt_intern::Table;
-use defmt_put::put;
+use dl_io::Memory;
 use std::alloc::Global;
 use std::marker::Model;
 
@@ -60,7 +61,7 @@ impl Model for PlannedTable {
 }
 
 // The indexes of plans.
-fn indexes_of(alloc: Global, plans: &[Plan]) -> Result<Vec<u16>, Memory> {
+fn indexes_of(alloc: Global, plans: &[Plan]) -> Result<Vec<u16>, OutOfMemory> {
     let mut indexes = Vec::with_capacity(alloc, plans.len())?;
     for plan in plans {
         indexes.push(plan.index)?;
@@ -109,23 +110,33 @@ fn pass_nested(
     })
 }
 
+// A table with its plans.
+fn with_plans(alloc: Global, table: Table) -> Result<PlannedTable, OutOfMemory>
+    ensures { IfOk result (λ planned. planned ≡ table) }
+{
+    let stamp = stamp_plan(alloc, &table)?;
+    let plans = plans_of(alloc, &table)?;
+    let indexes = indexes_of(alloc, &plans)?;
+    let numbers = numbers_of(alloc, &indexes)?;
+    let forms = forms_of(alloc, &table)?;
+    Ok(PlannedTable {
+        table,
+        stamp,
+        plans,
+        numbers,
+        forms,
+    })
+}
+
 impl PlannedTable {
     /// The table with its plans, which are made here.
     pub fn new(alloc: Global, table: Table) -> Result<PlannedTable, Memory>
         ensures { IfOk result (λ planned. planned ≡ table) }
     {
-        let stamp = stamp_plan(alloc, &table)?;
-        let plans = plans_of(alloc, &table)?;
-        let indexes = indexes_of(alloc, &plans)?;
-        let numbers = numbers_of(alloc, &indexes)?;
-        let forms = forms_of(alloc, &table)?;
-        Ok(PlannedTable {
-            table,
-            stamp,
-            plans,
-            numbers,
-            forms,
-        })
+        match with_plans(alloc, table) {
+            Ok(planned) => Ok(planned),
+            Err(_) => Err(Memory),
+        }
     }
 
     /// The table. Takes no memory.
@@ -191,10 +202,10 @@ impl PlannedTable {
     }
 
     /// The line of a message whose plan there is, written behind a place of the buffer. Where it is answered, the message is
-    /// heard, and neither its stamp's text nor its own is too wide. What stands in front of the place is as before in any case.
-    /// Takes no memory.
+    /// heard, neither its stamp's text nor its own is too wide, and the line is UTF-8 and ends at the place that comes with its
+    /// origin. What stands in front of the place is as before in any case. Takes no memory.
     #[inline(always)]
-    pub fn message(&self, bytes: &[u8], out: &mut [u8], at: usize) -> Option<Told>
+    pub fn message(&self, bytes: &[u8], out: &mut [u8], at: usize) -> Option<(Origin, usize)>
         requires { at ≤ length out.old }
         ensures { Tells result self.now bytes.now out.old at out.new }
     {
@@ -209,10 +220,10 @@ impl PlannedTable {
         if !is_padding(&bytes[said.read..]) {
             return None;
         }
-        Some(Told {
+        let origin = Origin {
             index: head.index,
             place: head.place,
-            end: said.written,
-        })
+        };
+        Some((origin, said.written))
     }
 }

@@ -8,9 +8,8 @@ ghost use Rattle.defmt_intern.specs.Table.{Map};
 ghost use Rattle.defmt_plan.specs.Passed.{PassesField};
 ghost use Rattle.defmt_plan.specs.Readers.{PassesBy, progress_of};
 
-use crate::bits::Field;
+use crate::bits::{Field, pass_field};
 use crate::leaves::{Progress, pass_value};
-use crate::run::pass_field;
 use defmt_grammar::{Hint, Kind};
 
 // How far a pass has come, and how many Format values it has opened.

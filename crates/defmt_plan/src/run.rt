@@ -1,48 +1,25 @@
 //! Steps that pass a message, where no values stand inside others.
 
-ghost use Rattle.std.specs.Prelude.{◌≡◌, ◌≤◌, ◌+◌, ◌∷◌, [], List, length, IfSome, if◌then◌else◌, option_map};
+ghost use Rattle.std.specs.Prelude.{◌≡◌, ◌≤◌, ◌∷◌, [], List, length, IfSome, option_map};
+ghost use Rattle.defmt_grammar.specs.declared.hint.Hint.TheVariants as hints;
 ghost use Rattle.defmt_intern.specs.Table.{Map};
 ghost use Rattle.defmt_grammar.specs.declared.piece.Piece.{Piece as AnyPiece};
-ghost use Rattle.defmt_plan.specs.Passed.{PassesField, PassesStep, Passes};
-ghost use Rattle.defmt_plan.specs.Steps.{PassAll, number_step};
+ghost use Rattle.defmt_plan.specs.Readers.{PassesStepBy, reached};
+ghost use Rattle.defmt_plan.specs.Steps.{AreSteps, number_step};
+ghost use Rattle.defmt_plan.specs.Told.{PassesArguments};
 
-use crate::bits::{Field, put_field};
+use crate::bits::pass_field;
 use crate::leaves::{Progress, pass_uint, pass_value};
 use crate::steps::Step;
 use defmt_grammar::{Hint, IntSize, Kind};
-use defmt_put::put_text;
+use defmt_hints::put_text;
 
-// A step for bits of a number; the number is passed by where it is used for the last time. It stands apart from the steps that
-// most strings have.
-#[inline(never)]
-pub(crate) fn pass_field(
-    field: Field,
-    hint: Hint,
-    last: bool,
-    bytes: &[u8],
-    before: Progress,
-    out: &mut [u8],
-) -> Option<Progress>
-    requires read { before.read ≤ length bytes.now }
-    requires written { before.written ≤ length out.old }
-    ensures field { PassesField (option_map (λ after. after.written) result) field hint bytes.now
-        before out.old out.new }
-    ensures read { IfSome result (λ after. after.read
-        ≡ (if last then before.read + field.width else before.read)) }
-{
-    let written = put_field(field, hint, bytes, before, out)?;
-    let passed = if last { usize::from(field.width) } else { 0 };
-    Some(Progress {
-        read: before.read + passed,
-        written,
-    })
-}
-
-// One step.
+// One step, under no hint, where no value stands inside another. It is apart from the steps inside values for its speed.
 fn stride(step: &Step, bytes: &[u8], before: Progress, out: &mut [u8]) -> Option<Progress>
     requires read { before.read ≤ length bytes.now }
     requires written { before.written ≤ length out.old }
-    ensures { (t : Map) → PassesStep result t step.now bytes.now before out.old out.new }
+    ensures { (t : Map) → PassesStepBy (option_map reached result) t 16 hints.Plain step.now
+        bytes.now (reached before) out.old out.new }
 {
     match step {
         Step::Text(text) => {
@@ -83,8 +60,8 @@ fn lone_number(steps: &[Step]) -> Option<(IntSize, Hint)>
 fn run_all(steps: &[Step], bytes: &[u8], from: usize, out: &mut [u8], at: usize) -> Option<Progress>
     requires read { from ≤ length bytes.now }
     requires written { at ≤ length out.old }
-    ensures { (t : Map) (all : List AnyPiece) → PassAll all 0 steps.now
-        → Passes result t steps.now bytes.now from out.old at out.new }
+    ensures { (t : Map) (all pieces : List AnyPiece) → AreSteps all pieces steps.now
+        → PassesArguments result t all pieces bytes.now from out.old at out.new }
 {
     let mut progress = Progress {
         read: from,
@@ -96,8 +73,7 @@ fn run_all(steps: &[Step], bytes: &[u8], from: usize, out: &mut [u8], at: usize)
     Some(progress)
 }
 
-// All steps. The text of the pieces that they are stands behind the place, with arguments that the bytes carry for
-// their slots. Where there is none, or a number alone, nothing is called for them.
+// All steps. Where there is none, or a number alone, nothing is called for them.
 #[inline(always)]
 pub(crate) fn run(
     steps: &[Step],
@@ -108,8 +84,8 @@ pub(crate) fn run(
 ) -> Option<Progress>
     requires read { from ≤ length bytes.now }
     requires written { at ≤ length out.old }
-    ensures { (t : Map) (all : List AnyPiece) → PassAll all 0 steps.now
-        → Passes result t steps.now bytes.now from out.old at out.new }
+    ensures { (t : Map) (all pieces : List AnyPiece) → AreSteps all pieces steps.now
+        → PassesArguments result t all pieces bytes.now from out.old at out.new }
 {
     let before = Progress {
         read: from,

@@ -4,11 +4,12 @@ use Rattle.defmt_grammar.specs.declared.kind.Kind.TheVariants as kinds
 use Rattle.defmt_plan.proofs.Elements.{counting_none, counting_more, counting_all, counting_fails}
 use Rattle.defmt_plan.proofs.Forming.{variant_there}
 use Rattle.defmt_plan.proofs.Insides.{counted_passes, form_one, form_variant, format_passes, list_by, some_none, some_passes, stands}
-use Rattle.defmt_plan.proofs.Onward.{going_none, going_more, going_all, going_fails}
+use Rattle.defmt_plan.proofs.Onward.{going_none, going_more, going_all, going_fails, next_step}
 use Rattle.defmt_plan.proofs.Reached.{bits_by, peek_by, text_by, value_by}
 use Rattle.defmt_plan.proofs.Remaining.{index_carried, number_carried}
-use Rattle.defmt_plan.proofs.Running.{next_step}
-use Rattle.defmt_put.proofs.Chains.{kept_behind, written_two}
+use Rattle.defmt_eager.proofs.Parts.{placed}
+use Rattle.defmt_eager.proofs.Utf8.{utf8_close, utf8_comma, utf8_open}
+use Rattle.defmt_hints.proofs.Chains.{kept_behind, written_two}
 use Rattle.defmt_plan.proofs.inside.+inside.Goals as goal
 
 -- ---- all steps
@@ -38,10 +39,6 @@ pass_steps-pass_step-requires t c =
 
 -- ---- one step
 
-pub pass_step-returns-in_ok-written-in-Text : goal.pass_step-returns-in_ok-written-in-Text
-pass_step-returns-in_ok-written-in-Text t c = λ u are.
-    rw c.in-Text.is (text_by u c.args.left c.args.outer c.in-Text.text c.args.bytes.now c.args.before c.args.out.now c.put_text.new.out c.in_ok-written-in-Text.written (rw (c.as_bytes.ensures.value, c.as_str.ensures.text) at c.in_ok-written-in-Text.ensures.written))
-
 pub pass_step-returns-in-Value : goal.pass_step-returns-in-Value
 pass_step-returns-in-Value t c = λ u are.
     rw c.in-Value.is (value_by c.pass_any.result u c.args.left c.args.outer c.in-Value.hint c.acting.result c.in-Value.kind c.args.bytes.now c.args.before c.args.out.now c.pass_any.new.out c.acting.ensures (c.pass_any.ensures u are))
@@ -53,6 +50,10 @@ pass_step-returns-in-Peek t c = λ u are.
 pub pass_step-returns-in-Bits : goal.pass_step-returns-in-Bits
 pass_step-returns-in-Bits t c = λ u are.
     rw c.in-Bits.is (bits_by c.pass_bits-in-Bits.result u c.args.left c.args.outer c.in-Bits.hint c.acting-in-Bits.result c.in-Bits.field c.args.bytes.now c.args.before c.args.out.now c.pass_bits-in-Bits.new.out c.acting-in-Bits.ensures c.pass_bits-in-Bits.ensures.field c.pass_bits-in-Bits.ensures.read c.pass_bits-in-Bits.ensures.opened)
+
+pub pass_step-returns-in_ok-written-in-Text : goal.pass_step-returns-in_ok-written-in-Text
+pass_step-returns-in_ok-written-in-Text t c = λ u are.
+    rw c.in-Text.is (text_by u c.args.left c.args.outer c.in-Text.text c.args.bytes.now c.args.before c.args.out.now c.put_text.new.out c.in_ok-written-in-Text.written (placed c.as_str.ensures.utf8 (rw (c.as_bytes.ensures.value, c.as_str.ensures.text) at c.in_ok-written-in-Text.ensures)))
 
 -- ---- a value of a kind
 
@@ -86,22 +87,22 @@ pass_any-pass_list-requires t c = (
 pub pass_list-returns : goal.pass_list-returns
 pass_list-returns t c = λ u kind are.
     list_by u c.args.left kind c.args.hint c.args.bytes.now c.args.before (record { read = c.args.before.read; written = c.in_ok-open.open; opened = c.args.before.opened }) c.in_ok-all.all (record { read = c.in_ok-all.all.read; written = c.in_ok-close.close; opened = c.in_ok-all.all.opened }) c.args.out.now c.put.new.out c.pass_some.new.out c.put-2.new.out c.args.count refl refl
-    c.in_ok-open.ensures.written (c.in_ok-all.ensures u are) c.in_ok-close.ensures.written refl refl
+    (placed utf8_open c.in_ok-open.ensures) (c.in_ok-all.ensures u are) (placed utf8_close c.in_ok-close.ensures) refl refl
 
 pub pass_list-returns-in_err-all : goal.pass_list-returns-in_err-all
-pass_list-returns-in_err-all t c = λ u kind are. rw c.from_residual-in_err-all.ensures (kept_behind c.args.out.now c.put.new.out c.pass_some.new.out c.args.before.written c.in_ok-open.open (codes "[") c.requires.written c.in_ok-open.ensures.written (c.in_err-all.ensures u are))
+pass_list-returns-in_err-all t c = λ u kind are. rw c.from_residual-in_err-all.ensures (kept_behind c.args.out.now c.put.new.out c.pass_some.new.out c.args.before.written c.in_ok-open.open (codes "[") c.requires.written c.in_ok-open.ensures (c.in_err-all.ensures u are))
 
 pub pass_list-returns-in_err-close : goal.pass_list-returns-in_err-close
 pass_list-returns-in_err-close t c = λ u kind are.
     rw c.from_residual-in_err-close.ensures
     (kept_behind c.args.out.now c.pass_some.new.out c.put-2.new.out c.args.before.written c.in_ok-all.all.written _ c.requires.written
-    (written_two c.args.out.now c.put.new.out c.pass_some.new.out c.args.before.written c.in_ok-open.open c.in_ok-all.all.written (codes "[") _ c.in_ok-open.ensures.written (c.in_ok-all.ensures u are).written) c.in_err-close.ensures.written)
+    (written_two c.args.out.now c.put.new.out c.pass_some.new.out c.args.before.written c.in_ok-open.open c.in_ok-all.all.written (codes "[") _ c.in_ok-open.ensures (c.in_ok-all.ensures u are).written.written) c.in_err-close.ensures.kept)
 
 pub pass_list-pass_some-requires : goal.pass_list-pass_some-requires
-pass_list-pass_some-requires t c = (omega arith, (c.requires.read, (omega (arith, c.in_ok-open.ensures.written.within, c.in_ok-open.ensures.written.long), (c.requires.few, c.requires.planned))))
+pass_list-pass_some-requires t c = (omega arith, (c.requires.read, (omega (arith, c.in_ok-open.ensures.within, c.in_ok-open.ensures.long), (c.requires.few, c.requires.planned))))
 
 pub pass_list-put-requires-2 : goal.pass_list-put-requires-2
-pass_list-put-requires-2 t c = let p = c.in_ok-all.ensures c.requires.planned.table c.requires.planned.are in omega (arith, p.written.within, p.written.long)
+pass_list-put-requires-2 t c = let p = c.in_ok-all.ensures c.requires.planned.table c.requires.planned.are in omega (arith, p.written.written.within, p.written.written.long)
 
 -- ---- a value behind its index
 
@@ -192,20 +193,20 @@ pass_elements-loop-number-init t c = λ u what are s. counting_none u c.args.lef
 pub pass_elements-loop-number-preserved : goal.pass_elements-loop-number-preserved
 pass_elements-loop-number-preserved t c = λ u what are s.
     counting_more u c.args.left what c.args.form.now.index c.args.hint c.args.count c.args.bytes.now c.args.before c.args.out.now c.loop-number.number c.loop-number.reach (record { read = c.loop-number.reach.read; written = c.in_ok-parted.parted; opened = c.loop-number.reach.opened }) c.in_ok-reach.reach c.loop-number.out c.put.new.out c.pass_form.new.out c.loop-number-test.true (c.loop-number.invariant u what are s) refl refl
-    (rw (c.as_bytes.ensures.value, c.comma.ensures) at c.in_ok-parted.ensures.written) (c.in_ok-reach.ensures u what are s)
+    (placed (utf8_comma _) (rw (c.as_bytes.ensures.value, c.comma.ensures) at c.in_ok-parted.ensures)) (c.in_ok-reach.ensures u what are s)
 
 pub pass_elements-returns : goal.pass_elements-returns
 pass_elements-returns t c = λ u what are s. counting_all u c.args.left what c.args.form.now.index c.args.hint c.args.count c.args.bytes.now c.args.before c.args.out.now c.loop-number.number c.loop-number.reach c.loop-number.out (omega (arith, c.loop-number-test.false)) (c.loop-number.invariant u what are s)
 
 pub pass_elements-returns-in_err-parted : goal.pass_elements-returns-in_err-parted
 pass_elements-returns-in_err-parted t c = λ u what are s.
-    rw c.from_residual.ensures (counting_fails u c.args.left what c.args.form.now.index c.args.hint c.args.count c.args.bytes.now c.args.before c.args.out.now c.loop-number.number c.loop-number.reach c.loop-number.out c.put.new.out (c.loop-number.invariant u what are s) c.in_err-parted.ensures.written)
+    rw c.from_residual.ensures (counting_fails u c.args.left what c.args.form.now.index c.args.hint c.args.count c.args.bytes.now c.args.before c.args.out.now c.loop-number.number c.loop-number.reach c.loop-number.out c.put.new.out (c.loop-number.invariant u what are s) c.in_err-parted.ensures.kept)
 
 pub pass_elements-returns-in_err-reach : goal.pass_elements-returns-in_err-reach
 pass_elements-returns-in_err-reach t c = λ u what are s.
     let h = c.loop-number.invariant u what are s in
     rw c.from_residual-in_err-reach.ensures (counting_fails u c.args.left what c.args.form.now.index c.args.hint c.args.count c.args.bytes.now c.args.before c.args.out.now c.loop-number.number c.loop-number.reach c.loop-number.out c.pass_form.new.out h
-    (kept_behind c.loop-number.out c.put.new.out c.pass_form.new.out c.loop-number.reach.written c.in_ok-parted.parted _ h.written c.in_ok-parted.ensures.written (c.in_err-reach.ensures u what are s)))
+    (kept_behind c.loop-number.out c.put.new.out c.pass_form.new.out c.loop-number.reach.written c.in_ok-parted.parted _ h.written c.in_ok-parted.ensures (c.in_err-reach.ensures u what are s)))
 
 -- what the next element may rest on
 pub pass_elements-put-requires : goal.pass_elements-put-requires
@@ -218,4 +219,4 @@ pub pass_elements-pass_form-requires : goal.pass_elements-pass_form-requires
 pass_elements-pass_form-requires t c =
     let own = c.requires.planned in
     let h = c.loop-number.invariant own.table (body_of own.is.entry) own.are (stands own.table c.args.form.now own.is) in
-    (omega arith, (h.read, (omega (arith, c.in_ok-parted.ensures.written.within, c.in_ok-parted.ensures.written.long), (h.few, own))))
+    (omega arith, (h.read, (omega (arith, c.in_ok-parted.ensures.within, c.in_ok-parted.ensures.long), (h.few, own))))
