@@ -1,14 +1,15 @@
 -- A part of a buffer that is written, and what stands in front of it and behind.
-use Rattle.std.proofs.Common.{◌≡◌, ◌≤◌, ℕ, List, ◌++◌, length, length-append, take, drop, Some, Result, Ok, Err, refl, ap, ◌∙◌, arith, IfOk}
+use Rattle.std.proofs.Common.{◌≡◌, ◌≤◌, ℕ, List, ◌++◌, length, length-append, take, drop, Option, Some, None, Result, Ok, Err, refl, sym, ap, subst, ◌∙◌, arith, IfOk, IfSome}
 use Rattle.std.proofs.lemmas.List.{length-take, take-append-le}
+use Rattle.std.specs.Str.{IsUtf8}
 use lib.Seq.{drop_at, take_at, length-take-le}
 use borrow.Rule.Slice.PartMut.{put_mid, post_of}
 use Rattle.defmt_framing.specs.Notices.{HasText, told_by}
 use Rattle.defmt_framing.specs.declared.notice.Notice.{Notice}
 use Rattle.defmt_framing.specs.declared.notice.Notice.TheVariants as notices
-use Rattle.defmt_decode.specs.Event.{line_with}
+use Rattle.defmt_decode.specs.Event.{IsNotice, IsPrinted, line_with}
 use Rattle.defmt_decode.specs.declared.event.Event.{Event}
-use Rattle.defmt_decode.specs.declared.event.Origin.{Origin}
+use Rattle.defmt_plan.specs.declared.message.Origin.{Origin}
 
 -- ---- a buffer that goes on behind another
 
@@ -22,11 +23,17 @@ text_on buffer more notices.Nothing has = tt
 text_on buffer more (notices.Event event) has = tt
 text_on buffer more (notices.Line origin size) has = omega (arith, has, length-append buffer more)
 
--- where the front is kept, the place is still there
-pub place_kept : (at : ℕ) (old new : List ℕ) → at ≤ length old → take at new ≡ take at old → at ≤ length new
-place_kept at old new le e =
-    let size : length (take at new) ≡ at = ap length e ∙ length-take-le at old le in
-    omega (arith, size, length-take at new)
+utf8_on : (buffer more : List ℕ) (notice : Notice Event Origin) → HasText buffer notice → IsPrinted buffer notice → IsPrinted (buffer ++ more) notice
+utf8_on buffer more notices.Nothing has utf8 = tt
+utf8_on buffer more (notices.Event event) has utf8 = tt
+utf8_on buffer more (notices.Line origin size) has utf8 = subst (λ (text : List ℕ). IsUtf8 text) (sym (take-append-le size buffer more has)) utf8
+
+notice_on : (buffer more : List ℕ) (event : Event) (notice : Notice Event Origin) → IsNotice buffer event notice → IsNotice (buffer ++ more) event notice
+notice_on buffer more event notice h = record {
+  told = told_on buffer more notice h.text ∙ h.told;
+  text = text_on buffer more notice h.text;
+  utf8 = utf8_on buffer more notice h.text h.utf8;
+}
 
 -- ---- a part that is written
 
@@ -37,17 +44,13 @@ module _ (xs mid : List ℕ) (at count : ℕ) (le : at ≤ length xs) where
   pub front_put : take at (put_mid at count xs mid) ≡ take at xs
   front_put = take_at (take at xs) (mid ++ post_of at count xs) at (length-take-le at xs le)
 
-  pub text_there : (notice : Notice Event Origin) → HasText mid notice → HasText (drop at (put_mid at count xs mid)) notice
-  text_there notice has = rw behind_put (text_on mid (post_of at count xs) notice has)
+  notice_there : (event : Event) (notice : Notice Event Origin) → IsNotice mid event notice → IsNotice (drop at (put_mid at count xs mid)) event notice
+  notice_there event notice h = subst (λ (buffer : List ℕ). IsNotice buffer event notice) (sym behind_put) (notice_on mid (post_of at count xs) event notice h)
 
-  pub told_there : (notice : Notice Event Origin) (event : Event) → HasText mid notice → told_by line_with mid notice ≡ Some event → told_by line_with (drop at (put_mid at count xs mid)) notice ≡ Some event
-  told_there notice event has told = ap (λ (buffer : List ℕ). told_by line_with buffer notice) behind_put ∙ told_on mid (post_of at count xs) notice has ∙ told
+  pub notice_put : {E : Type 0} (r : Result (Notice Event Origin) E) (event : Event) → IfOk r (λ notice. IsNotice mid event notice) → IfOk r (λ notice. IsNotice (drop at (put_mid at count xs mid)) event notice)
+  notice_put (Ok notice) event h = notice_there event notice h
+  notice_put (Err e) event h = tt
 
-  pub text_put : {E : Type 0} (r : Result (Notice Event Origin) E) → IfOk r (λ notice. HasText mid notice) → IfOk r (λ notice. HasText (drop at (put_mid at count xs mid)) notice)
-  text_put (Ok notice) has = text_there notice has
-  text_put (Err e) has = tt
-
-  pub told_put : {E : Type 0} (r : Result (Notice Event Origin) E) (event : Event) → IfOk r (λ notice. HasText mid notice) → IfOk r (λ notice. told_by line_with mid notice ≡ Some event)
-      → IfOk r (λ notice. told_by line_with (drop at (put_mid at count xs mid)) notice ≡ Some event)
-  told_put (Ok notice) event has told = told_there notice event has told
-  told_put (Err e) event has told = tt
+  pub line_put : (r : Option (Origin × ℕ)) (event : Event) → IfSome r (λ line. IsNotice mid event (notices.Line line.0 line.1)) → IfSome r (λ line. IsNotice (drop at (put_mid at count xs mid)) event (notices.Line line.0 line.1))
+  line_put None event h = tt
+  line_put (Some line) event h = notice_there event (notices.Line line.0 line.1) h

@@ -4,5 +4,4 @@ mod Deciding
 mod Gaps
 mod InFrames
 mod Planned
-mod Putting
 mod Sending

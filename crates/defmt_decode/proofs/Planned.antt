@@ -1,31 +1,49 @@
--- A line that is told by a plan is what the message tells.
-use Rattle.std.proofs.Common.{◌≡◌, ◌≤◌, ℕ, List, Option, None, Some, IfSome, length, take, drop, refl, sym, ap, ◌∙◌, arith}
-use borrow.Rule.Slice.PartMut.{put_mid}
-use Rattle.defmt_intern.specs.Catalog.{Catalog}
+-- A line that is written into a buffer is what the message tells.
+use Rattle.std.proofs.Common.{◌≡◌, ◌≤◌, ℕ, List, Option, Some, None, IfSome, length, take, sym, ap, subst, ◌∙◌, arith}
+use Rattle.std.specs.Str.{IsUtf8}
+use Rattle.defmt_eager.specs.Answers.{PlacedNarrow, PutsLine}
+use Rattle.defmt_eager.specs.Line.{eager_line, IsWide}
 use Rattle.defmt_framing.specs.Notices.{HasText, told_by}
+use Rattle.defmt_framing.specs.declared.notice.Notice.TheVariants as notices
+use Rattle.defmt_intern.specs.Catalog.{Catalog}
+use Rattle.defmt_intern.specs.Table.{Map}
+use Rattle.defmt_values.specs.Plain.{Vals}
 use Rattle.defmt_plan.specs.Told.{IsTold, Tells}
-use Rattle.defmt_plan.specs.declared.message.Told.{Told}
-use Rattle.defmt_decode.proofs.Behind.{text_there, told_there}
+use Rattle.defmt_plan.specs.declared.message.Origin.{Origin}
 use Rattle.defmt_decode.proofs.Deciding.{heard_read, heard_narrow}
-use Rattle.defmt_decode.specs.Event.{line_notice, line_with, read_of, of_read}
+use Rattle.defmt_decode.specs.Event.{IsNotice, of_heard, of_read, read_of}
 use Rattle.defmt_decode.specs.declared.event.Event.{Event}
 use Rattle.defmt_decode.specs.declared.event.Event.TheVariants.{Line}
 
-pub told_line : (t : Catalog) (bytes : List ℕ) (place : Option ℕ) (index : ℕ) (old new : List ℕ) (end : ℕ) (text : List ℕ) → IsTold t bytes place index old 0 new end → text ≡ take end new → Line index place text ≡ of_read t (read_of t bytes)
-told_line t bytes place index old new end text h e =
-    ap (λ (x : List ℕ). Line index place x) (e ∙ h.written.written) ∙ sym (heard_read t bytes place h.stamp index h.args h.heard ∙ heard_narrow t place h.stamp index h.args h.narrow)
+-- a line that stands at the front and is UTF-8
+line_there : (origin : Origin) (line new : List ℕ) (end : ℕ) (event : Event) → end ≤ length new → take end new ≡ line → IsUtf8 line → Line origin.index origin.place line ≡ event → IsNotice new event (notices.Line origin end)
+line_there origin line new end event le text utf8 is = record {
+  told = ap (λ (x : List ℕ). Some (Line origin.index origin.place x)) text ∙ ap (λ (e : Event). Some e) is;
+  text = le;
+  utf8 = subst (λ (x : List ℕ). IsUtf8 x) (sym text) utf8;
+}
 
--- a line that a plan wrote into a part of a buffer
-line_has : (t : Catalog) (bytes old mid : List ℕ) (told : Told) → IsTold t bytes told.place told.index old 0 mid told.end → HasText mid (line_notice told)
-line_has t bytes old mid told h = omega (arith, h.written.within, h.written.long)
+-- by a plan
+pub plan_notice : (t : Catalog) (bytes : List ℕ) (origin : Origin) (old new : List ℕ) (end : ℕ) → IsTold t bytes origin.place origin.index old 0 new end → IsNotice new (of_read t (read_of t bytes)) (notices.Line origin end)
+plan_notice t bytes origin old new end h =
+    line_there origin (eager_line t.entries h.stamp origin.index h.args) new end (of_read t (read_of t bytes)) (omega (arith, h.written.within, h.written.long)) h.written.written h.written.utf8
+    (sym (heard_read t bytes origin.place h.stamp origin.index h.args h.heard ∙ heard_narrow t origin.place h.stamp origin.index h.args h.narrow))
 
-module _ (t : Catalog) (bytes old xs mid : List ℕ) (at count : ℕ) (le : at ≤ length xs) where
-  pub line_told : (r : Option Told) → Tells r t bytes old 0 mid → IfSome r (λ (told : Told). told_by line_with (drop at (put_mid at count xs mid)) (line_notice told) ≡ Some (of_read t (read_of t bytes)))
-  line_told None h = tt
-  line_told (Some told) h =
-      told_there xs mid at count le (line_notice told) (of_read t (read_of t bytes)) (line_has t bytes old mid told h)
-      (ap (λ (e : Event). Some e) (told_line t bytes told.place told.index old mid told.end (take told.end mid) h refl))
+-- by the walk over what is heard
+pub put_notice : (t : Catalog) (origin : Origin) (stamp vs : Vals) (old new : List ℕ) (end : ℕ) → PlacedNarrow (IsWide t.entries stamp origin.index vs) old 0 new end (eager_line t.entries stamp origin.index vs)
+    → IsNotice new (of_heard t origin.place stamp origin.index vs) (notices.Line origin end)
+put_notice t origin stamp vs old new end h =
+    let w = h.placed.written in
+    line_there origin (eager_line t.entries stamp origin.index vs) new end (of_heard t origin.place stamp origin.index vs) (omega (arith, w.within, w.long)) w.written h.placed.utf8
+    (sym (heard_narrow t origin.place stamp origin.index vs h.narrow))
 
-  pub line_text : (r : Option Told) → Tells r t bytes old 0 mid → IfSome r (λ (told : Told). HasText (drop at (put_mid at count xs mid)) (line_notice told))
-  line_text None h = tt
-  line_text (Some told) h = text_there xs mid at count le (line_notice told) (line_has t bytes old mid told h)
+-- where the stamp is the number that is written
+pub put_is : (r : Option ℕ) (t : Map) (stamp other : Vals) (index : ℕ) (vs : Vals) (old new : List ℕ) → stamp ≡ other → PutsLine r t other index vs old 0 new
+    → IfSome r (λ end. PlacedNarrow (IsWide t stamp index vs) old 0 new end (eager_line t stamp index vs))
+put_is None t stamp other index vs old new same h = tt
+put_is (Some end) t stamp other index vs old new same h = subst (λ (s : Vals). PlacedNarrow (IsWide t s index vs) old 0 new end (eager_line t s index vs)) (sym same) h
+
+-- by a plan, where there is one
+pub plan_line : (r : Option (Origin × ℕ)) (t : Catalog) (bytes old new : List ℕ) → Tells r t bytes old 0 new → IfSome r (λ line. IsNotice new (of_read t (read_of t bytes)) (notices.Line line.0 line.1))
+plan_line None t bytes old new h = tt
+plan_line (Some line) t bytes old new h = plan_notice t bytes line.0 old new line.1 h

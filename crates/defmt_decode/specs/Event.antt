@@ -1,6 +1,8 @@
 -- What the parts of a stream of frames tell (defmt book, the encoding rzcobs and the log frame).
-use Rattle.std.specs.Prelude.{◌<◌, ◌≤◌, ◌||◌, ℕ, Bool, nat_lt, List, length, Option, Some, None, Ok, Err, if◌then◌else◌}
+use Rattle.std.specs.Prelude.{◌≡◌, ◌<◌, ◌≤◌, ◌||◌, ℕ, Bool, nat_lt, List, length, take, Option, Some, None, Ok, Err, if◌then◌else◌}
+use Rattle.std.specs.Str.{IsUtf8}
 use Rattle.rzcobs_core.specs.Blocks.{Blocks, IsNoCode}
+use Rattle.defmt_framing.specs.Notices.{HasText, told_by}
 use Rattle.defmt_framing.specs.Told.{Tells, of_piece, events, begun}
 use Rattle.defmt_framing.specs.Decoded.{decoded}
 use Rattle.defmt_intern.specs.Catalog.{Catalog}
@@ -17,12 +19,11 @@ use Rattle.defmt_encode.specs.Placed.{HasPlace}
 use Rattle.defmt_encode.specs.Read.{Read, message_at}
 use Rattle.defmt_decode.specs.declared.event.Event.{Event}
 use Rattle.defmt_decode.specs.declared.event.Event.TheVariants.{Line, Bad, CutFront, CutTail}
-use Rattle.defmt_decode.specs.declared.event.Origin.{Origin}
 use Rattle.defmt_decode.specs.declared.reader.Refusal.TheVariants.{Cobs, Long, Wide}
 use Rattle.defmt_decode.specs.Refusal.{refused}
 use Rattle.defmt_framing.specs.declared.notice.Notice.{Notice}
 use Rattle.defmt_framing.specs.declared.notice.Notice.TheVariants as notices
-use Rattle.defmt_plan.specs.declared.message.Told.{Told}
+use Rattle.defmt_plan.specs.declared.message.Origin.{Origin}
 
 -- ---- the event of a piece
 
@@ -89,10 +90,17 @@ event_of t piece = of_piece (tells t) piece
 abbrev pub line_with : Origin → List ℕ → Event
 line_with origin text = Line origin.index origin.place text
 
--- the notice of a line that a plan wrote
-abbrev pub line_notice : Told → Notice Event Origin
-line_notice told =
-    notices.Line (record { index = told.index; place = told.place }) told.end
+-- the text of a line at the front of a buffer is UTF-8
+abbrev pub IsPrinted : List ℕ → Notice Event Origin → Type 0
+IsPrinted buffer notices.Nothing = Unit {0}
+IsPrinted buffer (notices.Event event) = Unit {0}
+IsPrinted buffer (notices.Line origin size) = IsUtf8 (take size buffer)
+
+-- a notice tells an event, with the text of a line at the front of a buffer
+pub record IsNotice (buffer : List ℕ) (event : Event) (notice : Notice Event Origin) : Type 0 where
+  pub told : told_by line_with buffer notice ≡ Some event
+  pub text : HasText buffer notice
+  pub utf8 : IsPrinted buffer notice
 
 -- ---- the events of a stream
 

@@ -1,7 +1,6 @@
 pub mod Event
 pub mod Gap
 pub mod Hearing
-pub mod Quick
 pub mod Refusal
 pub mod Sent
 pub mod Shown

@@ -38,15 +38,6 @@ pub enum Event {
     },
 }
 
-/// Where a line comes from: what it has beside its text.
-#[derive(Clone, Copy)]
-pub struct Origin {
-    /// The index of its entry in the table.
-    pub index: u16,
-    /// The place of its frame: there is one exactly in profile Two.
-    pub place: Option<u16>,
-}
-
 /// A list of events.
 pub struct Events {
     items: Vec<Event>,

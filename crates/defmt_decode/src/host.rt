@@ -1,13 +1,14 @@
 //! The host.
 
 ghost use Rattle.std.specs.Prelude.{◌≡◌, ◌≤◌, ◌<◌, ◌++◌, [], None, List, ℕ, length, take, drop, IfOk, OnErr, option_to_list};
-ghost use Rattle.defmt_decode.specs.Event.{tells, events_of, begun_of, line_with};
+ghost use Rattle.defmt_decode.specs.Event.{IsPrinted, tells, events_of, begun_of, line_with};
 ghost use Rattle.defmt_framing.specs.Notices.{HasText, told_by};
 
-use crate::event::{Event, Origin};
+use crate::event::Event;
 use crate::reader::Reader;
 use defmt_framing::{Framer, Notice};
 use defmt_intern::Table;
+use defmt_plan::Origin;
 use dl_io::Memory;
 use std::alloc::Global;
 use std::marker::Model;
@@ -88,6 +89,8 @@ impl Host {
             → Hears (tells self.old.table) self.new.framing stream (take r.0 bytes.now)
             (told_by line_with (drop at text.new.items) r.1)) }
         ensures text { IfOk result (λ r. HasText (drop at text.new.items) r.1) }
+        // It is UTF-8.
+        ensures utf8 { IfOk result (λ r. IsPrinted (drop at text.new.items) r.1) }
         ensures front { take at text.new.items ≡ take at text.old.items }
         ensures some { IfOk result (λ r. 0 < length bytes.now → 0 < r.0) }
         // A notice of nothing comes only where all was taken.
@@ -101,17 +104,8 @@ impl Host {
             return Ok((taken, notice_of(event)));
         };
         let piece = &bytes[start..start + size];
-        if let Some(told) = self.reader.line(piece, text, at)? {
-            self.framer.pass_piece::<Event>(bytes, start, size);
-            let origin = Origin {
-                index: told.index,
-                place: told.place,
-            };
-            return Ok((start + size + 1, Notice::Line(origin, told.end)));
-        }
-        let notice = self.reader.notice(piece, text, at)?;
-        self.framer.pass_piece::<Event>(bytes, start, size);
-        Ok((start + size + 1, notice))
+        self.reader
+            .hear(&mut self.framer, bytes, start, size, piece, text, at)
     }
 
     /// The event that the end of the stream brings: a cut front where no zero was heard and
@@ -143,6 +137,7 @@ impl Host {
 fn notice_of(event: Option<Event>) -> Notice<Event, Origin>
     ensures told { (buffer : List ℕ) → told_by line_with buffer result ≡ event }
     ensures text { (buffer : List ℕ) → HasText buffer result }
+    ensures utf8 { (buffer : List ℕ) → IsPrinted buffer result }
 {
     match event {
         Some(event) => Notice::Event(event),

@@ -23,7 +23,8 @@ mod reader;
 mod room;
 mod screen;
 
-pub use event::{Event, Events, Origin};
+pub use defmt_plan::Origin;
+pub use event::{Event, Events};
 pub use host::Host;
 pub use laws::{
     any_cutting, cut_between_frames, cut_within_a_frame, events_by_parts, frames_read_back,

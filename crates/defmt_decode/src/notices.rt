@@ -1,21 +1,21 @@
 //! Notices of messages.
 
-ghost use Rattle.std.specs.Prelude.{◌≡◌, ◌≤◌, Some, length, take, drop, IfOk, IfSome};
-ghost use Rattle.defmt_decode.specs.Event.{line_notice, line_with, of_heard, of_read, read_of};
+ghost use Rattle.std.specs.Prelude.{◌≡◌, ◌≤◌, length, take, drop, IfOk, IfSome};
+ghost use Rattle.defmt_decode.specs.Event.{IsNotice, of_heard, of_read, read_of};
 ghost use Rattle.defmt_encode.specs.Heard.{IsHeard};
-ghost use Rattle.defmt_framing.specs.Notices.{HasText, told_by};
+ghost use Rattle.defmt_framing.specs.declared.notice.Notice.TheVariants as notices;
 
-use crate::event::{Event, Origin};
+use crate::event::Event;
 use crate::quick::put_heard;
 use crate::reader::event_of_heard;
 use defmt_encode::{Heard, ReadCause};
 use defmt_framing::Notice;
 use defmt_intern::Table;
-use defmt_plan::{PlannedTable, Told};
+use defmt_plan::{Origin, PlannedTable};
 use dl_io::Memory;
 use std::alloc::Global;
 
-// The line of the bytes that a code stands for, where a plan writes it behind a place of the buffer, and in front of another.
+// The line of the bytes that a code stands for, where a plan writes it behind a place of a buffer, and in front of another.
 #[inline(always)]
 pub(crate) fn line_behind(
     table: &PlannedTable,
@@ -23,19 +23,17 @@ pub(crate) fn line_behind(
     text: &mut [u8],
     at: usize,
     end: usize,
-) -> Option<Told>
+) -> Option<(Origin, usize)>
     requires places { at ≤ end }
     requires within { end ≤ length text.old }
-    ensures told { IfSome result (λ told. told_by line_with (drop at text.new) (line_notice told)
-        ≡ Some (of_read table.now (read_of table.now bytes.now))) }
-    ensures text { IfSome result (λ told. HasText (drop at text.new) (line_notice told)) }
+    ensures line { IfSome result (λ line. IsNotice (drop at text.new)
+        (of_read table.now (read_of table.now bytes.now)) (notices.Line line.0 line.1)) }
     ensures front { take at text.new ≡ take at text.old }
 {
     table.message(bytes, &mut text[at..end], 0)
 }
 
-// What the bytes that a code stands for tell, whatever they are. The text of a line may stand behind a place of the buffer, and in
-// front of another.
+// What they tell, whatever they are. The text of a line may stand behind a place of the buffer, and in front of another.
 pub(crate) fn notice_behind(
     alloc: Global,
     table: &Table,
@@ -47,16 +45,32 @@ pub(crate) fn notice_behind(
 ) -> Result<Notice<Event, Origin>, Memory>
     requires places { at ≤ end }
     requires within { end ≤ length text.old }
-    ensures told { IfOk result (λ notice. told_by line_with (drop at text.new) notice
-        ≡ Some (of_read table.now (read_of table.now bytes.now))) }
-    ensures text { IfOk result (λ notice. HasText (drop at text.new) notice) }
+    ensures notice { IfOk result (λ notice. IsNotice (drop at text.new)
+        (of_read table.now (read_of table.now bytes.now)) notice) }
     ensures front { take at text.new ≡ take at text.old }
 {
     notice_of_any(alloc, table, bytes, &mut text[at..end], heard)
 }
 
-// The same, with the text at the front of the buffer.
-#[tactic(auto, using(crate::proofs::Deciding::heard_read))]
+// The same, with the text at the front of the buffer. A message whose plan there is is printed by it, and any other is heard.
+pub(crate) fn notice_in_front(
+    alloc: Global,
+    table: &PlannedTable,
+    bytes: &[u8],
+    text: &mut [u8],
+    heard: &mut Heard,
+) -> Result<Notice<Event, Origin>, Memory>
+    ensures { IfOk result (λ notice. IsNotice text.new
+        (of_read table.now (read_of table.now bytes.now)) notice) }
+{
+    match table.message(bytes, text, 0) {
+        Some((origin, end)) => Ok(Notice::Line(origin, end)),
+        None => notice_of_any(alloc, table.table(), bytes, text, heard),
+    }
+}
+
+// The same of a message that is heard. It stands apart from the way of a usual line.
+#[inline(never)]
 fn notice_of_any(
     alloc: Global,
     table: &Table,
@@ -64,9 +78,8 @@ fn notice_of_any(
     text: &mut [u8],
     heard: &mut Heard,
 ) -> Result<Notice<Event, Origin>, Memory>
-    ensures told { IfOk result (λ notice. told_by line_with text.new notice
-        ≡ Some (of_read table.now (read_of table.now bytes.now))) }
-    ensures text { IfOk result (λ notice. HasText text.new notice) }
+    ensures { IfOk result (λ notice. IsNotice text.new
+        (of_read table.now (read_of table.now bytes.now)) notice) }
 {
     match heard.hear(alloc, table, bytes) {
         Ok(()) => notice_of_heard(alloc, table, bytes, text, heard),
@@ -85,10 +98,9 @@ fn notice_of_heard(
 ) -> Result<Notice<Event, Origin>, Memory>
     requires { IsHeard table.now bytes.now heard.now.place heard.now.stamp heard.now.stm.index
         heard.now.stm.args }
-    ensures told { IfOk result (λ notice. told_by line_with text.new notice
-        ≡ Some (of_heard table.now heard.now.place heard.now.stamp
-        heard.now.stm.index heard.now.stm.args)) }
-    ensures text { IfOk result (λ notice. HasText text.new notice) }
+    ensures { IfOk result (λ notice. IsNotice text.new
+        (of_heard table.now heard.now.place heard.now.stamp heard.now.stm.index
+        heard.now.stm.args) notice) }
 {
     let Some(end) = put_heard(table, heard, text) else {
         return Ok(Notice::Event(event_of_heard(alloc, table, bytes, heard)?));

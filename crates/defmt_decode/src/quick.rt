@@ -1,17 +1,16 @@
 //! The line of a message that is heard, written into a buffer.
 
-ghost use Rattle.std.specs.Prelude.{◌≡◌, None, true, IfSome};
-ghost use Rattle.defmt_decode.specs.Quick.{IsPut};
-ghost use Rattle.defmt_eager.specs.Line.{level_at, level_text};
+ghost use Rattle.std.specs.Prelude.{◌≡◌, IfSome};
+ghost use Rattle.defmt_eager.specs.Answers.{PlacedNarrow};
+ghost use Rattle.defmt_eager.specs.Line.{eager_line, IsWide};
 ghost use Rattle.defmt_encode.specs.Carry.{stamp_args};
 ghost use Rattle.defmt_values.specs.Plain.{uint};
 ghost use Rattle.defmt_values.specs.View.{plain};
 
-use crate::room::LONGEST_LINE;
+use defmt_eager::put_line;
 use defmt_encode::Heard;
-use defmt_flat::put_line;
-use defmt_intern::{Table, Tag};
-use defmt_values::{Args, Value, look_up};
+use defmt_intern::Table;
+use defmt_values::{Args, Value};
 
 // An unsigned number of up to 64 bits.
 fn small_number(value: &Value) -> Option<u64>
@@ -39,38 +38,14 @@ fn lone_stamp(stamp: &Args) -> Option<Option<u64>>
     }
 }
 
-// Whether statements of this tag have a level.
-fn is_level(tag: &Tag) -> bool
-    ensures { result ≡ true → level_text tag.now ≡ None → ⊥ }
-{
-    matches!(
-        tag,
-        Tag::Trace | Tag::Debug | Tag::Info | Tag::Warn | Tag::Error
-    )
-}
-
-// Whether the statement at an index has a level.
-fn has_level(table: &Table, index: u16) -> bool
-    ensures { result ≡ true → level_at table.now.entries index ≡ None → ⊥ }
-{
-    match look_up(table, index) {
-        Some((entry, _)) => is_level(&entry.tag),
-        None => false,
-    }
-}
-
-// Writes the line of a message that is heard to the front of a buffer, where its statement has a level, its stamp is one number or
-// none, no value is unusual, and there is room. `None` says nothing of the message.
+// Writes the line of a message that is heard to the front of a buffer, where its stamp is one number or none, neither text is too
+// wide, and there is room. `None` says nothing of the message.
 pub(crate) fn put_heard(table: &Table, heard: &Heard, out: &mut [u8]) -> Option<usize>
-    ensures { IfSome result (λ end. IsPut table.now.entries heard.now.stamp heard.now.stm.index
-        heard.now.stm.args out.new end) }
+    ensures { IfSome result (λ end. PlacedNarrow
+        (IsWide table.now.entries heard.now.stamp heard.now.stm.index heard.now.stm.args)
+        out.old 0 out.new end
+        (eager_line table.now.entries heard.now.stamp heard.now.stm.index heard.now.stm.args)) }
 {
-    if out.len() > LONGEST_LINE {
-        return None;
-    }
-    if !has_level(table, heard.stm.index) {
-        return None;
-    }
     let stamp = lone_stamp(&heard.stamp)?;
     put_line(table, stamp, &heard.stm, out, 0)
 }

@@ -1,21 +1,25 @@
 //! What a piece tells.
 
-ghost use Rattle.std.specs.Prelude.{◌≡◌, ◌≤◌, Some, false, length, take, drop, IfOk, IfSome};
-ghost use Rattle.defmt_decode.specs.Event.{line_notice, line_with, of_heard, of_read, read_of, tells};
+ghost use Rattle.std.specs.Prelude.{◌≡◌, ◌≤◌, ◌+◌, None, Some, false, List, ℕ, length, take, drop, IfOk, OnErr};
+ghost use Rattle.std.specs.Str.{IsUtf8};
+ghost use Rattle.defmt_decode.specs.Event.{IsNotice, IsPrinted, line_with, of_heard, tells};
 ghost use Rattle.defmt_decode.specs.Refusal.{refusal_number, refused};
 ghost use Rattle.defmt_encode.specs.Heard.{IsHeard};
 ghost use Rattle.defmt_framing.specs.Cut.{has_zero};
+ghost use Rattle.defmt_framing.specs.Framing.{Hears, Stands};
 ghost use Rattle.defmt_framing.specs.Notices.{HasText, told_by};
+ghost use Rattle.defmt_framing.specs.Told.{Tells};
+ghost use Rattle.defmt_framing.specs.Wholes.{IsWhole};
 
-use crate::event::{Event, Origin};
-use crate::notices::{line_behind, notice_behind};
+use crate::event::Event;
+use crate::notices::{line_behind, notice_behind, notice_in_front};
 use crate::room::{line_room, make_room, room_behind};
 use defmt_eager::{EagerFault, line};
-use defmt_encode::{COBS, Heard, LONG, ReadCause, WIDE};
-use defmt_framing::{Notice, Teller, decode_piece, decode_zeroless_piece};
+use defmt_encode::{COBS, Heard, LONG, WIDE};
+use defmt_framing::{Framer, Notice, Teller, decode_piece, decode_zeroless_piece};
 use defmt_grammar::Text;
 use defmt_intern::Table;
-use defmt_plan::{PlannedTable, Told};
+use defmt_plan::{Origin, PlannedTable};
 use dl_io::Memory;
 use std::alloc::Global;
 use std::marker::Model;
@@ -75,10 +79,9 @@ impl Reader {
     pub(crate) fn new(alloc: Global, table: Table) -> Result<Self, Memory>
         ensures { IfOk result (λ reader. reader ≡ table) }
     {
-        let table = planned(alloc, table)?;
         Ok(Reader {
             alloc,
-            table,
+            table: PlannedTable::new(alloc, table)?,
             buffer: Vec::new(alloc),
             line: Vec::new(alloc),
             heard: Heard::new(alloc),
@@ -91,82 +94,50 @@ impl Reader {
         self.table.table()
     }
 
-    // The line of a piece without a zero, where a plan writes it: it stands behind a place of the buffer, and what stands in front
-    // of that stays. Nothing is said of another piece.
+    // Hears a piece without a zero, which bytes have whole. The text of a line may stand behind a place of the buffer, and what
+    // stands in front of that stays. The way of a line by a plan is one of its own, since it is the usual one.
     #[tactic(auto, unfolding(crate::specs::Event::tells))]
     #[inline(always)]
-    pub(crate) fn line(
+    pub(crate) fn hear(
         &mut self,
+        framer: &mut Framer,
+        bytes: &[u8],
+        start: usize,
+        size: usize,
         piece: &[u8],
         text: &mut Vec<u8>,
         at: usize,
-    ) -> Result<Option<Told>, Memory>
+    ) -> Result<(usize, Notice<Event, Origin>), Memory>
         requires place { at ≤ length text.old.items }
+        requires whole { IsWhole framer.old bytes.now start size }
         requires short { length piece.now ≤ 65536 }
         requires none { has_zero piece.now ≡ false }
-        ensures told { IfOk result (λ r. IfSome r (λ told.
-            told_by line_with (drop at text.new.items) (line_notice told)
-            ≡ Some ((tells self.old).piece piece.now))) }
-        ensures text { IfOk result (λ r. IfSome r (λ told.
-            HasText (drop at text.new.items) (line_notice told))) }
+        ensures taken { IfOk result (λ r. r.0 ≡ start + size + 1) }
+        ensures passed { IfOk result (λ r. (t : Tells Event) (stream : List ℕ)
+            → Stands framer.old stream
+            → Hears t framer.new stream (take (start + size + 1) bytes.now)
+            (Some (t.piece (take size (drop start bytes.now))))) }
+        ensures notice { IfOk result (λ r. IsNotice (drop at text.new.items)
+            ((tells self.old).piece piece.now) r.1) }
         ensures front { take at text.new.items ≡ take at text.old.items }
         ensures same { self.new ≡ self.old }
+        ensures err { OnErr result (framer.new ≡ framer.old) }
     {
         make_room(&mut self.buffer, 7 * piece.len())?;
         let Some(begin) = decode_zeroless_piece(piece, &mut self.buffer) else {
-            return Ok(None);
+            framer.pass_piece::<Event>(bytes, start, size);
+            return Ok((start + size + 1, Notice::Event(Refusal::Cobs.event())));
         };
-        let bytes = &self.buffer[begin..];
-        let end = room_behind(text, at, bytes.len())?;
-        Ok(line_behind(&self.table, bytes, text, at, end))
-    }
-
-    // What a piece without a zero tells, whatever it is. The text of a line may stand behind a place of the buffer, and what stands
-    // in front of that stays.
-    #[inline(never)]
-    #[tactic(auto, unfolding(crate::specs::Event::tells))]
-    pub(crate) fn notice(
-        &mut self,
-        piece: &[u8],
-        text: &mut Vec<u8>,
-        at: usize,
-    ) -> Result<Notice<Event, Origin>, Memory>
-        requires place { at ≤ length text.old.items }
-        requires short { length piece.now ≤ 65536 }
-        requires none { has_zero piece.now ≡ false }
-        ensures told { IfOk result (λ notice. told_by line_with (drop at text.new.items) notice
-            ≡ Some ((tells self.old).piece piece.now)) }
-        ensures text { IfOk result (λ notice. HasText (drop at text.new.items) notice) }
-        ensures front { take at text.new.items ≡ take at text.old.items }
-        ensures same { self.new ≡ self.old }
-    {
-        make_room(&mut self.buffer, 7 * piece.len())?;
-        match decode_zeroless_piece(piece, &mut self.buffer) {
-            Some(begin) => {
-                let bytes = &self.buffer[begin..];
-                let end = room_behind(text, at, bytes.len())?;
-                notice_behind(
-                    self.alloc,
-                    self.table.table(),
-                    bytes,
-                    text,
-                    at,
-                    end,
-                    &mut self.heard,
-                )
-            }
-            None => Ok(Notice::Event(Refusal::Cobs.event())),
+        let code = &self.buffer[begin..];
+        let end = room_behind(text, at, code.len())?;
+        if let Some((origin, count)) = line_behind(&self.table, code, text, at, end) {
+            framer.pass_piece::<Event>(bytes, start, size);
+            return Ok((start + size + 1, Notice::Line(origin, count)));
         }
-    }
-}
-
-// The table with its plans.
-fn planned(alloc: Global, table: Table) -> Result<PlannedTable, Memory>
-    ensures { IfOk result (λ planned. planned ≡ table) }
-{
-    match PlannedTable::new(alloc, table) {
-        Ok(planned) => Ok(planned),
-        Err(_) => Err(Memory),
+        let table = self.table.table();
+        let notice = notice_behind(self.alloc, table, code, text, at, end, &mut self.heard)?;
+        framer.pass_piece::<Event>(bytes, start, size);
+        Ok((start + size + 1, notice))
     }
 }
 
@@ -182,13 +153,15 @@ impl Teller for Reader {
             Some(count) => {
                 let bytes = &self.buffer[..count];
                 make_room(&mut self.line, line_room(count))?;
-                event_of_message(
+                let line = self.line.as_mut_slice();
+                let notice = notice_in_front(
                     self.alloc,
                     &self.table,
                     bytes,
-                    &mut self.line,
+                    line,
                     &mut self.heard,
-                )
+                )?;
+                event_of_notice(self.alloc, notice, line)
             }
             None => Ok(Refusal::Cobs.event()),
         }
@@ -207,58 +180,40 @@ impl Teller for Reader {
     }
 }
 
-// Bytes as a text of its own, where they are one.
-fn text_of(alloc: Global, bytes: &[u8]) -> Result<Option<Text>, Memory>
-    ensures { IfOk result (λ r. IfSome r (λ text. text ≡ bytes.now)) }
+// UTF-8 as a text of its own.
+fn text_of(alloc: Global, bytes: &[u8]) -> Result<Text, Memory>
+    requires { IsUtf8 bytes.now }
+    ensures { IfOk result (λ text. text ≡ bytes.now) }
 {
     let Ok(text) = str::from_utf8(bytes) else {
-        return Ok(None);
+        unreachable!();
     };
     let mut copy = Text::new(alloc);
     match copy.push_str(text) {
-        Ok(()) => Ok(Some(copy)),
+        Ok(()) => Ok(copy),
         Err(_) => Err(Memory),
     }
 }
 
-// What the bytes that a code stands for tell, by a plan where there is one.
-fn event_of_message(
+// The event that a notice tells, with the text of a line as its own.
+fn event_of_notice(
     alloc: Global,
-    table: &PlannedTable,
-    bytes: &[u8],
-    line: &mut [u8],
-    heard: &mut Heard,
+    notice: Notice<Event, Origin>,
+    line: &[u8],
 ) -> Result<Event, Memory>
-    ensures { IfOk result (λ event. event ≡ of_read table.now (read_of table.now bytes.now)) }
+    requires text { HasText line.now notice }
+    requires utf8 { IsPrinted line.now notice }
+    requires some { told_by line_with line.now notice ≡ None → ⊥ }
+    ensures { IfOk result (λ event. told_by line_with line.now notice ≡ Some event) }
 {
-    let Some(told) = table.message(bytes, line, 0) else {
-        return event_of_any(alloc, table.table(), bytes, heard);
-    };
-    match text_of(alloc, &line[..told.end])? {
-        Some(text) => Ok(Event::Line {
-            index: told.index,
-            place: told.place,
-            text,
+    match notice {
+        Notice::Nothing => unreachable!(),
+        Notice::Event(event) => Ok(event),
+        Notice::Line(origin, size) => Ok(Event::Line {
+            index: origin.index,
+            place: origin.place,
+            text: text_of(alloc, &line[..size])?,
         }),
-        None => event_of_any(alloc, table.table(), bytes, heard),
-    }
-}
-
-// The same, whatever the message is. It stands apart from the way of a usual line.
-#[inline(never)]
-#[tactic(auto, using(crate::proofs::Deciding::heard_read))]
-fn event_of_any(
-    alloc: Global,
-    table: &Table,
-    bytes: &[u8],
-    heard: &mut Heard,
-) -> Result<Event, Memory>
-    ensures { IfOk result (λ event. event ≡ of_read table.now (read_of table.now bytes.now)) }
-{
-    match heard.hear(alloc, table, bytes) {
-        Ok(()) => event_of_heard(alloc, table, bytes, heard),
-        Err(ReadCause::Bad { cause }) => Ok(Event::Bad { cause }),
-        Err(ReadCause::Memory) => Err(Memory),
     }
 }
 

@@ -1,7 +1,5 @@
-use Rattle.std.proofs.Common.{arith}
-use Rattle.defmt_decode.proofs.Putting.{put_is}
+use Rattle.defmt_decode.proofs.Planned.{put_is}
 use Rattle.defmt_decode.proofs.quick.put_heard.Goals as goal
 
 pub returns : goal.returns
-returns c =
-    put_is c.put_line.result c.args.table.now.entries c.args.heard.now.stamp _ c.args.heard.now.stm.index c.args.heard.now.stm.args c.args.out.now c.put_line.new.out (omega arith) (c.has_level.ensures c.if-not-has_level.false) c.in_ok-stamp.ensures c.put_line.ensures
+returns c = put_is c.put_line.result c.args.table.now.entries c.args.heard.now.stamp _ c.args.heard.now.stm.index c.args.heard.now.stm.args c.args.out.now c.put_line.new.out c.in_ok-stamp.ensures c.put_line.ensures
