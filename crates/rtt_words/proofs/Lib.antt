@@ -1,0 +1,11 @@
+pub mod Residues
+pub mod WordResidues
+pub mod Histories
+pub mod Fronts
+pub mod WordFacts
+pub mod WordViews
+pub mod WordMoves
+pub mod WordSteps
+pub mod LaneWords
+pub mod Keeps
+pub mod Laws

@@ -1,0 +1,5 @@
+pub mod History
+pub mod WordRule
+pub mod Seats
+pub mod Told
+pub mod LookLaws
