@@ -1,5 +1,6 @@
 -- What became of a frame.
 use Rattle.std.specs.Prelude.{◌≡◌, ℕ, ◌+◌, ◌<◌, ◌≤◌, true, List, [], ◌++◌, length, take}
+use Rattle.rtt_words.specs.History.{IsLoaded}
 use Rattle.rtt_ring.specs.Views.{Up, UpKept}
 use Rattle.rtt_modes.specs.declared.fate.Fate.{Fate}
 use Rattle.rtt_modes.specs.declared.fate.Fate.TheVariants.{Whole, Dropped, Cut}
@@ -34,6 +35,9 @@ pub record ByLook (By : ℕ → List ℕ → Fate → Type 0) (u v : Up) (frame 
   pub sent : v.sent ≡ u.sent ++ part_of frame fate
   pub looks : v.looks ≡ u.looks + 1
   pub kept : UpKept u v
+  -- and there the look is one load that was made in this call: behind all that was seen before come the reader's releases
+  -- since then, and then this load, which finds what the last of them said
+  pub load : u.tells ≡ true → IsLoaded u.seen v.freed v.seen
 
 -- how far a frame has come in block mode, from the end as it was first to the end as it is now
 pub record Going (first now : Up) (frame : List ℕ) (at : ℕ) : Type 0 where

@@ -1,5 +1,5 @@
 -- What a plain ring keeps after each of its steps.
-use Rattle.std.proofs.Common.{◌≡◌, ◌∙◌, ℕ, ◌+◌, ◌-◌, ◌%◌, ◌<◌, ◌≤◌, List, [], ◌++◌, length, take, drop, refl, sym, ap, subst, arith, append_assoc, length-append, length-drop, mod-lt}
+use Rattle.std.proofs.Common.{true, ◌≡◌, ◌∙◌, ℕ, ◌+◌, ◌-◌, ◌%◌, ◌<◌, ◌≤◌, List, [], ◌++◌, length, take, drop, refl, sym, ap, subst, arith, append_assoc, append-nil, length-append, length-drop, mod-lt}
 use Rattle.std.proofs.Math.Nat.{mod-add-mod, mod-eq_of_lt}
 use Rattle.std.proofs.lemmas.List.{drop_at, take_at}
 use Rattle.std.proofs.lemmas.Bool.{ne_eqb}
@@ -11,10 +11,14 @@ use Rattle.rtt_ring.specs.declared.journal.Traffic.{Traffic}
 use Rattle.rtt_ring.specs.Account.{capped}
 use Rattle.rtt_ring.specs.Image.{base, block_of, header, part, plain_descriptor, stored}
 use Rattle.rtt_ring.specs.Plain.{IsPlain, down_view, up_view}
-use Rattle.rtt_ring.specs.Traffic.{fresh, look_down, look_up, publish_all, put_more, take_more}
+use Rattle.rtt_words.specs.declared.view.Access.{Access}
+use Rattle.rtt_words.specs.declared.view.Access.TheVariants.{Stored, Loaded}
+use Rattle.rtt_words.specs.History.{IsLoaded, are_stores, last_stored}
+use Rattle.rtt_words.proofs.Histories.{last_stored_append, load_counted, load_found, one_store_more}
+use Rattle.rtt_ring.specs.Traffic.{IsSeen, fresh, look_down, look_up, publish_all, put_more, take_more}
 use Rattle.rtt_ring.specs.Views.{Down, IsBounded, Looked, Took}
 use Rattle.rtt_ring.proofs.Blocks.{block_reads, buffer_marked, front_marked, header_of, length_marked}
-use Rattle.rtt_ring.proofs.Residues.{between}
+use Rattle.rtt_words.proofs.Residues.{between}
 use Rattle.rtt_ring.proofs.Rounds.{length_round, round_mod, round_runs}
 use Rattle.rtt_ring.proofs.Stores.{front_stored, length_stored, round_before, round_stored}
 
@@ -28,6 +32,32 @@ up_same name name' size room t t' n e = ap (λ (x : List ℕ). up_view x size ro
 
 pub down_same : (name name' : List ℕ) (size : ℕ) (t t' : Traffic) → name' ≡ name → t' ≡ t → down_view name' size t' ≡ down_view name size t
 down_same name name' size t t' n e = ap (λ (x : List ℕ). down_view x size t') n ∙ ap (λ (x : Traffic). down_view name size x) e
+
+-- the history after a look, and after a release
+drop_front : (xs ys : List Access) → drop (length xs) (xs ++ ys) ≡ ys
+drop_front [] ys = refl
+drop_front (x ∷ xs) ys = drop_front xs ys
+
+seen_by : (seen between history : List Access) (n : ℕ) → history ≡ seen ++ between → are_stores between ≡ true → last_stored 0 history ≡ n → IsSeen seen history n
+seen_by seen between history n is others latest =
+    let behind : drop (length seen) history ≡ between = ap (drop (length seen)) is ∙ drop_front seen between in record {
+      is = is ∙ ap (λ (l : List Access). seen ++ l) (sym behind);
+      others = ap are_stores behind ∙ others;
+      latest = latest;
+    }
+
+seen_looked : (seen history : List Access) (n : ℕ) → IsSeen seen history n → IsSeen (history ++ Loaded n ∷ []) (history ++ Loaded n ∷ []) n
+seen_looked seen history n s =
+    let now : List Access = history ++ Loaded n ∷ [] in
+    seen_by now [] now n (sym (append-nil now)) refl (last_stored_append 0 history (Loaded n ∷ []) ∙ s.latest)
+
+seen_released : (seen history : List Access) (n m : ℕ) → IsSeen seen history n → IsSeen seen (history ++ Stored m ∷ []) m
+seen_released seen history n m s =
+    let between : List Access = drop (length seen) history in
+    seen_by seen (between ++ Stored m ∷ []) (history ++ Stored m ∷ []) m (ap (λ (l : List Access). l ++ Stored m ∷ []) s.is ∙ append_assoc seen between (Stored m ∷ [])) (one_store_more between m s.others) (last_stored_append 0 history (Stored m ∷ []))
+
+seen_load : (seen history : List Access) (n : ℕ) → IsSeen seen history n → IsLoaded seen n (history ++ Loaded n ∷ [])
+seen_load seen history n s = record { between = drop (length seen) history; others = s.others; latest = ap (last_stored 0) (sym s.is) ∙ s.latest; is = ap (λ (l : List Access). l ++ Loaded n ∷ []) s.is }
 
 -- a new ring
 pub fresh_kept : (image : List ℕ) (size : ℕ) (t : Traffic) → t ≡ fresh → 15 < size → size ≤ 65536 → length image ≡ 48 + size → take 48 image ≡ block_of size 0 0 → IsPlain image size 0 0 0 0 0 0 t
@@ -45,6 +75,9 @@ fresh_kept image size t is big small wide front =
       freed = omega arith;
       found = (omega arith, omega arith);
       looked = omega arith;
+      loads = refl;
+      last = refl;
+      told = record { is = refl; others = refl; latest = refl };
       counted = omega arith;
     }
 
@@ -67,7 +100,7 @@ module _ (image : List ℕ) (size rd wait staged room looks got_len : ℕ) (t : 
       let g = length_staged in
       let b = k.bound in
       let f = k.freed in
-      record { small = omega arith; within = omega arith; fits = λ _. omega arith; leaves = λ _ h. let e = k.leaves h in omega arith }
+      record { small = omega arith; within = omega arith; fits = λ _. omega arith; leaves = λ _ h. let e = k.leaves h in omega arith; loads = λ _. k.loads; last = λ _. k.last }
 
   -- bytes are put
   module _ (new bytes : List ℕ) (at : ℕ) (t' : Traffic) (now : t' ≡ put_more t bytes) (is : new ≡ stored image at bytes) (some : length bytes ≤ room)
@@ -113,6 +146,9 @@ module _ (image : List ℕ) (size rd wait staged room looks got_len : ℕ) (t : 
           freed = k.freed;
           found = k.found;
           looked = k.looked;
+          loads = k.loads;
+          last = k.last;
+          told = k.told;
           counted = k.counted;
         }
 
@@ -135,6 +171,9 @@ module _ (image : List ℕ) (size rd wait staged room looks got_len : ℕ) (t : 
           freed = omega arith;
           found = k.found;
           looked = omega arith;
+          loads = load_counted t.seen (t.history ++ Loaded (length t.got) ∷ []) (length t.got) (seen_load t.seen t.history (length t.got) k.told) ∙ ap (λ (n : ℕ). n + 1) k.loads;
+          last = load_found t.seen (t.history ++ Loaded (length t.got) ∷ []) (length t.got) (seen_load t.seen t.history (length t.got) k.told);
+          told = seen_looked t.seen t.history (length t.got) k.told;
           counted = k.counted;
         }
 
@@ -144,8 +183,10 @@ module _ (image : List ℕ) (size rd wait staged room looks got_len : ℕ) (t : 
         let b = k.freed in
         let s = length_sent in
         let g : t'.freed ≡ length t.got = ap (λ (x : Traffic). x.freed) now in
+        let l : t'.seen ≡ t.history ++ Loaded (length t.got) ∷ [] = ap (λ (x : Traffic). x.seen) now in
         record {
-          same = up_same name name' size (size - 1 - wait) (look_up t) t' same now ∙ ap (λ (n : ℕ). record (up_view name size room t) { looks = t.up_looks + 1; room = size - 1 - wait; freed = n }) (sym g);
+          same = up_same name name' size (size - 1 - wait) (look_up t) t' same now ∙ ap (λ (n : ℕ). record (up_view name size room t) { looks = t.up_looks + 1; room = size - 1 - wait; freed = n; seen = t.history ++ Loaded (length t.got) ∷ [] }) (sym g) ∙ ap (λ (l : List Access). record (up_view name size room t) { looks = t.up_looks + 1; room = size - 1 - wait; freed = t'.freed; seen = l }) (sym l);
+          load = λ _. subst (λ (x : Traffic). IsLoaded t.seen x.freed x.seen) (sym now) (seen_load t.seen t.history (length t.got) k.told);
           later = omega arith;
           within = omega arith;
           keeps = omega arith;
@@ -172,6 +213,9 @@ module _ (image : List ℕ) (size rd wait staged room looks got_len : ℕ) (t : 
         freed = k.freed;
         found = (omega arith, omega arith);
         looked = k.looked;
+        loads = k.loads;
+        last = k.last;
+        told = k.told;
         counted = k.counted;
       }
 
@@ -232,6 +276,9 @@ module _ (image : List ℕ) (size rd wait staged room looks got_len : ℕ) (t : 
         freed = k.freed;
         found = (f.0, omega arith);
         looked = k.looked;
+        loads = k.loads;
+        last = k.last;
+        told = k.told;
         counted = k.counted;
       }
 
@@ -277,6 +324,9 @@ module _ (image : List ℕ) (size rd wait staged room looks got_len : ℕ) (t : 
         freed = omega arith;
         found = (omega arith, omega arith);
         looked = k.looked;
+        loads = k.loads;
+        last = k.last;
+        told = seen_released t.seen t.history (length t.got) (length (t.got ++ bytes)) k.told;
         counted = omega arith;
       }
 

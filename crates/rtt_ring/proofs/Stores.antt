@@ -4,7 +4,7 @@ use Rattle.std.proofs.lemmas.List.{get_or_append_left, get_or-append_right, get_
 use Rattle.rtt_control.specs.Layout.{round, with_bytes}
 use Rattle.rtt_control.proofs.PartLemmas.{length_with}
 use Rattle.rtt_ring.specs.Image.{first_run, stored}
-use Rattle.rtt_ring.proofs.Residues.{turn}
+use Rattle.rtt_words.proofs.Residues.{turn}
 use Rattle.rtt_ring.proofs.Rounds.{round_is, round_kept}
 
 -- a byte that was written

@@ -9,6 +9,5 @@ pub mod Plain
 pub mod PlainView
 pub mod QueueName
 pub mod QueueEnds
-pub mod WordRule
 pub mod WordKept
 pub mod WordEnds

@@ -4,6 +4,8 @@ use Rattle.std.specs.Prelude.{◌≡◌, ℕ, ◌+◌, ◌%◌, ◌<◌, ◌≤�
 use Rattle.rtt_ring.specs.declared.journal.Traffic.{Traffic}
 use Rattle.rtt_ring.specs.Account.{capped}
 use Rattle.rtt_ring.specs.Image.{block_of, part}
+use Rattle.rtt_words.specs.History.{last_loaded, loads_in}
+use Rattle.rtt_ring.specs.Traffic.{IsSeen}
 use Rattle.rtt_ring.specs.Views.{Up, Down}
 
 abbrev pub up_view : List ℕ → ℕ → ℕ → Traffic → Up
@@ -16,6 +18,7 @@ up_view name size room t = record {
   looks = t.up_looks;
   freed = t.freed;
   tells = true;
+  seen = t.seen;
 }
 
 abbrev pub down_view : List ℕ → ℕ → Traffic → Down
@@ -37,3 +40,7 @@ pub record IsPlain (image : List ℕ) (size rd waiting staged room looks got_len
   pub found : (length t.got ≤ t.found) × (t.found ≤ length t.got + waiting)
   pub looked : looks ≡ capped t.up_looks
   pub counted : got_len ≡ capped (length t.got)
+  -- the history of the releases and looks says how many bytes are released
+  pub loads : loads_in t.seen ≡ t.up_looks
+  pub last : last_loaded 0 t.seen ≡ t.freed
+  pub told : IsSeen t.seen t.history (length t.got)

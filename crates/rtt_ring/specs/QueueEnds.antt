@@ -1,5 +1,5 @@
 -- What contracts see of the two ends of a queue ring.
-use Rattle.std.specs.Prelude.{false, slice_index}
+use Rattle.std.specs.Prelude.{false, slice_index, []}
 use Rattle.rtrb.specs.Ring.{sent, received}
 use Rattle.rtt_ring.specs.Views.{Up, Down}
 use Rattle.rtt_ring.specs.declared.queue.up.QueueUp.{QueueUp}
@@ -16,6 +16,7 @@ up_of u = record {
   looks = slice_index u.looked.numbers 0;
   freed = 0;
   tells = false;
+  seen = [];
 }
 
 abbrev pub down_of : QueueDown → Down

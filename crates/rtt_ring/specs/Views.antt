@@ -1,7 +1,9 @@
 -- What contracts see of the two ends of a ring, and what each call does to it.
 use Rattle.std.specs.Prelude.{◌≡◌, ℕ, ◌+◌, ◌-◌, ◌<◌, ◌≤◌, Bool, true, List, [], ◌++◌, length}
+use Rattle.rtt_words.specs.declared.view.Access.{Access}
+use Rattle.rtt_words.specs.History.{IsLoaded, last_loaded, loads_in}
 
--- the upper end. Numbers of bytes are since the split
+-- the upper end. Numbers of bytes are since the ring was made
 pub record Up : Type 0 where
   -- the name of the split that the end comes from
   pub split : List ℕ
@@ -19,6 +21,9 @@ pub record Up : Type 0 where
   pub freed : ℕ
   -- whether the ring tells how many bytes were released
   pub tells : Bool
+  -- where it tells it: each release of the reader and each look of this end, in the order in which they were made, up to
+  -- the last look
+  pub seen : List Access
 
 -- the lower end
 pub record Down : Type 0 where
@@ -33,7 +38,7 @@ pub record Down : Type 0 where
 -- the two ends of a ring that is new
 abbrev pub new_up : List ℕ → ℕ → Bool → Up
 new_up split size tells =
-    record { split = split; size = size; sent = []; staged = []; room = 0; looks = 0; freed = 0; tells = tells }
+    record { split = split; size = size; sent = []; staged = []; room = 0; looks = 0; freed = 0; tells = tells; seen = [] }
 
 abbrev pub new_down : List ℕ → ℕ → Down
 new_down split size = record { split = split; size = size; got = []; found = 0; looks = 0 }
@@ -46,10 +51,16 @@ pub record IsBounded (u : Up) : Type 0 where
   pub within : u.freed ≤ length u.sent
   pub fits : u.tells ≡ true → length u.sent + length u.staged + 1 ≤ u.freed + u.size
   pub leaves : u.tells ≡ true → 0 < u.looks → u.room + length u.sent + length u.staged + 1 ≡ u.freed + u.size
+  -- the looks are the loads that were seen, and the last of them found what is free
+  pub loads : u.tells ≡ true → loads_in u.seen ≡ u.looks
+  pub last : u.tells ≡ true → last_loaded 0 u.seen ≡ u.freed
 
--- a look of the upper end, from u to v: looks, room and freed change, and nothing else
+-- a look of the upper end, from u to v: looks, room, freed and seen change, and nothing else
 pub record Looked (u v : Up) : Type 0 where
-  pub same : v ≡ record u { looks = u.looks + 1; room = v.room; freed = v.freed }
+  pub same : v ≡ record u { looks = u.looks + 1; room = v.room; freed = v.freed; seen = v.seen }
+  -- the look finds how many bytes the reader had released when it was made: behind all that was seen come the reader's
+  -- releases since then, and then this one look, which finds what the last of them said
+  pub load : u.tells ≡ true → IsLoaded u.seen v.freed v.seen
   pub later : u.freed ≤ v.freed
   pub within : v.freed ≤ length u.sent
   -- no room is lost, and of the size less one at most what was ever sent is missing

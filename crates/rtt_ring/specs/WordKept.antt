@@ -1,15 +1,9 @@
--- What the two ends of a word ring keep, and the ring's name.
-use Rattle.std.specs.Prelude.{◌≡◌, ◌⊎◌, ◌/◌, ℕ, ◌+◌, ◌%◌, ◌<◌, ◌≤◌, List, [], ◌∷◌, length}
-use Rattle.atomic_table.specs.Seated.{TableId}
-use Rattle.atomic_table.specs.Table.{Me}
-use Rattle.rtt_ring.specs.declared.word.view.View.{View}
-use Rattle.rtt_ring.specs.declared.word.view.View.TheVariants.{Up, Down}
+-- What the two ends of a word ring keep.
+use Rattle.std.specs.Prelude.{◌≡◌, ◌⊎◌, ℕ, ◌+◌, ◌%◌, ◌<◌, ◌≤◌, length}
+use Rattle.rtt_words.specs.declared.view.UpView.{UpView}
+use Rattle.rtt_words.specs.declared.view.DownView.{DownView}
+use Rattle.rtt_words.specs.History.{IsTold, loads_in, last_loaded}
 use Rattle.rtt_ring.specs.Account.{capped}
-use Rattle.rtt_ring.specs.WordRule.{upper_of, lower_of}
-
--- the name of a ring: its size, and the numbers that tell its table from every other
-abbrev pub name_of : ℕ → TableId → List ℕ
-name_of size z = size ∷ z.words ∷ z.slots ∷ z.views_name ∷ z.atom ∷ z.block ∷ z.offset ∷ z.slot_names
 
 -- the place `count` after `at`
 abbrev pub IsNext : ℕ → ℕ → ℕ → ℕ → Type 0
@@ -19,30 +13,30 @@ IsNext at count size to = ((at + count < size) × (to ≡ at + count)) ⊎ ((at 
 abbrev pub IsAhead : ℕ → ℕ → ℕ → ℕ → Type 0
 IsAhead from to size n = ((from ≤ to) × (n + from ≡ to)) ⊎ ((to < from) × (n + from ≡ to + size))
 
--- what the upper end keeps: its table is z, with the key `key`; its seat is one of the table `of`, and has the view and the
--- slots m. Then come the size, the place of the next byte, the room, and how many looks were made and bytes put
-pub record IsUp {S : Type 0} (z : TableId) (key : ℕ) (of : TableId) (m : Me S View) (size at room looks count : ℕ) : Type 0 where
-  pub words : z.words ≡ (size + 7) / 8 + 2
-  pub keyed : key ≡ size
+-- what the upper end keeps, of what its words know: the size, the place of the next byte, the room, and how many looks were
+-- made and bytes put
+pub record IsUp (u : UpView) (size at room looks count : ℕ) : Type 0 where
   pub big : (1 < size) × (size ≤ 65536)
-  pub seated : of ≡ z
-  pub is_up : m ≡ (Up (upper_of m.0), [])
-  pub sized : (upper_of m.0).size ≡ size
-  pub place : at ≡ (length (upper_of m.0).sent + length (upper_of m.0).staged) % size
-  pub has_room : length (upper_of m.0).sent + length (upper_of m.0).staged + room + 1 ≤ (upper_of m.0).freed + size
-  pub leaves : 0 < (upper_of m.0).looks → length (upper_of m.0).sent + length (upper_of m.0).staged + room + 1 ≡ (upper_of m.0).freed + size
-  pub within : (upper_of m.0).freed ≤ length (upper_of m.0).sent
-  pub looked : looks ≡ capped (upper_of m.0).looks
-  pub counted : count ≡ capped (length (upper_of m.0).sent + length (upper_of m.0).staged)
+  pub sized : u.size ≡ size
+  pub place : at ≡ (length u.sent + length u.staged) % size
+  pub has_room : length u.sent + length u.staged + room + 1 ≤ u.freed + size
+  pub leaves : 0 < u.looks → length u.sent + length u.staged + room + 1 ≡ u.freed + size
+  pub within : u.freed ≤ length u.sent
+  pub looked : looks ≡ capped u.looks
+  pub counted : count ≡ capped (length u.sent + length u.staged)
+  pub loads : loads_in u.rd_off ≡ u.looks
+  pub last : last_loaded 0 u.rd_off ≡ u.freed
 
 -- what the lower end keeps, likewise
-pub record IsDown {S : Type 0} (z : TableId) (key : ℕ) (of : TableId) (m : Me S View) (size at count : ℕ) : Type 0 where
-  pub words : z.words ≡ (size + 7) / 8 + 2
-  pub keyed : key ≡ size
+pub record IsDown (d : DownView) (size at count : ℕ) : Type 0 where
   pub big : (1 < size) × (size ≤ 65536)
-  pub seated : of ≡ z
-  pub is_down : m ≡ (Down (lower_of m.0), [])
-  pub sized : (lower_of m.0).size ≡ size
-  pub place : at ≡ length (lower_of m.0).got % size
-  pub in_order : length (lower_of m.0).got ≤ (lower_of m.0).found
-  pub counted : count ≡ capped (length (lower_of m.0).got)
+  pub sized : d.size ≡ size
+  pub place : at ≡ length d.got % size
+  pub in_order : length d.got ≤ d.found
+  pub counted : count ≡ capped (length d.got)
+
+-- the two ends' histories of each offset are one: all publishings and looks of a run have one order, and so have all releases
+-- and looks
+pub record IsOneRun (u : UpView) (d : DownView) : Type 0 where
+  pub published : IsTold u.wr_off d.wr_off (length u.sent)
+  pub released : IsTold d.rd_off u.rd_off d.released

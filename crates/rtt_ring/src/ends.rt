@@ -58,23 +58,34 @@ pub trait UpEnd {
 
 /// The lower end of a ring, which the reader has. No call takes memory or waits.
 pub trait DownEnd {
-    ghost use Rattle.std.specs.Prelude.{◌≡◌, ◌-◌, ◌+◌, min, [], length, take, drop};
+    ghost use Rattle.std.specs.Prelude.{◌≡◌, ◌-◌, ◌+◌, min, Bool, true, List, [], length, take, drop};
+    ghost use Rattle.rtt_words.specs.History.{IsLoaded};
+    ghost use Rattle.rtt_words.specs.declared.view.Access.{Access};
     ghost use Rattle.rtt_ring.specs.Views.{Down, Took};
 
     /// What contracts see of the end.
     ghost view: { Self → Down };
 
+    /// Whether the end tells when the writer published.
+    ghost tells: { Bool };
+
+    /// Where it tells that: each publishing of the writer and each look of this end, in the order in which they were made,
+    /// up to the last look.
+    ghost seen: { Self → List Access };
+
     /// Looks, and answers how many bytes beyond those taken are published.
     fn look(&mut self) -> u32
         ensures looked { Took (view self.old) (view self.new) [] }
-        ensures found { result + length (view self.old).got ≡ (view self.new).found };
+        ensures found { result + length (view self.old).got ≡ (view self.new).found }
+        ensures load { tells ≡ true → IsLoaded (seen self.old) (view self.new).found (seen self.new) };
 
     /// Looks, takes as many bytes as it found and as fit into `buf`, releases them and answers their number. What lies
     /// behind them in `buf` is as before.
     fn take(&mut self, buf: &mut [u8]) -> usize
         ensures took { Took (view self.old) (view self.new) (take result buf.new) }
         ensures count { result ≡ min ((view self.new).found - length (view self.old).got) (length buf.old) }
-        ensures behind { drop result buf.new ≡ drop result buf.old };
+        ensures behind { drop result buf.new ≡ drop result buf.old }
+        ensures load { tells ≡ true → IsLoaded (seen self.old) (view self.new).found (seen self.new) };
 }
 
 /// A ring whose two ends can go to two threads.
@@ -111,6 +122,7 @@ pub trait Channel {
         requires pair { (Self.Up.view up).split ≡ (Self.Down.view down).split }
         requires empty { ((Self.Up.view up).staged ≡ []) × (rest.old.items ≡ []) }
         ensures account { IfOk result (λ s. (s.sent ≡ (Self.Up.view up).sent) × (s.got ≡ (Self.Down.view down).got) × (s.ring ≡ KIND)) }
+        ensures split { IfOk result (λ s. s.split ≡ (Self.Up.view up).split) }
         ensures rest { IfOk result (λ s. (s.sent ≡ s.got ++ rest.new.items) × ((Self.Up.view up).freed ≤ length s.got)) }
         ensures memory { IfErr result (λ _. (more : List ℕ) × ((Self.Up.view up).sent ≡ ((Self.Down.view down).got ++ rest.new.items) ++ more)) };
 }

@@ -5,11 +5,12 @@
 ghost use Rattle.std.specs.Prelude.{◌≡◌, [], IfOk};
 
 use atomic_table::{Play, Seat, Table, TableRule};
+use rtt_words::Access;
 use std::alloc::{AllocError, Global};
 use std::collections::LinkedList;
 use std::marker::{Brand, PhantomData};
 
-/// What went through a ring. No value of this type is made. Numbers of bytes are since the split.
+/// What went through a ring. No value of this type is made. Numbers of bytes are since the ring was made.
 pub struct Traffic {
     /// All bytes published.
     pub sent: LinkedList<u8>,
@@ -23,6 +24,10 @@ pub struct Traffic {
     /// How many bytes the lower end's last look found published.
     pub found: u64,
     pub down_looks: u64,
+    /// Each release of the lower end and each look of the upper end, in the order in which they were made.
+    pub history: LinkedList<Access>,
+    /// The history up to the last look of the upper end.
+    pub seen: LinkedList<Access>,
 }
 
 /// The word may hold any number, since nothing is read off it.

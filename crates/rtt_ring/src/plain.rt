@@ -29,6 +29,15 @@ pub struct PlainRing {
     ghost kept: { IsPlain image.items size rd waiting staged room looks got_len (traffic_of journal) },
 }
 
+// The name of the split.
+struct Split;
+
+impl Names<PlainRing> for Split {
+    ghost use Rattle.rtt_ring.specs.PlainView.{up_of};
+
+    ghost numbers = { λ r. (up_of r).split };
+}
+
 // All that was sent.
 struct Sent;
 
@@ -86,16 +95,18 @@ impl PlainRing {
     pub fn settle(self, rest: &mut Bytes) -> Result<Settled, Memory>
         requires { ((up_of self).staged ≡ []) × (rest.old.items ≡ []) }
         ensures account { IfOk result (λ s. (s.sent ≡ (up_of self).sent) × (s.got ≡ (down_of self).got) × (s.ring ≡ Plain)) }
+        ensures split { IfOk result (λ s. s.split ≡ (up_of self).split) }
         ensures rest { IfOk result (λ s. (s.sent ≡ s.got ++ rest.new.items) × ((up_of self).freed ≤ length s.got)) }
         ensures memory { IfErr result (λ _. (more : List ℕ) × ((up_of self).sent ≡ ((down_of self).got ++ rest.new.items) ++ more)) }
     {
         let (front, back) = self.runs(self.waiting);
         rest.extend_from_slice(front)?;
         rest.extend_from_slice(back)?;
+        let split = Tag::of::<PlainRing, Split>(&self);
         let sent = Tag::of::<PlainRing, Sent>(&self);
         let got = Tag::of::<PlainRing, Got>(&self);
         let sent_len = self.got_len.saturating_add(u64::from(self.waiting));
-        Ok(Settled::new(sent, got, sent_len, self.got_len, RingKind::Plain))
+        Ok(Settled::new(split, sent, got, sent_len, self.got_len, RingKind::Plain))
     }
 
     /// The image, at the target address [`IMAGE_BASE`](crate::IMAGE_BASE): the control block at place 0, with one
@@ -210,11 +221,15 @@ impl UpEnd for PlainRing {
 }
 
 impl DownEnd for PlainRing {
-    ghost use Rattle.std.specs.Prelude.{◌≡◌, ◌-◌, ◌+◌, min, [], length, take, drop};
+    ghost use Rattle.std.specs.Prelude.{◌≡◌, ◌-◌, ◌+◌, min, false, [], length, take, drop};
     ghost use Rattle.rtt_ring.specs.Views.{Took};
     ghost use Rattle.rtt_ring.specs.PlainView.{up_of, down_of};
 
     ghost view = { down_of };
+
+    ghost tells = { false };
+
+    ghost seen = { λ _. [] };
 
     fn look(&mut self) -> u32
         ensures looked { Took (down_of self.old) (down_of self.new) [] }

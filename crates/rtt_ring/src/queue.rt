@@ -23,6 +23,15 @@ pub use up::QueueUp;
 /// sent.
 pub struct QueueRing;
 
+// The name of the split.
+struct Split;
+
+impl Names<QueueUp> for Split {
+    ghost use Rattle.rtt_ring.specs.QueueEnds.{up_of};
+
+    ghost numbers = { λ up. (up_of up).split };
+}
+
 // All that was sent.
 struct Sent;
 
@@ -111,6 +120,7 @@ impl Channel for QueueRing {
     }
 
     fn settle(up: QueueUp, down: QueueDown, rest: &mut Bytes) -> Result<Settled, Memory> {
+        let split = Tag::of::<QueueUp, Split>(&up);
         let sent = Tag::of::<QueueUp, Sent>(&up);
         let got = Tag::of::<QueueDown, Got>(&down);
         let QueueUp {
@@ -131,6 +141,6 @@ impl Channel for QueueRing {
         let count = consumer.slots_beside(&mut producer);
         rest.reserve(count)?;
         move_rest(consumer, count, rest);
-        Ok(Settled::new(sent, got, sent_len, got_len, RingKind::Queue))
+        Ok(Settled::new(split, sent, got, sent_len, got_len, RingKind::Queue))
     }
 }

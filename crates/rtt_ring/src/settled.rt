@@ -16,11 +16,12 @@ pub enum RingKind {
     Word,
 }
 
-/// The account of a ring that was settled. Contracts see all bytes that were sent, all that were taken, and the
-/// ring's kind. Only the settling of a ring makes one.
+/// The account of a ring that was settled. Contracts see the name of its split, all bytes that were sent, all that were
+/// taken, and the ring's kind. Only the settling of a ring makes one.
 #[derive(Drop)]
 pub struct Settled {
-    // The two lists take no bytes: contracts alone read them.
+    // The three lists take no bytes: contracts alone read them.
+    split: Tag,
     sent: Tag,
     got: Tag,
     sent_len: u64,
@@ -31,17 +32,26 @@ pub struct Settled {
 impl Model for Settled {
     ghost Value = { Account };
 
-    ghost view = { λ s. record { sent = s.sent.numbers; got = s.got.numbers; ring = s.ring } };
+    ghost view = { λ s. record { split = s.split.numbers; sent = s.sent.numbers; got = s.got.numbers; ring = s.ring } };
 
     ghost invariant = { λ s. (s.sent_len ≡ capped (length s.sent.numbers)) × (s.got_len ≡ capped (length s.got.numbers)) };
 }
 
 impl Settled {
-    pub(crate) fn new(sent: Tag, got: Tag, sent_len: u64, got_len: u64, ring: RingKind) -> Settled
+    pub(crate) fn new(
+        split: Tag,
+        sent: Tag,
+        got: Tag,
+        sent_len: u64,
+        got_len: u64,
+        ring: RingKind,
+    ) -> Settled
         requires { (sent_len ≡ capped (length sent.numbers)) × (got_len ≡ capped (length got.numbers)) }
-        ensures { (result.sent ≡ sent.numbers) × (result.got ≡ got.numbers) × (result.ring ≡ ring) }
+        ensures account { (result.sent ≡ sent.numbers) × (result.got ≡ got.numbers) × (result.ring ≡ ring) }
+        ensures split { result.split ≡ split.numbers }
     {
         Settled {
+            split,
             sent,
             got,
             sent_len,

@@ -48,9 +48,14 @@ fn pop_into(consumer: &mut Consumer<u8>, buf: &mut [u8])
 }
 
 impl DownEnd for QueueDown {
+    ghost use Rattle.std.specs.Prelude.{false, []};
     ghost use Rattle.rtt_ring.specs.QueueEnds.{down_of};
 
     ghost view = { down_of };
+
+    ghost tells = { false };
+
+    ghost seen = { λ _. [] };
 
     fn look(&mut self) -> u32 {
         let found = self.consumer.slots() as u32;

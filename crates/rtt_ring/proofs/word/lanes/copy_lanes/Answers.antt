@@ -1,9 +1,9 @@
 use Rattle.std.proofs.Common.{◌≡◌, ℕ, suc, List, [], ◌∷◌, ◌+◌, ◌-◌, ◌<◌, ◌++◌, length, get_or, set, take, drop, arith, sym, ap, ◌∙◌, append_assoc, take-suc, take-suc-set, get_or-drop, length-drop, add-one, take_all}
 use Rattle.std.proofs.lemmas.List.{drop-set-lt}
 use Rattle.std.proofs.lemmas.Slice.{take-put_mid, drop-put_mid}
-use Rattle.rtt_ring.specs.WordRule.{lanes}
-use Rattle.rtt_ring.proofs.WordKeeps.{lanes_to}
-use Rattle.rtt_ring.proofs.WordMoves.{lanes_long}
+use Rattle.rtt_words.specs.WordRule.{lanes}
+use Rattle.rtt_words.proofs.LaneWords.{lanes_to}
+use Rattle.rtt_words.proofs.Fronts.{lanes_long}
 use Rattle.rtt_ring.proofs.word.lanes.copy_lanes.Goals as goal
 
 -- one more item is copied

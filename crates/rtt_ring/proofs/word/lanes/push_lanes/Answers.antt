@@ -1,5 +1,5 @@
 use Rattle.std.proofs.Common.{◌≡◌, ℕ, List, ◌+◌, ◌-◌, ◌++◌, take, drop, arith, sym, ap, ◌∙◌}
-use Rattle.rtt_ring.proofs.WordKeeps.{lanes_to}
+use Rattle.rtt_words.proofs.LaneWords.{lanes_to}
 use Rattle.rtt_ring.proofs.word.lanes.push_lanes.Goals as goal
 
 pub returns-clause-items : goal.returns-clause-items

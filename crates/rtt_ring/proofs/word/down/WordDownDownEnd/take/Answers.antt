@@ -1,6 +1,6 @@
 use Rattle.std.proofs.Common.{rules, ◌≡◌, ℕ, ◌+◌, List, ◌++◌, take, drop, arith, sym, ap, ◌∙◌, append_assoc}
 use Rattle.std.proofs.lemmas.List.{drop-drop}
-use Rattle.rtt_ring.specs.declared.word.view.DownView.{DownView}
+use Rattle.rtt_words.specs.declared.view.DownView.{DownView}
 use Rattle.rtt_ring.proofs.word.down.WordDownDownEnd.take.Goals as goal
 
 -- what is got after one more part, which stands in the buffer
@@ -16,13 +16,15 @@ pub loop-done-preserved : goal.loop-done-preserved
 loop-done-preserved c =
     let v = c.loop-done.invariant in
     let s = c.take_some-done.ensures in
-    let now = s.seat.1.2 in (
-      s.seat.0 ∙ v.0,
+    let now = s.words.1.2 in (
+      s.words.0 ∙ v.0,
       search rules,
       omega arith,
       ap (λ (d : DownView). d.found) now ∙ v.3,
       ap (λ (d : DownView). d.looks) now ∙ v.4,
-      more_got _ _ _ _ _ _ _ _ v.5 (ap (λ (d : DownView). d.got) now) s.seat.1.3,
+      more_got _ _ _ _ _ _ _ _ v.5 (ap (λ (d : DownView). d.got) now) s.words.1.3,
       ap (λ (d : DownView). d.released) now ∙ v.6,
       more_left c.args.buf.now c.loop-done.buf c.take_some-done.new.buf c.loop-done.done c.take_some-done.result v.7 s.behind,
+      ap (λ (d : DownView). d.rd_off) now ∙ v.8,
+      ap (λ (d : DownView). d.wr_off) now ∙ v.9,
     )

@@ -11,12 +11,13 @@ pub loop-done-preserved : goal.loop-done-preserved
 loop-done-preserved c =
     let v = c.loop-done.invariant in
     let s = c.put_some-done.ensures in (
-      s.seat.0 ∙ v.0,
+      s.words.0 ∙ v.0,
       search rules,
       omega arith,
       omega arith,
-      more_put _ _ _ _ _ _ v.4 (ap (λ u. u.staged) s.seat.1),
-      ap (λ u. u.sent) s.seat.1 ∙ v.5,
-      ap (λ u. u.looks) s.seat.1 ∙ v.6,
-      ap (λ u. u.freed) s.seat.1 ∙ v.7,
+      more_put _ _ _ _ _ _ v.4 (ap (λ u. u.staged) s.words.1),
+      ap (λ u. u.sent) s.words.1 ∙ v.5,
+      ap (λ u. u.looks) s.words.1 ∙ v.6,
+      ap (λ u. u.freed) s.words.1 ∙ v.7,
+      ap (λ u. u.rd_off) s.words.1 ∙ v.8,
     )
