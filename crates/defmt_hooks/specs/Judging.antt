@@ -11,3 +11,7 @@ pub record JudgesBy (rules : Rules) (ready : Level → List ℕ → Type 0)
   pub may : (level : Level) (name : List ℕ) → ready level name
   pub answers : (level : Level) (name : List ℕ) (answer : Bool) → gives level name answer
       → answer ≡ keeps rules level name
+
+-- A judge of this type gave this answer about a level and a package. Nothing but asking a judge shows it.
+abbrev pub SomeJudgeGave : {J : Type 0} → (J → Level → List ℕ → Bool → Type 0) → Level → List ℕ → Bool → Type 0
+SomeJudgeGave {J} gives level name answer = (judge : J) × gives judge level name answer

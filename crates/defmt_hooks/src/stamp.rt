@@ -1,13 +1,13 @@
 //! A clock that is kept with the numbers by which it counts.
 ghost use Rattle.std.specs.Prelude.{◌≡◌, ◌≤◌, ◌+◌, ◌*◌};
-ghost use Rattle.defmt_hooks.specs.Even.{RunsEvenly};
+ghost use Rattle.defmt_hooks.specs.Even.{RunsEvenly, SomeClockGave};
 
 use crate::clock::Clock;
 use std::marker::Model;
 
 /// A clock that answers `base + step * t` at each number `t` up to 4,096. Contracts see it as these two numbers.
 ///
-/// The clock is asked once for each stamp that is asked for, and for nothing else.
+/// The clock is asked for each stamp: nothing but its answer shows that a clock gave this number.
 #[derive(Drop)]
 pub struct Stamp<C: Clock> {
     base: u64,
@@ -38,10 +38,11 @@ impl<C: Clock> Stamp<C> {
         Stamp { base, step, clock }
     }
 
-    /// The stamp of the message number `t`, at most 4,096: `base + step * t`. Takes no memory.
+    /// The stamp of the message number `t`, at most 4,096: `base + step * t`, as a clock gave it. Takes no memory.
     pub fn at(&self, t: u32) -> u64
         requires { t ≤ 4096 }
-        ensures { result ≡ self.now.base + self.now.step * t }
+        ensures stamp { result ≡ self.now.base + self.now.step * t }
+        ensures asked { SomeClockGave C.gives t result }
     {
         self.clock.tick(t)
     }

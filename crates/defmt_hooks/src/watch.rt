@@ -1,7 +1,7 @@
 //! A judge that is kept with the rules that it judges by.
 ghost use Rattle.std.specs.Prelude.{◌≡◌};
 ghost use Rattle.defmt_hooks.specs.Kept.{keeps};
-ghost use Rattle.defmt_hooks.specs.Judging.{JudgesBy};
+ghost use Rattle.defmt_hooks.specs.Judging.{JudgesBy, SomeJudgeGave};
 
 use crate::judge::Judge;
 use crate::level::Level;
@@ -10,7 +10,7 @@ use std::marker::Model;
 
 /// A judge that answers by some rules which messages are kept. Contracts see it as these rules.
 ///
-/// The judge is asked once for each message that is asked about, and for nothing else.
+/// The judge is asked about each message: nothing but its answer shows that a judge gave this one.
 #[derive(Drop)]
 pub struct Watch<'a, J: Judge> {
     rules: &'a Rules,
@@ -37,9 +37,10 @@ impl<'a, J: Judge> Watch<'a, J> {
         Watch { rules, judge }
     }
 
-    /// Whether a message of this level and package is kept. Takes no memory.
+    /// Whether a message of this level and package is kept, as a judge answered. Takes no memory.
     pub fn keep(&self, level: Level, name: &str) -> bool
-        ensures { result ≡ keeps self.now level name.now }
+        ensures kept { result ≡ keeps self.now level name.now }
+        ensures asked { SomeJudgeGave J.gives level name.now result }
     {
         self.judge.judge(level, name)
     }
