@@ -1,8 +1,9 @@
 //! The thread of a writer that logs statements and says texts.
-ghost use Rattle.std.specs.Prelude.{◌≡◌, slice_get};
-ghost use Rattle.talk_threads.specs.InFront.{in_front};
+ghost use Rattle.std.specs.Prelude.{◌≡◌, ◌≤◌, ◌<◌, ◌⊎◌, ℕ, slice_get};
+ghost use Rattle.talk_threads.specs.InFront.{any_order, in_front};
 ghost use Rattle.rtt_terminal.specs.Speech.{said_by};
 
+use crate::steps::Steps;
 use rtt_modes::Relief;
 use rtt_terminal::Speech;
 use shared_work::{Books, HasBook, Pen, Quota, Shared, Work};
@@ -10,7 +11,7 @@ use std::sync::Wait;
 use std::sync::atomic::{AtomicU64, Ordering};
 use std::sync::ledger::Ledger;
 use std::thread::Scope;
-use writer_threads::{Gate, Yields, log_all, log_until};
+use writer_threads::{Gate, Yields, log_next};
 
 /// What the writers share. Each work has a lock of its own.
 #[derive(Drop)]
@@ -33,41 +34,106 @@ fn statements_in_front(speech: &Speech, writer: u8, place: u32) -> u32
     }
 }
 
-// Does the steps that a pen and a voice have left: before each text the statements that stand in front of it, and then the
-// other statements. The gate is asked before each statement. No step of the one work is done within a step of the other.
-pub(crate) fn talk<
+impl<'s, B: Books, Q: Quota, T: Work<Q>, C: Books, P: Quota, X: Work<P>> Steps<B, Q, C, P>
+    for Stage<'s, B, Q, T, C, P, X> {
+    ghost speech = { λ stage. stage.speech.now };
+
+    ghost logs = { λ _ _ _ _ _. Unit {0} };
+
+    ghost says = { λ _ _ _ _ _. Unit {0} };
+
+    ghost in_order = { λ stage. any_order stage.speech.now };
+
+    fn speech(&self) -> &Speech {
+        self.speech
+    }
+
+    fn log<S: HasBook<B, L>, L: Ledger, V: HasBook<C, M>, M: Ledger, G: Gate, R: Relief, W: Wait>(
+        &self,
+        rt: &W,
+        pen: &mut Pen<S, L, Q>,
+        _: &Pen<V, M, P>,
+        gate: &G,
+        relief: &mut R,
+    ) {
+        log_next(rt, self.log, pen, gate, relief);
+    }
+
+    fn say<S: HasBook<B, L>, L: Ledger, V: HasBook<C, M>, M: Ledger, R: Relief, W: Wait>(
+        &self,
+        rt: &W,
+        _: &Pen<S, L, Q>,
+        voice: &mut Pen<V, M, P>,
+        relief: &mut R,
+    ) {
+        self.booth.step(rt, voice, relief);
+    }
+}
+
+// Logs the statements that a pen has left in front of a place.
+fn log_before<
     B: Books,
     Q: Quota,
-    T: Work<Q>,
     S: HasBook<B, L>,
     L: Ledger,
     C: Books,
     P: Quota,
-    X: Work<P>,
     V: HasBook<C, M>,
     M: Ledger,
+    A: Steps<B, Q, C, P>,
     G: Gate,
     R: Relief,
     W: Wait,
 >(
     rt: &W,
-    stage: &Stage<'_, B, Q, T, C, P, X>,
+    steps: &A,
     pen: &mut Pen<S, L, Q>,
-    voice: &mut Pen<V, M, P>,
+    voice: &Pen<V, M, P>,
+    count: u32,
     gate: &G,
     relief: &mut R,
 )
-    requires { R.kept relief.old }
+    requires same { S.NUMBER ≡ V.NUMBER }
+    requires next { (place : ℕ) → place < count
+        → A.logs steps.now V.NUMBER place voice.now.place voice.now.total }
+    requires relief { R.kept relief.old }
+    ensures until { (pen.new.total ≤ pen.new.place) ⊎ (count ≤ pen.new.place) }
+    ensures relief { R.kept relief.new }
+{
+    while pen.place() < pen.total() && pen.place() < count {
+        steps.log(rt, pen, voice, gate, relief);
+    }
+}
+
+/// Does the steps that the pen and the voice of a writer have left: before each text the statements that stand in front of it, and
+/// then the other statements. The gate is asked before each statement. No step is done but by a [`Steps`], which has to be shown
+/// each time that this one comes next.
+pub fn talk<
+    B: Books,
+    Q: Quota,
+    S: HasBook<B, L>,
+    L: Ledger,
+    C: Books,
+    P: Quota,
+    V: HasBook<C, M>,
+    M: Ledger,
+    A: Steps<B, Q, C, P>,
+    G: Gate,
+    R: Relief,
+    W: Wait,
+>(rt: &W, steps: &A, pen: &mut Pen<S, L, Q>, voice: &mut Pen<V, M, P>, gate: &G, relief: &mut R)
+    requires same { S.NUMBER ≡ V.NUMBER }
+    requires relief { R.kept relief.old }
     ensures pen { pen.new.place ≡ pen.new.total }
     ensures voice { voice.new.place ≡ voice.new.total }
     ensures relief { R.kept relief.new }
 {
     while voice.place() < voice.total() {
-        let count = statements_in_front(stage.speech, voice.writer(), voice.place());
-        log_until(rt, stage.log, pen, count, gate, relief);
-        stage.booth.step(rt, voice, relief);
+        let count = statements_in_front(steps.speech(), voice.writer(), voice.place());
+        log_before(rt, steps, pen, voice, count, gate, relief);
+        steps.say(rt, pen, voice, relief);
     }
-    log_all(rt, stage.log, pen, gate, relief);
+    log_before(rt, steps, pen, voice, pen.total(), gate, relief);
 }
 
 // One writer's thread.
@@ -91,7 +157,9 @@ fn run_one<
     voice: &mut Pen<V, M, P>,
     gate: &G,
     ended: &AtomicU64,
-) {
+)
+    requires { S.NUMBER ≡ V.NUMBER }
+{
     talk(rt, stage, pen, voice, gate, &mut Yields);
     ended.fetch_add(1, Ordering::SeqCst);
 }
@@ -121,12 +189,14 @@ pub(crate) fn start<
     voice: &'s mut Pen<V, M, P>,
     gate: &'s G,
     ended: &'s AtomicU64,
-) {
+)
+    requires { S.NUMBER ≡ V.NUMBER }
+{
     let has_ended = pen.total() == 0 && voice.total() == 0
         || scope
             .spawn(
                 move ||
-                    requires { Unit {0} }
+                    requires { S.NUMBER ≡ V.NUMBER }
                 { run_one(rt, stage, pen, voice, gate, ended) },
             )
             .is_err();

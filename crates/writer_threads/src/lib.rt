@@ -12,4 +12,4 @@ mod gate;
 mod writers;
 
 pub use gate::{Gate, OpenGate};
-pub use writers::{Yields, ease_on, finish, log_all, log_until, run_threads};
+pub use writers::{Yields, ease_on, finish, log_all, log_next, log_until, run_threads};

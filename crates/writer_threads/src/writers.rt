@@ -1,5 +1,6 @@
 //! The writers' threads.
-ghost use Rattle.std.specs.Prelude.{◌≡◌, ◌≤◌, ◌<◌, false};
+ghost use Rattle.std.specs.Prelude.{◌≡◌, ◌≤◌, ◌<◌, ◌+◌, false};
+ghost use Rattle.writer_threads.specs.Passing.{PassedAll};
 
 use crate::gate::Gate;
 use rtt_modes::Relief;
@@ -25,6 +26,27 @@ impl Relief for Yields {
     }
 }
 
+/// Asks the gate, and then does the pen's next step, of which there is one.
+pub fn log_next<
+    B: Books,
+    Q: Quota,
+    T: Work<Q>,
+    S: HasBook<B, L>,
+    L: Ledger,
+    G: Gate,
+    R: Relief,
+    W: Wait,
+>(rt: &W, shared: &Shared<B, Q, T>, pen: &mut Pen<S, L, Q>, gate: &G, relief: &mut R)
+    requires more { pen.old.place < pen.old.total }
+    requires relief { R.kept relief.old }
+    ensures place { pen.new.place ≡ pen.old.place + 1 }
+    ensures asked { G.passed gate.now S.NUMBER pen.old.place }
+    ensures relief { R.kept relief.new }
+{
+    gate.pass(pen.writer(), pen.place());
+    shared.step(rt, pen, relief);
+}
+
 /// Logs all that the pen has left: does its steps, and asks the gate before each.
 pub fn log_all<
     B: Books,
@@ -38,6 +60,7 @@ pub fn log_all<
 >(rt: &W, shared: &Shared<B, Q, T>, pen: &mut Pen<S, L, Q>, gate: &G, relief: &mut R)
     requires { R.kept relief.old }
     ensures place { pen.new.place ≡ pen.new.total }
+    ensures asked { PassedAll (G.passed gate.now S.NUMBER) pen.old.place pen.new.place }
     ensures relief { R.kept relief.new }
 {
     log_until(rt, shared, pen, pen.total(), gate, relief)
@@ -59,11 +82,11 @@ pub fn log_until<
     ensures until { pen.new.place < pen.new.total → count ≤ pen.new.place }
     ensures no_further { pen.old.place < pen.new.place → pen.new.place ≤ count }
     ensures forth { pen.old.place ≤ pen.new.place }
+    ensures asked { PassedAll (G.passed gate.now S.NUMBER) pen.old.place pen.new.place }
     ensures relief { R.kept relief.new }
 {
     while pen.place() < pen.total() && pen.place() < count {
-        gate.pass(pen.writer(), pen.place());
-        shared.step(rt, pen, relief);
+        log_next(rt, shared, pen, gate, relief);
     }
 }
 
@@ -74,7 +97,9 @@ fn run_one<B: Books, Q: Quota, T: Work<Q>, S: HasBook<B, L>, L: Ledger, G: Gate,
     pen: &mut Pen<S, L, Q>,
     gate: &G,
     ended: &AtomicU64,
-) {
+)
+    ensures asked { PassedAll (G.passed gate.now S.NUMBER) pen.old.place pen.new.place }
+{
     log_all(rt, shared, pen, gate, &mut Yields);
     ended.fetch_add(1, Ordering::SeqCst);
 }
@@ -140,7 +165,7 @@ fn start_all<
     start(scope, rt, shared, p7, gate, ended);
 }
 
-/// Does the steps that the pens have left.
+/// Does the steps that the pens have left, and asks the gate before each.
 pub fn finish<E: Names, Q: Quota, T: Work<Q>, G: Gate, R: Relief, W: Wait>(
     rt: &W,
     shared: &Shared<Eight<E>, Q, T>,
@@ -157,6 +182,14 @@ pub fn finish<E: Names, Q: Quota, T: Work<Q>, G: Gate, R: Relief, W: Wait>(
     ensures p5 { pens.new.p5.place ≡ pens.new.p5.total }
     ensures p6 { pens.new.p6.place ≡ pens.new.p6.total }
     ensures p7 { pens.new.p7.place ≡ pens.new.p7.total }
+    ensures asked0 { PassedAll (G.passed gate.now 0) pens.old.p0.place pens.new.p0.place }
+    ensures asked1 { PassedAll (G.passed gate.now 1) pens.old.p1.place pens.new.p1.place }
+    ensures asked2 { PassedAll (G.passed gate.now 2) pens.old.p2.place pens.new.p2.place }
+    ensures asked3 { PassedAll (G.passed gate.now 3) pens.old.p3.place pens.new.p3.place }
+    ensures asked4 { PassedAll (G.passed gate.now 4) pens.old.p4.place pens.new.p4.place }
+    ensures asked5 { PassedAll (G.passed gate.now 5) pens.old.p5.place pens.new.p5.place }
+    ensures asked6 { PassedAll (G.passed gate.now 6) pens.old.p6.place pens.new.p6.place }
+    ensures asked7 { PassedAll (G.passed gate.now 7) pens.old.p7.place pens.new.p7.place }
     ensures relief { R.kept relief.new }
 {
     let pens!(p0, p1, p2, p3, p4, p5, p6, p7) = pens;

@@ -1,10 +1,12 @@
 use Rattle.std.proofs.Common.{◌-◌, ◌<◌, ◌≤◌}
+use Rattle.writer_threads.specs.Passing.{PassedAll}
 use Rattle.writer_threads.proofs.writers.log_until.Given as goal
 
 abbrev pub invariant-loop-pen : goal.invariant-loop-pen
 invariant-loop-pen g l = record {
   no_further : l.fn.pen.place < l.pen.place → l.pen.place ≤ l.count;
   forth : l.fn.pen.place ≤ l.pen.place;
+  asked : PassedAll (g.G.Gate.passed l.gate g.S.Writer.NUMBER) l.fn.pen.place l.pen.place;
   relief : g.R.Relief.kept l.relief;
 }
 
