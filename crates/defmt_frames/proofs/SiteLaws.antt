@@ -1,5 +1,5 @@
 -- The sites of a script's statements.
-use Rattle.std.proofs.Common.{◌≡◌, ◌∙◌, ◌≤◌, ℕ, Bool, true, false, cond, List, length, Option, Some, None, is_eq, nat_cmp, refl, sym, ap, subst, arith, IsSome, is_some, slice_get}
+use Rattle.std.proofs.Common.{◌≡◌, ◌∙◌, ◌≤◌, ℕ, Bool, true, false, cond, List, length, Option, Some, None, Err, if◌then◌else◌, is_eq, nat_cmp, refl, sym, ap, subst, arith, IsSome, is_some, slice_get}
 use Rattle.std.proofs.lemmas.Bool.Decides.{nat_tests}
 use Rattle.std.proofs.lemmas.Option.{same_Some}
 use Rattle.defmt_encode.proofs.Hears.{one_entry}
@@ -12,11 +12,20 @@ use Rattle.defmt_frames.specs.Sites.{AreSitesOf, HasSites, HaveSites, IsMessage,
 use Rattle.defmt_frames.specs.declared.sites.Sites.{Sites}
 use Rattle.defmt_intern.specs.Table.{Map}
 use Rattle.defmt_intern.specs.declared.entry.Entry.{Entry}
-use Rattle.defmt_macros.specs.Sites.{IsSite}
+use Rattle.defmt_grammar.specs.Slots.{slots_of}
+use Rattle.defmt_grammar.specs.declared.piece.Piece.{Piece}
+use Rattle.defmt_grammar.specs.declared.slot.Slot.{Slot}
+use Rattle.defmt_intern.specs.Body.{body_of}
+use Rattle.defmt_intern.specs.declared.entry.Tag.{Tag}
+use Rattle.defmt_intern.specs.declared.parsed.Parsed.{Parsed}
+use Rattle.defmt_intern.specs.declared.parsed.Parsed.TheVariants.{One}
+use Rattle.defmt_macros.specs.Sites.{GivesOnly, IsSite, found_in, found_text, message, no_message}
+use Rattle.defmt_macros.specs.declared.site.SiteFault.{SiteFault}
+use Rattle.defmt_macros.specs.declared.site.SiteFault.TheVariants.{Memory, NoEntry, NotLog, Slots, Unsupported}
 use Rattle.defmt_macros.specs.declared.site.Site.{Site}
 use Rattle.defmt_script.specs.Lawful.{IsLawful, IsSound, stamp_in}
 use Rattle.defmt_script.specs.Script.{Script, statements_by}
-use Rattle.defmt_values.specs.Entries.{is_logged}
+use Rattle.defmt_values.specs.Entries.{is_logged, look}
 use Rattle.defmt_values.specs.Fits.{Fits}
 use Rattle.defmt_values.specs.declared.value.Statement.{Statement}
 
@@ -30,6 +39,35 @@ sound_message s stm sound = record {
   logged = ap (λ (e : Entry). is_logged e.tag) (one_entry s.table stm.index sound.fits.entry sound.logged.entry sound.fits.there sound.logged.there) ∙ sound.logged.tag;
   body = sound.fits.body;
 }
+
+-- a message has a site with the slots of its text
+pub message_site : (table : Map) (index : ℕ) (entry : Entry) (pieces : List Piece) → look table index ≡ Some entry → is_logged entry.tag ≡ true → body_of entry ≡ One pieces
+    → IsSite table index entry.tag (slots_of pieces)
+message_site table index entry pieces there logged body =
+    ap found_in there ∙ ap (λ (b : Bool). if b then found_text entry.tag (body_of entry) else no_message) logged ∙ ap (found_text entry.tag) body
+
+-- the slots of its pieces as they are read are those
+pub own_slots : (table : Map) (index : ℕ) (m : IsMessage table index) (entry : Entry) (body : Parsed) (pieces : List Piece) → look table index ≡ Some entry → body ≡ body_of entry → body ≡ One pieces
+    → slots_of pieces ≡ slots_of m.pieces
+own_slots table index m entry body pieces there read is =
+    let own : entry ≡ m.entry = same_Some entry m.entry (sym there ∙ m.there) in
+    let both : One pieces ≡ One m.pieces = sym is ∙ read ∙ ap body_of own ∙ m.body in
+    let same : pieces ≡ m.pieces = cc both in
+    ap slots_of same
+
+-- so nothing but memory can be missing for it
+gives_none : (fault : SiteFault) (tag : Tag) → GivesOnly (Err fault) tag → fault ≡ Memory
+gives_none NoEntry tag none = absurd none
+gives_none NotLog tag none = absurd none
+gives_none Unsupported tag none = absurd none
+gives_none (Slots position) tag none = absurd none
+gives_none Memory tag none = refl
+
+pub only_memory : (table : Map) (index : ℕ) (slots : List Slot) (fault : SiteFault) (m : IsMessage table index) → slots ≡ slots_of m.pieces
+    → ((tag : Tag) → IsSite table index tag slots → GivesOnly (Err fault) tag) → fault ≡ Memory
+only_memory table index slots fault m same made =
+    gives_none fault m.entry.tag
+    (made m.entry.tag (message_site table index m.entry m.pieces m.there m.logged m.body ∙ ap (message m.entry.tag) (sym same)))
 
 -- ---- one site more
 

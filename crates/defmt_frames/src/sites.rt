@@ -2,10 +2,11 @@
 ghost use Rattle.std.specs.Prelude.{◌≡◌, ◌≤◌, ℕ, length, IfOk, IsSome, OnOk};
 ghost use Rattle.std.specs.Option.{option_copied};
 ghost use Rattle.defmt_script.specs.Script.{statements_by};
+ghost use Rattle.defmt_macros.specs.declared.site.SiteFault.TheVariants.{Memory as OutOfMemory};
 ghost use Rattle.defmt_frames.specs.Sites.{AreSitesOf, HasSites, HaveSites, IsMessage, IsPut, IsSiteOf, Keeps, row_at, site_at};
 
 use defmt_intern::{Parsed, Table};
-use defmt_macros::Site;
+use defmt_macros::{Site, SiteFault};
 use defmt_script::{Script, WRITERS};
 use defmt_values::look_up;
 use dl_io::Memory;
@@ -38,8 +39,18 @@ fn site_of(alloc: Global, table: &Table, index: u16) -> Result<Site, Memory>
     // The string is a message's with these slots, so nothing but memory can be missing.
     match Site::new(alloc, table, index, pieces.slots()) {
         Ok(site) => Ok(site),
-        Err(_) => Err(Memory),
+        Err(fault) => Err(want_of(fault)),
     }
+}
+
+// The want of memory that a fault is.
+fn want_of(fault: SiteFault) -> Memory
+    requires { fault ≡ OutOfMemory }
+{
+    let SiteFault::Memory = fault else {
+        unreachable!()
+    };
+    Memory
 }
 
 impl Sites {
