@@ -1,6 +1,8 @@
 -- One mark more.
 use Rattle.std.proofs.Common.{◌≡◌, ℕ, ◌+◌, ◌<◌, ◌≤◌, List, [], ◌∷◌, ◌++◌, Bool, true, false, ◌==◌, length, length-append, refl, sym, ap, ◌∙◌, subst, inl, inr, append_assoc, append-nil, arith, if◌then◌else◌, slice_index_or, slice_set, length-set, zero-add}
 use Rattle.std.proofs.lemmas.Bool.Decides.{eqb_tells, nat_tests}
+use Rattle.std.proofs.lemmas.List.{get_or_append_left}
+use Rattle.std.proofs.Math.Seq.{get_or-append_seam}
 use Rattle.defmt_frames.specs.Frames.{count, stamp_number}
 use Rattle.rtt_ring.specs.Views.{Up, UpKept, new_up}
 use Rattle.rtt_modes.specs.Fates.{SkippedBy, TrimmedBy, part_of}
@@ -10,8 +12,8 @@ use Rattle.defmt_lines.specs.declared.settings.RingMode.{RingMode}
 use Rattle.defmt_lines.specs.declared.settings.RingMode.TheVariants.{Block, Skip, Trim}
 use Rattle.defmt_script.specs.Script.{Script}
 use Rattle.defmt_logger.specs.declared.mark.Mark.{Mark}
-use Rattle.defmt_logger.specs.Tape.{FateLaw, IsLawful, Leaves, Lost, Released, mark_frame, mark_part, marks_of, places, stream_from, stream_of}
-use Rattle.defmt_logger.specs.Kept.{Behind, Counts, IsKept, LooksIn, Reel, SendsIn, Sheet, TellsIn, next_mark}
+use Rattle.defmt_logger.specs.Tape.{FateLaw, IsLawful, IsLooked, Leaves, LeftBy, Lost, Released, RoomsIn, mark_frame, mark_part, marks_of, places, stream_from, stream_of}
+use Rattle.defmt_logger.specs.Kept.{Behind, Counts, IsKept, LooksIn, Reel, SendsIn, Sheet, TellsIn, last_from, next_mark}
 use Rattle.shared_work.proofs.Counted.{raised}
 use Rattle.shared_work.specs.Places.{AreConsecutive}
 
@@ -103,18 +105,42 @@ lost_by s tape frame need room left found seen e same less = record {
   released = seen.released;
 }
 
-skipped : (s : Script) (tape : List Mark) (frame : List ℕ) (left found : ℕ) (fate : Fate) → Seen s tape found left → SkippedBy left frame fate → FateLaw Skip s tape frame fate × Leaves s tape frame fate found
+skipped : (s : Script) (tape : List Mark) (frame : List ℕ) (left found : ℕ) (fate : Fate) → Seen s tape found left → SkippedBy left frame fate → FateLaw Skip s tape frame fate × LeftBy s tape frame fate found
 skipped s tape frame left found Whole seen b = (tt, omega (arith, seen.sum, b))
 skipped s tape frame left found (Dropped need room) seen b = ((refl, lost_by s tape frame need room left found seen b.0 b.1 b.2), omega (arith, seen.sum, b.1))
 skipped s tape frame left found (Cut need room) seen b = absurd b
 
-trimmed : (s : Script) (tape : List Mark) (frame : List ℕ) (left found : ℕ) (fate : Fate) → Seen s tape found left → TrimmedBy left frame fate → FateLaw Trim s tape frame fate × Leaves s tape frame fate found
+trimmed : (s : Script) (tape : List Mark) (frame : List ℕ) (left found : ℕ) (fate : Fate) → Seen s tape found left → TrimmedBy left frame fate → FateLaw Trim s tape frame fate × LeftBy s tape frame fate found
 trimmed s tape frame left found Whole seen b = (tt, omega (arith, seen.sum, b))
 trimmed s tape frame left found (Dropped need room) seen b = absurd b
 trimmed s tape frame left found (Cut need room) seen b = ((refl, lost_by s tape frame need room left found seen b.0 b.1 b.2), omega (arith, seen.sum, b.1))
 
 released_snoc : (s : Script) (tape : List Mark) (m : Mark) (f : ℕ) → Released s tape f → Leaves s tape (mark_frame s (length tape) m) m.fate f → Released s (tape ++ m ∷ []) f
 released_snoc s tape m f each here = each_snoc (λ before x. Leaves s before (mark_frame s (length before) x) x.fate f) tape m each here
+
+leaves_left : (s : Script) (tape : List Mark) (frame : List ℕ) (fate : Fate) (f : ℕ) → LeftBy s tape frame fate f → Leaves s tape frame fate f
+leaves_left s tape frame Whole f l = l
+leaves_left s tape frame (Dropped need room) f l = omega (arith, l)
+leaves_left s tape frame (Cut need room) f l = omega (arith, l)
+
+-- ---- what each mark's look found
+
+last_from-snoc : (a : ℕ) (xs : List ℕ) (n : ℕ) → last_from a (xs ++ n ∷ []) ≡ n
+last_from-snoc a [] n = refl
+last_from-snoc a (x ∷ xs) n = last_from-snoc x xs n
+
+looked_snoc : (s : Script) (tape : List Mark) (m : Mark) (found : List ℕ) (n : ℕ) → IsLooked s tape found → LeftBy s tape (mark_frame s (length tape) m) m.fate n → IsLooked s (tape ++ m ∷ []) (found ++ n ∷ [])
+looked_snoc s tape m found n h here =
+    let at : List Mark → ℕ → Mark → Type 0 = λ before k x. LeftBy s before (mark_frame s (length before) x) x.fate k in
+    let last : n ≡ slice_index_or (found ++ n ∷ []) (length tape) 0 = sym (ap (λ (k : ℕ). slice_index_or (found ++ n ∷ []) k 0) (sym h.each) ∙ get_or-append_seam found n [] 0) in
+    record {
+      each = length-append found (n ∷ []) ∙ ap (λ (k : ℕ). k + 1) h.each ∙ sym (length-append tape (m ∷ []));
+      left = each_snoc (λ before x. at before (slice_index_or (found ++ n ∷ []) (length before) 0) x) tape m
+          (λ before after x is.
+          let inside : length before < length found = omega (arith, h.each, ap length is, length-append before (x ∷ after)) in
+          subst (λ (k : ℕ). at before k x) (sym (get_or_append_left found (n ∷ []) 0 (length before) inside)) (h.left before after x is))
+          (subst (λ (k : ℕ). at tape k m) last here);
+    }
 
 -- ---- one mark more, in each mode
 
@@ -124,6 +150,7 @@ record Step (mode : RingMode) (s : Script) (tape : List Mark) (m : Mark) (u v : 
   sent : v.sent ≡ u.sent ++ mark_part s (length tape) m
   kept : UpKept u v
   looks : (n : ℕ) → LooksIn mode n u.looks → LooksIn mode (n + 1) v.looks
+  rooms : (found : List ℕ) → RoomsIn mode s tape found → RoomsIn mode s (tape ++ m ∷ []) (found ++ v.freed ∷ [])
 
 step : (s : Script) (tape : List Mark) (m : Mark) (u v : Up) → u.sent ≡ stream_of s tape → u.size ≡ s.settings.ring
     → (mode : RingMode) → Behind mode s tape u → SendsIn mode u v (mark_frame s (length tape) m) m.fate → Step mode s tape m u v
@@ -133,36 +160,42 @@ step s tape m u v sent size Block b f = record {
   sent = f.sent ∙ ap (λ (x : Fate). u.sent ++ part_of (mark_frame s (length tape) m) x) (sym f.whole);
   kept = f.kept;
   looks = λ n h. omega (arith, h, f.looks);
+  rooms = λ found h. tt;
 }
 step s tape m u v sent size Skip b f =
     let seen : Seen s tape v.freed f.left = seen_by s tape u v f.left sent size b.1 f.kept.later (f.told b.0) f.within in
     let law = skipped s tape (mark_frame s (length tape) m) f.left v.freed m.fate seen f.fate_is in
     record {
       fate = law.0;
-      behind = (f.kept.tells ∙ b.0, released_snoc s tape m v.freed seen.released law.1);
+      behind = (f.kept.tells ∙ b.0, released_snoc s tape m v.freed seen.released (leaves_left s tape (mark_frame s (length tape) m) m.fate v.freed law.1));
       sent = f.sent;
       kept = f.kept;
       looks = λ n h. f.looks ∙ ap (λ (k : ℕ). k + 1) h;
+      rooms = λ found h. looked_snoc s tape m found v.freed h law.1;
     }
 step s tape m u v sent size Trim b f =
     let seen : Seen s tape v.freed f.left = seen_by s tape u v f.left sent size b.1 f.kept.later (f.told b.0) f.within in
     let law = trimmed s tape (mark_frame s (length tape) m) f.left v.freed m.fate seen f.fate_is in
     record {
       fate = law.0;
-      behind = (f.kept.tells ∙ b.0, released_snoc s tape m v.freed seen.released law.1);
+      behind = (f.kept.tells ∙ b.0, released_snoc s tape m v.freed seen.released (leaves_left s tape (mark_frame s (length tape) m) m.fate v.freed law.1));
       sent = f.sent;
       kept = f.kept;
       looks = λ n h. f.looks ∙ ap (λ (k : ℕ). k + 1) h;
+      rooms = λ found h. looked_snoc s tape m found v.freed h law.1;
     }
 
 pub kept_append : (d : Sheet) (now : Reel) (w : ℕ) (fate : Fate) (v : Up)
     → IsKept d
     → now.marks ≡ d.tape.marks ++ next_mark d.script d.tape.marks w fate ∷ []
     → now.room + 1 ≡ d.tape.room
+    → now.split ≡ d.tape.split
+    → now.looks ≡ v.looks
+    → now.found ≡ d.tape.found ++ v.freed ∷ []
     → marks_of w d.tape.marks < count d.script w
     → SendsIn d.script.settings.mode d.up v (mark_frame d.script (length d.tape.marks) (next_mark d.script d.tape.marks w fate)) fate
     → IsKept (record { script = d.script; tape = now; up = v })
-kept_append d now w fate v k is room more sends =
+kept_append d now w fate v k is room split looks found more sends =
     let s = d.script in
     let tape : List Mark = d.tape.marks in
     let m : Mark = next_mark s tape w fate in
@@ -182,6 +215,13 @@ kept_append d now w fate v k is room more sends =
       behind = subst (λ (l : List Mark). Behind s.settings.mode s l v) (sym is) one.behind;
       looks = subst (λ (n : ℕ). LooksIn s.settings.mode n v.looks) (sym len) (one.looks (length tape) k.looks);
       room = omega (arith, len, room, k.room);
+      tape = record {
+        split = split ∙ k.tape.split ∙ sym one.kept.split;
+        looks = looks;
+        latest = ap (last_from 0) found ∙ last_from-snoc 0 d.tape.found v.freed;
+      };
+      rooms = subst (λ (l : List Mark). RoomsIn s.settings.mode s l now.found) (sym is)
+          (subst (RoomsIn s.settings.mode s (tape ++ m ∷ [])) (sym found) (one.rooms d.tape.found k.rooms));
     }
 
 -- ---- the writers' next places
@@ -204,9 +244,14 @@ looks_first Block looks e = omega (arith, e)
 looks_first Skip looks e = e
 looks_first Trim looks e = e
 
-pub kept_first : (s : Script) (tape : Reel) (u : Up) → tape.marks ≡ [] → tape.room ≡ 4096 → u ≡ new_up u.split s.settings.ring u.tells → TellsIn s.settings.mode u
+rooms_first : (mode : RingMode) (s : Script) → RoomsIn mode s [] []
+rooms_first Block s = tt
+rooms_first Skip s = record { each = refl; left = λ before after m e. absurd (none_before before m after e) }
+rooms_first Trim s = record { each = refl; left = λ before after m e. absurd (none_before before m after e) }
+
+pub kept_first : (s : Script) (tape : Reel) (u : Up) → tape.marks ≡ [] → tape.room ≡ 4096 → (tape.split ≡ u.split) × (tape.looks ≡ u.looks) × (tape.found ≡ []) → u ≡ new_up u.split s.settings.ring u.tells → TellsIn s.settings.mode u
     → IsKept (record { script = s; tape = tape; up = u })
-kept_first s tape u none room fresh tells =
+kept_first s tape u none room end fresh tells =
     let len : length tape.marks ≡ 0 = ap length none in
     record {
       lawful = subst (IsLawful s) (sym none) (record {
@@ -221,4 +266,10 @@ kept_first s tape u none room fresh tells =
       behind = subst (λ (l : List Mark). Behind s.settings.mode s l u) (sym none) (behind_first s.settings.mode s u tells);
       looks = subst (λ (n : ℕ). LooksIn s.settings.mode n u.looks) (sym len) (looks_first s.settings.mode u.looks (ap (λ (x : Up). x.looks) fresh));
       room = omega (arith, len, room);
+      tape = record {
+        split = end.0;
+        looks = end.1;
+        latest = ap (last_from 0) end.2 ∙ sym (ap (λ (x : Up). x.freed) fresh);
+      };
+      rooms = subst (λ (l : List Mark). RoomsIn s.settings.mode s l tape.found) (sym none) (subst (RoomsIn s.settings.mode s []) (sym end.2) (rooms_first s.settings.mode s));
     }

@@ -37,6 +37,7 @@ pub record Next (d : Sheet) (places : List ℕ) (w : ℕ) (fate : Fate) (now : R
   pub sends : SendsIn d.script.settings.mode d.up v (frame_at d.script (length d.tape.marks) w (marks_of w d.tape.marks) (stamp_number d.script (length d.tape.marks))) fate
   pub kept : IsKept (record { script = d.script; tape = now; up = v })
   pub counts : Counts (slice_set places w (slice_index_or places w 0 + 1)) now.marks
+  pub found : now.found ≡ d.tape.found ++ v.freed ∷ []
 
 pub next_is : (d : Sheet) (sites : Sites) (places : List ℕ) (pace : Pace) (message frame : List ℕ) (w t stamp : ℕ) (fate : Fate) (now : Reel) (v : Up)
     → IsWorking d sites places pace message frame
@@ -46,9 +47,10 @@ pub next_is : (d : Sheet) (sites : Sites) (places : List ℕ) (pace : Pace) (mes
     → stamp ≡ pace.base + pace.step * t
     → now.marks ≡ d.tape.marks ++ (record { writer = w; place = slice_index_or places w 0; stamp = stamp; fate = fate }) ∷ []
     → now.room + 1 ≡ d.tape.room
+    → (now.split ≡ d.tape.split) × (now.looks ≡ v.looks) × (now.found ≡ d.tape.found ++ v.freed ∷ [])
     → SendsIn d.script.settings.mode d.up v (frame_at d.script t w (slice_index_or places w 0) stamp) fate
     → Next d places w fate now v
-next_is d sites places pace message frame w t stamp fate now v k h more t_is given marks room sends =
+next_is d sites places pace message frame w t stamp fate now v k h more t_is given marks room end sends =
     let s = d.script in
     let tape : List Mark = d.tape.marks in
     let below : w < 8 = writer_is s tape w h more in
@@ -60,8 +62,9 @@ next_is d sites places pace message frame w t stamp fate now v k h more t_is giv
     record {
       marks = is;
       sends = sent;
-      kept = kept_append d now w fate v k.kept is room more sent;
+      kept = kept_append d now w fate v k.kept is room end.0 end.1 end.2 more sent;
       counts = counts_append places tape now.marks (next_mark s tape w fate) k.counts is below;
+      found = end.2;
     }
 
 -- ---- a desk on which nothing was logged

@@ -10,10 +10,10 @@ use Rattle.rtt_ring.specs.Codes.{coded_up}
 use Rattle.rtt_ring.specs.Views.{Up}
 
 abbrev pub coded_reel : Coded Reel
-coded_reel = code_by (List Mark × ℕ)
-    (coded× (coded_list mark_row.coded) coded_ℕ)
-    (λ r. (r.marks, r.room))
-    (λ p. record { marks = p.0; room = p.1 })
+coded_reel = code_by (List Mark × (ℕ × (List ℕ × (ℕ × List ℕ))))
+    (coded× (coded_list mark_row.coded) (coded× coded_ℕ (coded× (coded_list coded_ℕ) (coded× coded_ℕ (coded_list coded_ℕ)))))
+    (λ r. (r.marks, (r.room, (r.split, (r.looks, r.found)))))
+    (λ p. record { marks = p.0; room = p.1.0; split = p.1.1.0; looks = p.1.1.1.0; found = p.1.1.1.1 })
     (λ _. refl)
 
 abbrev pub coded_sheet : Coded Sheet

@@ -1,12 +1,12 @@
 -- What contracts see of a tape and of a desk, and what a desk keeps.
-use Rattle.std.specs.Prelude.{◌≡◌, ℕ, ◌+◌, ◌<◌, ◌≤◌, true, List, [], ◌++◌, length, slice_index_or}
+use Rattle.std.specs.Prelude.{◌≡◌, ℕ, ◌+◌, ◌<◌, ◌≤◌, true, List, [], ◌∷◌, ◌++◌, length, slice_index_or}
 use Rattle.defmt_frames.specs.Frames.{pace_of, stamp_number}
 use Rattle.defmt_frames.specs.Sites.{HasSites}
 use Rattle.defmt_frames.specs.declared.sites.Sites.{Sites}
 use Rattle.defmt_hooks.specs.Even.{Pace}
 use Rattle.defmt_lines.specs.declared.settings.RingMode.{RingMode}
 use Rattle.defmt_lines.specs.declared.settings.RingMode.TheVariants.{Block, Skip, Trim}
-use Rattle.defmt_logger.specs.Tape.{IsLawful, Released, marks_of, stream_of}
+use Rattle.defmt_logger.specs.Tape.{IsLawful, Released, RoomsIn, marks_of, stream_of}
 use Rattle.defmt_logger.specs.declared.mark.Mark.{Mark}
 use Rattle.defmt_script.specs.Lawful.{statements_limit}
 use Rattle.defmt_script.specs.Script.{Script}
@@ -15,10 +15,14 @@ use Rattle.rtt_modes.specs.declared.fate.Fate.{Fate}
 use Rattle.rtt_modes.specs.declared.fate.Fate.TheVariants.{Whole}
 use Rattle.rtt_ring.specs.Views.{Up, UpKept}
 
--- a tape: its marks, and for how many more it has room
+-- a tape: its marks, for how many more it has room, the name of the split that its end is from, how many looks this end
+-- made, and for each mark how many bytes the last look for it found released
 pub record Reel : Type 0 where
   pub marks : List Mark
   pub room : ℕ
+  pub split : List ℕ
+  pub looks : ℕ
+  pub found : List ℕ
 
 -- a desk: its script, its tape, and the end of the ring that it writes to
 pub record Sheet : Type 0 where
@@ -49,6 +53,17 @@ SendsIn Trim u v frame fate = ByLook TrimmedBy u v frame fate
 
 -- ---- what a desk keeps
 
+-- the last of these numbers, where n comes before them all
+abbrev pub last_from : ℕ → List ℕ → ℕ
+last_from n [] = n
+last_from n (x ∷ xs) = last_from x xs
+
+-- a tape is that of an end: it is from the same split, and has its looks and what the last of them found
+pub record IsOf (tape : Reel) (u : Up) : Type 0 where
+  pub split : tape.split ≡ u.split
+  pub looks : tape.looks ≡ u.looks
+  pub latest : last_from 0 tape.found ≡ u.freed
+
 -- in skip and trim mode what the looks of the tape found released is at most what the end knows
 abbrev pub Behind : RingMode → Script → List Mark → Up → Type 0
 Behind Block s tape u = Unit {0}
@@ -61,8 +76,8 @@ LooksIn Block marks looks = marks ≤ looks
 LooksIn Skip marks looks = looks ≡ marks
 LooksIn Trim marks looks = looks ≡ marks
 
--- The tape is lawful, the ring was sent its stream, and nothing is staged. The tape's room is for all statements that a
--- script can have.
+-- The tape is lawful, and that of the end. The ring was sent its stream, and nothing is staged. What each mark tells of its
+-- room is what its look found. The tape's room is for all statements that a script can have.
 pub record IsKept (d : Sheet) : Type 0 where
   pub lawful : IsLawful d.script d.tape.marks
   pub sent : d.up.sent ≡ stream_of d.script d.tape.marks
@@ -71,6 +86,8 @@ pub record IsKept (d : Sheet) : Type 0 where
   pub behind : Behind d.script.settings.mode d.script d.tape.marks d.up
   pub looks : LooksIn d.script.settings.mode (length d.tape.marks) d.up.looks
   pub room : length d.tape.marks + d.tape.room ≡ statements_limit
+  pub tape : IsOf d.tape d.up
+  pub rooms : RoomsIn d.script.settings.mode d.script d.tape.marks d.tape.found
 
 -- eight numbers, how many marks each writer has
 abbrev pub Counts : List ℕ → List Mark → Type 0

@@ -1,11 +1,11 @@
 -- Tapes: a mark for each statement that was logged, in the order in which the writers acquired the logger.
-use Rattle.std.specs.Prelude.{◌≡◌, ℕ, ◌+◌, ◌<◌, ◌≤◌, ◌==◌, List, [], ◌∷◌, ◌++◌, length, Option, Some, None, if◌then◌else◌, slice_get}
+use Rattle.std.specs.Prelude.{◌≡◌, ℕ, ◌+◌, ◌<◌, ◌≤◌, ◌==◌, List, [], ◌∷◌, ◌++◌, length, Option, Some, None, if◌then◌else◌, slice_get, slice_index_or}
 use Rattle.defmt_eager.specs.Line.{eager_line}
 use Rattle.defmt_encode.specs.Carry.{stamp_args}
 use Rattle.defmt_frames.specs.Frames.{count, frame_at, stamp_number}
 use Rattle.defmt_intern.specs.Table.{Map}
 use Rattle.defmt_lines.specs.declared.settings.RingMode.{RingMode}
-use Rattle.defmt_lines.specs.declared.settings.RingMode.TheVariants.{Skip, Trim}
+use Rattle.defmt_lines.specs.declared.settings.RingMode.TheVariants.{Block, Skip, Trim}
 use Rattle.defmt_logger.specs.declared.mark.Mark.{Mark}
 use Rattle.defmt_script.specs.Lawful.{stamp_in}
 use Rattle.defmt_script.specs.Script.{Script, statements_by}
@@ -98,3 +98,26 @@ pub record IsLawful (s : Script) (tape : List Mark) : Type 0 where
       → m.stamp ≡ stamp_number s (length before)
   pub fates : (before after : List Mark) (m : Mark) → tape ≡ before ++ m ∷ after
       → FateLaw s.settings.mode s before (mark_frame s (length before) m) m.fate
+
+-- ---- what each mark's look found
+
+-- A look that found f bytes released had room for a frame behind these marks if its fate is Whole, and else had just the room
+-- that its fate says.
+abbrev pub LeftBy : Script → List Mark → List ℕ → Fate → ℕ → Type 0
+LeftBy s before frame Whole f = Leaves s before frame Whole f
+LeftBy s before frame (Dropped need room) f =
+    room + length (stream_of s before) + 1 ≡ s.settings.ring + f
+LeftBy s before frame (Cut need room) f =
+    room + length (stream_of s before) + 1 ≡ s.settings.ring + f
+
+-- each mark of a tape has a look, which found this number of bytes released, and its fate is by the room that was left
+pub record IsLooked (s : Script) (tape : List Mark) (found : List ℕ) : Type 0 where
+  pub each : length found ≡ length tape
+  pub left : (before after : List Mark) (m : Mark) → tape ≡ before ++ m ∷ after
+      → LeftBy s before (mark_frame s (length before) m) m.fate (slice_index_or found (length before) 0)
+
+-- so in skip and trim mode; in blocking mode no room is told
+abbrev pub RoomsIn : RingMode → Script → List Mark → List ℕ → Type 0
+RoomsIn Block s tape found = Unit {0}
+RoomsIn Skip s tape found = IsLooked s tape found
+RoomsIn Trim s tape found = IsLooked s tape found

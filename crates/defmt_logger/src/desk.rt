@@ -25,7 +25,7 @@ const STATEMENTS: usize = 4096;
 /// A script, the sites of its strings, the tape of those of its statements that were logged, and the end of a ring that
 /// their frames go to.
 ///
-/// Between two calls the tape is lawful, what was sent is its stream, and nothing is staged.
+/// Between two calls the tape is lawful and that of the end, what was sent is its stream, and nothing is staged.
 #[derive(Drop)]
 pub struct Desk<U: UpEnd, C: Clock> {
     script: Script,
@@ -120,27 +120,31 @@ fn zeros(alloc: Global, count: usize) -> Result<Vec<u8>, Memory>
     Ok(vec![in alloc; 0u8; count]?)
 }
 
-// A tape with room for all statements that a script can have.
-fn blank_tape(alloc: Global) -> Result<Tape, Memory>
+// A tape for an end, with room for all statements that a script can have.
+fn blank_tape<U: UpEnd>(alloc: Global, up: &U) -> Result<Tape, Memory>
     ensures marks { IfOk result (λ tape. tape.marks ≡ []) }
     ensures room { IfOk result (λ tape. tape.room ≡ 4096) }
+    ensures end { IfOk result (λ tape. (tape.split ≡ (U.view up.now).split)
+        × (tape.looks ≡ (U.view up.now).looks) × (tape.found ≡ [])) }
 {
-    let mut tape = Tape::new(alloc);
+    let mut tape = Tape::of(alloc, up);
     tape.reserve(STATEMENTS)?;
     Ok(tape)
 }
 
-// The sites of a script's strings, a tape, and the buffers for a message and a frame.
-fn prepare(alloc: Global, script: &Script) -> Result<Prepared, Memory>
+// The sites of a script's strings, a tape for an end, and the buffers for a message and a frame.
+fn prepare<U: UpEnd>(alloc: Global, script: &Script, up: &U) -> Result<Prepared, Memory>
     ensures sites { IfOk result (λ p. HasSites script.now p.sites) }
     ensures marks { IfOk result (λ p. p.tape.marks ≡ []) }
     ensures room { IfOk result (λ p. p.tape.room ≡ 4096) }
+    ensures end { IfOk result (λ p. (p.tape.split ≡ (U.view up.now).split)
+        × (p.tape.looks ≡ (U.view up.now).looks) × (p.tape.found ≡ [])) }
     ensures message { IfOk result (λ p. length p.message.items ≡ 2000) }
     ensures frame { IfOk result (λ p. length p.frame.items ≡ 2288) }
 {
     let message = zeros(alloc, MESSAGE_LIMIT)?;
     let frame = zeros(alloc, FRAME_SIZE)?;
-    let tape = blank_tape(alloc)?;
+    let tape = blank_tape(alloc, up)?;
     let sites = Sites::of(alloc, script)?;
     Ok(Prepared {
         sites,
@@ -162,8 +166,10 @@ impl<U: UpEnd, C: Clock> Desk<U, C> {
             (frame_at self.old.script (length self.old.tape.marks) writer
             (marks_of writer self.old.tape.marks)
             (stamp_number self.old.script (length self.old.tape.marks))) result }
+        ensures found { self.new.tape.found ≡ self.old.tape.found ++ self.new.up.freed ∷ [] }
         ensures script { self.new.script ≡ self.old.script }
         ensures split { self.new.up.split ≡ self.old.up.split }
+        ensures tells { self.new.up.tells ≡ self.old.up.tells }
         ensures kept { IsKept self.new }
         ensures relief { R.kept relief.new }
     {
@@ -186,12 +192,13 @@ impl<U: UpEnd, C: Clock> Desk<U, C> {
             &mut self.frame,
             relief,
         );
-        self.tape.push_reserved(Mark {
+        let mark = Mark {
             writer,
             place,
             stamp,
             fate,
-        });
+        };
+        self.tape.push_reserved(mark, &self.up);
         self.places[writer as usize] = place + 1;
         fate
     }
@@ -214,7 +221,7 @@ impl<U: UpEnd + Drop, C: Clock + Drop> Desk<U, C> {
         ensures up { IfOk result (λ desk. desk.up ≡ U.view up) }
         ensures kept { IfOk result (λ desk. IsKept desk) }
     {
-        let own = prepare(alloc, &script)?;
+        let own = prepare(alloc, &script, &up)?;
         let Prepared {
             sites,
             tape,

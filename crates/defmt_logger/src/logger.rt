@@ -78,7 +78,8 @@ impl<E: Names, K: Naming, U: UpEnd + Drop, C: Clock + Drop> Logger<
         requires fresh { U.view up
             ≡ new_up (U.view up).split script.settings.ring (U.view up).tells }
         requires told { TellsIn script.settings.mode (U.view up) }
-        requires names { (K.script ≡ script) × (K.split ≡ (U.view up).split) }
+        requires names { (K.script ≡ script) × (K.split ≡ (U.view up).split)
+            × (K.tells ≡ (U.view up).tells) }
         requires ledgers { AreNamed blanks E.names }
         ensures p0 { IfOk result (λ r. r.1.p0.place ≡ 0) }
         ensures p1 { IfOk result (λ r. r.1.p1.place ≡ 0) }
@@ -101,11 +102,12 @@ impl<E: Names, K: Naming, U: UpEnd + Drop, C: Clock + Drop> Logger<
 
     /// The tape, the end of the ring and the script, once all eight pens are back. Takes no memory.
     ///
-    /// The script is the one that `start` took, and the end comes from the same split as the one that `start` took. Each
-    /// writer has as many marks as its pen's place.
+    /// The script is the one that `start` took, and the end comes from the same split as the one that `start` took, as the tape
+    /// tells. Each writer has as many marks as its pen's place.
     pub fn close(self, pens: Pens<E, EachStatement<K>>) -> (Tape, U, Script)
         ensures script { result.2 ≡ K.script }
         ensures split { (U.view result.1).split ≡ K.split }
+        ensures tells { (U.view result.1).tells ≡ K.tells }
         ensures kept { IsKept
             (record { script = result.2; tape = result.0; up = U.view result.1 }) }
         ensures p0 { marks_of 0 result.0.marks ≡ pens.p0.place }

@@ -1,5 +1,5 @@
 //! What a logger's writers share.
-ghost use Rattle.std.specs.Prelude.{◌≡◌, ℕ, List, []};
+ghost use Rattle.std.specs.Prelude.{◌≡◌, ℕ, Bool, true, List, []};
 ghost use Rattle.defmt_frames.specs.Frames.{count};
 ghost use Rattle.defmt_logger.specs.Codes.{coded_sheet};
 ghost use Rattle.defmt_logger.specs.Kept.{Sheet};
@@ -15,19 +15,25 @@ use shared_work::{Quota, Work};
 use std::marker::{Brand, Model, PhantomData};
 use std::sync::Wait;
 
-/// Which script a logger has, and from which split of a ring its end comes. Whoever starts a logger picks the two.
+/// Which script a logger has, from which split of a ring its end comes, and whether the ring tells how many bytes were released.
+/// Whoever starts a logger picks them.
 pub trait Naming {
     /// The script.
     ghost script: { Script };
 
     /// The name of the split.
     ghost split: { List ℕ };
+
+    /// Whether the ring tells how many bytes were released.
+    ghost tells: { Bool };
 }
 
 impl Naming for Brand {
     ghost script = { empty_script };
 
     ghost split = { [] };
+
+    ghost tells = { true };
 }
 
 /// The quota of a logger: a writer has a step for each of its statements.
@@ -40,7 +46,7 @@ impl<K: Naming> Quota for EachStatement<K> {
     ghost quota = { λ w. count K.script w };
 }
 
-/// A desk with what its naming tells: the script is the named one, and the end is from the named split.
+/// A desk with what its naming tells: the script is the named one, the end is from the named split, and tells what is named.
 #[derive(Drop)]
 pub struct Logging<K: Naming, U: UpEnd, C: Clock> {
     pub(crate) desk: Desk<U, C>,
@@ -54,7 +60,8 @@ impl<K: Naming, U: UpEnd, C: Clock> Model for Logging<K, U, C> {
 
     ghost view = { λ l. l.desk };
 
-    ghost invariant = { λ l. (l.desk.script ≡ K.script) × (l.desk.up.split ≡ K.split) };
+    ghost invariant = { λ l. (l.desk.script ≡ K.script) × (l.desk.up.split ≡ K.split)
+        × (l.desk.up.tells ≡ K.tells) };
 }
 
 impl<K: Naming, U: UpEnd, C: Clock> Work<EachStatement<K>> for Logging<K, U, C> {

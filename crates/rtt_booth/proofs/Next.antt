@@ -43,9 +43,9 @@ next_by : (d : Sheet) (places : List ℕ) (current w place : ℕ) (s : Saying) (
     → place ≡ words_of w d.said.words
     → slice_get (said_by d.speech w) place ≡ Some s → s.terminal < 16
     → v.sent ≡ d.up.sent ++ line_from current s.terminal s.text → v.staged ≡ []
-    → now.words ≡ d.said.words ++ word w place ∷ [] → now.room + 1 ≡ d.said.room
+    → now.words ≡ d.said.words ++ word w place ∷ [] → now.room + 1 ≡ d.said.room → now.split ≡ v.split
     → Next d places w s.terminal now v
-next_by d places current w place s now v k counts current_is below more place_is there small sent staged words room =
+next_by d places current w place s now v k counts current_is below more place_is there small sent staged words room split =
     let said : List Word = d.said.words in
     let same : now.words ≡ said ++ next_word said w ∷ [] = words ∙ ap (λ (n : ℕ). said ++ word w n ∷ []) place_is in
     let spoken : v.sent ≡ spoken_by d.speech now.words =
@@ -59,6 +59,7 @@ next_by d places current w place s now v k counts current_is below more place_is
         sent = spoken;
         staged = staged;
         room = omega (arith, ap length words, length-append said (word w place ∷ []), k.room, room);
+        split = split;
       };
       counts = counts_append places said now.words (word w place) counts words below;
       current_is = sym (current_more d.speech said w place s there) ∙ ap (λ (l : List Word). current_after 0 (lines_of d.speech l)) (sym words);
@@ -70,25 +71,26 @@ pub next_is : (d : Sheet) (places : List ℕ) (current : ℕ) (line : List ℕ) 
     → slice_get (said_by d.speech w) (slice_index_or places w 0) ≡ Some s
     → terminal ≡ s.terminal → text ≡ s.text → s.terminal < 16
     → v.sent ≡ d.up.sent ++ line_from current terminal text → v.staged ≡ []
-    → now.words ≡ d.said.words ++ word w (slice_index_or places w 0) ∷ [] → now.room + 1 ≡ d.said.room
+    → now.words ≡ d.said.words ++ word w (slice_index_or places w 0) ∷ [] → now.room + 1 ≡ d.said.room → now.split ≡ v.split
     → Next d places w terminal now v
-next_is d places current line w terminal text s now v k below more there terminal_is text_is small sent staged words room =
+next_is d places current line w terminal text s now v k below more there terminal_is text_is small sent staged words room split =
     let sent_is : v.sent ≡ d.up.sent ++ line_from current s.terminal s.text =
     sent ∙ ap (λ (n : ℕ). d.up.sent ++ line_from current n text) terminal_is ∙ ap (λ (l : List ℕ). d.up.sent ++ line_from current s.terminal l) text_is in
     subst (λ (n : ℕ). Next d places w n now v) (sym terminal_is)
-    (next_by d places current w (slice_index_or places w 0) s now v k.kept k.counts k.current_is below more (k.counts.1 w below) there small sent_is staged words room)
+    (next_by d places current w (slice_index_or places w 0) s now v k.kept k.counts k.current_is below more (k.counts.1 w below) there small sent_is staged words room split)
 
 -- ---- a stand at which nothing was said
 
 pub no_counts : (words : List Word) → words ≡ [] → Counts (0 ∷ 0 ∷ 0 ∷ 0 ∷ 0 ∷ 0 ∷ 0 ∷ 0 ∷ []) words
 no_counts words none = (refl, λ w lt. zeros 8 w ∙ sym (ap (words_of w) none))
 
-pub kept_first : (speech : Speech) (said : Reel) (u : Up) → said.words ≡ [] → said.room ≡ 4096 → u.sent ≡ [] → u.staged ≡ [] → IsKept (record { speech = speech; said = said; up = u })
-kept_first speech said u none room sent staged = record {
+pub kept_first : (speech : Speech) (said : Reel) (u : Up) → said.words ≡ [] → said.room ≡ 4096 → said.split ≡ u.split → u.sent ≡ [] → u.staged ≡ [] → IsKept (record { speech = speech; said = said; up = u })
+kept_first speech said u none room split sent staged = record {
   lawful = subst (λ (l : List Word). IsLawful speech l) (sym none) (lawful_none speech);
   sent = sent ∙ ap (spoken_by speech) (sym none);
   staged = staged;
   room = omega (arith, ap length none, room);
+  split = split;
 }
 
 pub current_first : (speech : Speech) (words : List Word) → words ≡ [] → 0 ≡ current_after 0 (lines_of speech words)

@@ -10,10 +10,10 @@ use Rattle.rtt_terminal.specs.Codes.{coded_speech}
 use Rattle.rtt_terminal.specs.Speech.{Speech}
 
 abbrev pub coded_reel : Coded Reel
-coded_reel = code_by (List Word × ℕ)
-    (coded× (coded_list word_row.coded) coded_ℕ)
-    (λ r. (r.words, r.room))
-    (λ p. record { words = p.0; room = p.1 })
+coded_reel = code_by (List Word × (ℕ × List ℕ))
+    (coded× (coded_list word_row.coded) (coded× coded_ℕ (coded_list coded_ℕ)))
+    (λ r. (r.words, (r.room, r.split)))
+    (λ p. record { words = p.0; room = p.1.0; split = p.1.1 })
     (λ _. refl)
 
 abbrev pub coded_sheet : Coded Sheet

@@ -6,10 +6,11 @@ use Rattle.rtt_ring.specs.Views.{Up}
 use Rattle.rtt_terminal.specs.Speech.{Speech, texts_limit}
 use Rattle.rtt_terminal.specs.Stream.{Line, line_bytes, switch}
 
--- said words, and for how many more there is room
+-- said words, for how many more there is room, and the name of the split that their end is from
 pub record Reel : Type 0 where
   pub words : List Word
   pub room : ℕ
+  pub split : List ℕ
 
 -- a stand: what writers have to say, the words that were said, and the end of the ring that it speaks to
 pub record Sheet : Type 0 where
@@ -20,12 +21,14 @@ pub record Sheet : Type 0 where
 abbrev pub word : ℕ → ℕ → Word
 word writer place = record { writer = writer; place = place }
 
--- The words are lawful, the ring was sent what they speak, and nothing is staged. There is room for a word of each text.
+-- The words are lawful and those of the end, the ring was sent what they speak, and nothing is staged. There is room for a word
+-- of each text.
 pub record IsKept (d : Sheet) : Type 0 where
   pub lawful : IsLawful d.speech d.said.words
   pub sent : d.up.sent ≡ spoken_by d.speech d.said.words
   pub staged : d.up.staged ≡ []
   pub room : length d.said.words + d.said.room ≡ texts_limit
+  pub split : d.said.split ≡ d.up.split
 
 -- ---- for private clauses
 

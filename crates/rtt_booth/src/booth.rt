@@ -84,7 +84,8 @@ impl<E: Names, K: Naming, U: UpEnd + Drop> Booth<Eight<E>, EachText<K>, Speaking
         up: U,
     ) -> Result<(Self, Pens<E, EachText<K>>), Memory>
         requires fresh { U.view up ≡ new_up (U.view up).split (U.view up).size (U.view up).tells }
-        requires names { (K.speech ≡ speech.now) × (K.split ≡ (U.view up).split) }
+        requires names { (K.speech ≡ speech.now) × (K.split ≡ (U.view up).split)
+            × (K.tells ≡ (U.view up).tells) }
         requires ledgers { AreNamed blanks E.names }
         ensures p0 { IfOk result (λ r. r.1.p0.place ≡ 0) }
         ensures p1 { IfOk result (λ r. r.1.p1.place ≡ 0) }
@@ -107,11 +108,14 @@ impl<E: Names, K: Naming, U: UpEnd + Drop> Booth<Eight<E>, EachText<K>, Speaking
 
     /// The words that were said and the end of the ring, once all eight voices are back. Takes no memory.
     ///
-    /// The words are lawful for what `start` took, the end comes from the same split as the one that `start` took and was
-    /// sent what the words speak, and nothing is staged. Each writer has as many words as its voice's place.
+    /// The words are lawful for what `start` took, and those of the end. This comes from the same split as the one that
+    /// `start` took and was sent what the words speak, and nothing is staged. Each writer has as many words as its voice's
+    /// place.
     pub fn close(self, voices: Pens<E, EachText<K>>) -> (Said, U)
         ensures lawful { IsLawful K.speech result.0.words }
         ensures split { (U.view result.1).split ≡ K.split }
+        ensures tells { (U.view result.1).tells ≡ K.tells }
+        ensures said { result.0.split ≡ (U.view result.1).split }
         ensures sent { (U.view result.1).sent ≡ spoken_by K.speech result.0.words }
         ensures staged { (U.view result.1).staged ≡ [] }
         ensures p0 { words_of 0 result.0.words ≡ voices.p0.place }

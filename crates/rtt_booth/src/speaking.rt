@@ -6,10 +6,10 @@ use shared_work::{Quota, Work};
 use std::marker::{Brand, Model, PhantomData};
 use std::sync::Wait;
 
-/// What the writers of a booth have to say, and from which split of a ring its end comes. Whoever starts a booth picks the
-/// two.
+/// What the writers of a booth have to say, from which split of a ring its end comes, and whether the ring tells how many bytes
+/// were released. Whoever starts a booth picks them.
 pub trait Naming {
-    ghost use Rattle.std.specs.Prelude.{ℕ, List};
+    ghost use Rattle.std.specs.Prelude.{ℕ, Bool, List};
     ghost use Rattle.rtt_terminal.specs.Speech.{Speech as ByWriter};
 
     /// What the writers have to say.
@@ -17,14 +17,19 @@ pub trait Naming {
 
     /// The name of the split.
     ghost split: { List ℕ };
+
+    /// Whether the ring tells how many bytes were released.
+    ghost tells: { Bool };
 }
 
 impl Naming for Brand {
-    ghost use Rattle.std.specs.Prelude.{[]};
+    ghost use Rattle.std.specs.Prelude.{true, []};
 
     ghost speech = { [] };
 
     ghost split = { [] };
+
+    ghost tells = { true };
 }
 
 /// The quota of a booth: a writer has a step for each of its texts.
@@ -39,7 +44,8 @@ impl<K: Naming> Quota for EachText<K> {
     ghost quota = { λ w. count_said K.speech w };
 }
 
-/// A stand with what its naming tells: its writers have to say what is named, and the end is from the named split.
+/// A stand with what its naming tells: its writers have to say what is named, the end is from the named split, and tells what is
+/// named.
 #[derive(Drop)]
 pub struct Speaking<K: Naming, U: UpEnd> {
     pub(crate) stand: Stand<U>,
@@ -57,7 +63,8 @@ impl<K: Naming, U: UpEnd> Model for Speaking<K, U> {
 
     ghost view = { λ s. s.stand };
 
-    ghost invariant = { λ s. (s.stand.speech ≡ K.speech) × (s.stand.up.split ≡ K.split) };
+    ghost invariant = { λ s. (s.stand.speech ≡ K.speech) × (s.stand.up.split ≡ K.split)
+        × (s.stand.up.tells ≡ K.tells) };
 }
 
 impl<K: Naming, U: UpEnd> Work<EachText<K>> for Speaking<K, U> {

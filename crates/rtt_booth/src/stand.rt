@@ -23,7 +23,7 @@ const TEXTS: usize = 4096;
 
 /// What writers have to say, the words that were said of it, and the end of a ring that they are spoken to.
 ///
-/// Between two calls the words are lawful, what was sent is what they speak, and nothing is staged.
+/// Between two calls the words are lawful and those of the end, what was sent is what they speak, and nothing is staged.
 #[derive(Drop)]
 pub struct Stand<U: UpEnd> {
     speech: Speech,
@@ -84,12 +84,13 @@ fn send_line<U: UpEnd, R: Relief, W: Wait>(
     block(rt, up, &buffer[..count], relief);
 }
 
-// No words, and room for those of all texts that writers can have.
-fn new_said(alloc: Global) -> Result<Said, Memory>
+// No words for an end, and room for those of all texts that writers can have.
+fn new_said<U: UpEnd>(alloc: Global, up: &U) -> Result<Said, Memory>
     ensures words { IfOk result (λ said. said.words ≡ []) }
     ensures room { IfOk result (λ said. said.room ≡ 4096) }
+    ensures split { IfOk result (λ said. said.split ≡ (U.view up.now).split) }
 {
-    let mut said = Said::new(alloc);
+    let mut said = Said::of(alloc, up);
     said.reserve(TEXTS)?;
     Ok(said)
 }
@@ -101,15 +102,16 @@ struct Prepared {
     line: Vec<u8>,
 }
 
-// A copy of what writers have to say, no words, and the buffer for a line.
-fn prepare(alloc: Global, speech: &Speech) -> Result<Prepared, Memory>
+// A copy of what writers have to say, no words for an end, and the buffer for a line.
+fn prepare<U: UpEnd>(alloc: Global, speech: &Speech, up: &U) -> Result<Prepared, Memory>
     ensures speech { IfOk result (λ p. p.speech ≡ speech.now) }
     ensures words { IfOk result (λ p. p.said.words ≡ []) }
     ensures room { IfOk result (λ p. p.said.room ≡ 4096) }
+    ensures split { IfOk result (λ p. p.said.split ≡ (U.view up.now).split) }
     ensures line { IfOk result (λ p. length p.line.items ≡ 2003) }
 {
     let line = vec![in alloc; 0u8; LINE_SIZE]?;
-    let said = new_said(alloc)?;
+    let said = new_said(alloc, up)?;
     let speech = speech.copy(alloc)?;
     Ok(Prepared { speech, said, line })
 }
@@ -125,6 +127,7 @@ impl<U: UpEnd> Stand<U> {
             ≡ self.old.said.words ++ word writer (words_of writer self.old.said.words) ∷ [] }
         ensures speech { self.new.speech ≡ self.old.speech }
         ensures split { self.new.up.split ≡ self.old.up.split }
+        ensures tells { self.new.up.tells ≡ self.old.up.tells }
         ensures kept { IsKept self.new }
         ensures relief { R.kept relief.new }
     {
@@ -157,7 +160,7 @@ impl<U: UpEnd + Drop> Stand<U> {
         ensures up { IfOk result (λ stand. stand.up ≡ U.view up) }
         ensures kept { IfOk result IsKept }
     {
-        let own = prepare(alloc, speech)?;
+        let own = prepare(alloc, speech, &up)?;
         let Prepared { speech, said, line } = own;
         Ok(Stand {
             speech,

@@ -15,7 +15,7 @@ next g c =
     let s = c.self.inside in
     let d : Sheet = record { script = s.script; tape = s.tape; up = g.U.UpEnd.view s.up } in
     next_is d s.sites s.places s.stamp s.message.items s.frame.items c.args.writer c.len-marks.result c.at-stamp.result c.send_statement-fate.result c.push_reserved.new.self _
-    c.self.invariant c.lawful.ensures (more_left d _ c.args.writer c.self.view_is c.requires.place) c.len-marks.ensures c.at-stamp.ensures c.push_reserved.ensures.marks c.push_reserved.ensures.room c.send_statement-fate.ensures.sent
+    c.self.invariant c.lawful.ensures (more_left d _ c.args.writer c.self.view_is c.requires.place) c.len-marks.ensures c.at-stamp.ensures.stamp c.push_reserved.ensures.marks c.push_reserved.ensures.room c.push_reserved.ensures.end c.send_statement-fate.ensures.sent
 
 pub bounds-self-inside-writer : goal.bounds-self-inside-writer
 bounds-self-inside-writer g c = writer_is c.self.inside.script c.self.inside.tape.marks c.args.writer c.lawful.ensures (more_left _ _ c.args.writer c.self.view_is c.requires.place)
@@ -50,6 +50,11 @@ pub returns-clause-mark : goal.returns-clause-mark
 returns-clause-mark g c =
     let n = next g (goal.at.returns-clause-mark g c).After-push_reserved in
     subst (λ (x : Sheet). c.push_reserved.new.self.marks ≡ x.tape.marks ++ next_mark x.script x.tape.marks c.args.writer c.send_statement-fate.result ∷ []) c.self.view_is n.marks
+
+pub returns-clause-found : goal.returns-clause-found
+returns-clause-found g c =
+    let n = next g (goal.at.returns-clause-found g c).After-push_reserved in
+    subst (λ (x : Sheet). c.push_reserved.new.self.found ≡ x.tape.found ++ (g.U.UpEnd.view c.send_statement-fate.new.up).freed ∷ []) c.self.view_is n.found
 
 pub returns-clause-sent : goal.returns-clause-sent
 returns-clause-sent g c =

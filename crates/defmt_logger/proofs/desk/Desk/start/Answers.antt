@@ -6,7 +6,7 @@ pub invariant_of-result : goal.invariant_of-result
 invariant_of-result g c =
     let made = c.in_ok-own.ensures in
     record {
-      kept = kept_first c.args.script c.in_ok-own.own.tape (g.U.UpEnd.view c.args.up) made.marks made.room c.requires.fresh c.requires.told;
+      kept = kept_first c.args.script c.in_ok-own.own.tape (g.U.UpEnd.view c.args.up) made.marks made.room made.end c.requires.fresh c.requires.told;
       sites_are = made.sites;
       counts = no_counts c.in_ok-own.own.tape.marks made.marks;
       pace_is = c.requires.pace;
@@ -17,4 +17,4 @@ invariant_of-result g c =
 pub returns-clause-kept : goal.returns-clause-kept
 returns-clause-kept g c =
     let made = c.in_ok-own.ensures in
-    kept_first c.args.script c.in_ok-own.own.tape (g.U.UpEnd.view c.args.up) made.marks made.room c.requires.fresh c.requires.told
+    kept_first c.args.script c.in_ok-own.own.tape (g.U.UpEnd.view c.args.up) made.marks made.room made.end c.requires.fresh c.requires.told

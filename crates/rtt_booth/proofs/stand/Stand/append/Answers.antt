@@ -1,4 +1,4 @@
-use Rattle.std.proofs.Common.{◌≡◌, ◌++◌, [], ◌∷◌, subst, arith}
+use Rattle.std.proofs.Common.{◌≡◌, ◌++◌, [], ◌∷◌, ◌∙◌, subst, sym, arith}
 use Rattle.std.proofs.lemmas.Grind.{common_steps}
 use Rattle.rtt_booth.proofs.Next.{Next, more_left, next_is, place_below, place_small, room_left}
 use Rattle.rtt_booth.specs.Kept.{Sheet, word}
@@ -15,6 +15,7 @@ next g c =
     next_is d s.places s.current s.line.items c.args.writer c.terminal-terminal.result c.text-text.result.now c.saying_at-saying.result.now c.push_reserved.new.self (g.U.UpEnd.view c.send_line.new.up)
     c.self.invariant c.requires.writer (more_left d _ c.args.writer c.self.view_is c.requires.place) c.saying_at-saying.ensures.saying c.terminal-terminal.ensures c.text-text.ensures c.saying_at-saying.ensures.sayable.one
     c.send_line.ensures.sent c.send_line.ensures.kept.staged c.push_reserved.ensures.words c.push_reserved.ensures.room
+    (c.push_reserved.ensures.split ∙ c.self.invariant.kept.split ∙ sym c.send_line.ensures.kept.split)
 
 pub saying_at-saying-requires : goal.saying_at-saying-requires
 saying_at-saying-requires g c = place_below _ _ _ _ c.args.writer c.self.invariant c.requires.writer (more_left _ _ c.args.writer c.self.view_is c.requires.place)

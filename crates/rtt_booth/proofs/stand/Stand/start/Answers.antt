@@ -10,7 +10,7 @@ invariant_of-result g c =
     let made = c.in_ok-own.ensures in
     let fresh = c.requires.fresh in
     record {
-      kept = kept_first own.speech own.said u made.words made.room (ap (λ (x : Up). x.sent) fresh) (ap (λ (x : Up). x.staged) fresh);
+      kept = kept_first own.speech own.said u made.words made.room made.split (ap (λ (x : Up). x.sent) fresh) (ap (λ (x : Up). x.staged) fresh);
       counts = no_counts own.said.words made.words;
       current_is = current_first own.speech own.said.words made.words;
       current_below = omega arith;
@@ -23,4 +23,4 @@ returns-clause-kept g c =
     let own = c.in_ok-own.own in
     let made = c.in_ok-own.ensures in
     let fresh = c.requires.fresh in
-    kept_first own.speech own.said u made.words made.room (ap (λ (x : Up). x.sent) fresh) (ap (λ (x : Up). x.staged) fresh)
+    kept_first own.speech own.said u made.words made.room made.split (ap (λ (x : Up). x.sent) fresh) (ap (λ (x : Up). x.staged) fresh)
