@@ -3,5 +3,6 @@ pub mod Counting
 pub mod ModeLaws
 pub mod Room
 pub mod Next
+pub mod Hearing
 pub mod Fits
 pub mod Turned

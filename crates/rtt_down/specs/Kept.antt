@@ -8,8 +8,9 @@ use Rattle.defmt_hooks.specs.declared.level.Level.{Level}
 use Rattle.defmt_script.specs.Lawful.{statements_limit}
 use Rattle.defmt_script.specs.Script.{Script}
 use Rattle.rtt_down.specs.Listening.{Heard}
+use Rattle.rtt_down.specs.Orders.{orders}
 use Rattle.rtt_down.specs.Reel.{Reel}
-use Rattle.rtt_down.specs.Steered.{IsSteered, stream_of, turns_of}
+use Rattle.rtt_down.specs.Steered.{AreHeard, IsSteered, last_found, stream_of, taken_by, turns_of}
 use Rattle.rtt_down.specs.declared.course.Course.{Course}
 use Rattle.rtt_down.specs.declared.turn.Turn.{Turn}
 use Rattle.rtt_ring.specs.Views.{Down, Up}
@@ -22,12 +23,17 @@ pub record Sheet : Type 0 where
   pub down : Down
 
 -- The turns are steered by the bytes that were got, the ring was sent the frames of those that were sent, and nothing is
--- staged. There was one look down for each turn. There is room for the turns of all statements that a script can have.
+-- staged. There was one look down for each turn, which took what it found. The turns name the splits of both ends. There is
+-- room for the turns of all statements that a script can have.
 pub record IsKept (d : Sheet) : Type 0 where
   pub steered : IsSteered d.script d.turns.turns d.down.got
   pub sent : d.up.sent ≡ stream_of d.script d.turns.turns
   pub staged : d.up.staged ≡ []
   pub looks : d.down.looks ≡ length d.turns.turns
+  pub heard : AreHeard d.down.got 0 d.turns.turns d.turns.found
+  pub found : last_found 0 d.turns.found ≡ d.down.found
+  pub split : d.turns.split ≡ d.up.split
+  pub down : d.turns.down ≡ d.down.split
   pub room : length d.turns.turns + d.turns.room ≡ statements_limit
 
 -- ---- for private clauses
@@ -49,7 +55,8 @@ pub record Steers (s : Script) (got : List ℕ) (reel : Reel) (places : List ℕ
 abbrev pub SteersBy : Script → List ℕ → Course → Type 0
 SteersBy s got c = Steers s got c.turns c.places c.heard.ear c.heard.seen c.heard.floor
 
--- from c to n a turn of the writer w was taken, by one look down, from d to e
+-- From c to n a turn of the writer w was taken, by one look down, from d to e. It took what the look found, at most 192 bytes,
+-- and heard it.
 pub record Turned (s : Script) (d e : Down) (c n : Course) (w : ℕ) (t : Turn) : Type 0 where
   pub steers : SteersBy s e.got n
   pub turns : n.turns.turns ≡ c.turns.turns ++ t ∷ []
@@ -57,6 +64,13 @@ pub record Turned (s : Script) (d e : Down) (c n : Course) (w : ℕ) (t : Turn) 
   pub place : t.place ≡ slice_index_or c.places w 0
   pub looks : e.looks ≡ d.looks + 1
   pub split : e.split ≡ d.split
+  pub taken : List ℕ
+  pub got : e.got ≡ d.got ++ taken
+  pub count : length e.got ≡ taken_by (length d.got) e.found
+  pub reached : length d.got ≤ e.found
+  pub seen : t.seen ≡ length (orders e.got)
+  pub found : n.turns.found ≡ c.turns.found ++ e.found ∷ []
+  pub rings : (n.turns.split ≡ c.turns.split) × (n.turns.down ≡ c.turns.down)
 
 -- what a bridge keeps of its parts: the sheet, the course of its turns, the sites of the script, the numbers of its stamps,
 -- and the buffers for a message and a frame

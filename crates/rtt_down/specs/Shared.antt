@@ -1,4 +1,5 @@
 -- What callers see of a steered logger.
+use Rattle.std.specs.Prelude.{ℕ, List}
 use Rattle.rtt_down.specs.declared.steered.Steered.{Steered}
 use Rattle.shared_work.specs.declared.books.Books as books
 use Rattle.shared_work.specs.declared.shared.Shared.{Shared}
@@ -9,3 +10,7 @@ module _ {B Q T : Type 0} {b : books.Ghosts B} {q : quota.Ghosts Q} {w : work.Gh
   -- the work that its helms share
   abbrev pub shared_of : Steered B Q T b q w → Shared B Q T b q w
   shared_of steered = steered.shared
+
+  -- all bytes that had been sent down when no turn was taken yet, where this was noted
+  abbrev pub ahead_of : Steered B Q T b q w → List ℕ
+  ahead_of steered = steered.ahead.numbers

@@ -1,6 +1,6 @@
 -- Turns by orders: each writer's statements come in their order; before each the orders that were sent so far are heard, and
 -- the statement is sent where its level is the last order's or a later one.
-use Rattle.std.specs.Prelude.{◌≡◌, ℕ, ◌+◌, ◌≤◌, ◌==◌, List, [], ◌∷◌, ◌++◌, length, if◌then◌else◌}
+use Rattle.std.specs.Prelude.{◌≡◌, ℕ, ◌+◌, ◌≤◌, ◌==◌, List, [], ◌∷◌, ◌++◌, length, min, take, if◌then◌else◌}
 use Rattle.defmt_frames.specs.Frames.{count, frame_at, stamp_number}
 use Rattle.defmt_hooks.specs.declared.level.Level.{Level}
 use Rattle.defmt_script.specs.Script.{Script}
@@ -48,6 +48,30 @@ pub record IsSteered (s : Script) (turns : List Turn) (got : List ℕ) : Type 0 
   pub all_seen : last_seen 0 turns ≡ length (orders got)
   pub each : (before after : List Turn) (t : Turn) → turns ≡ before ++ t ∷ after
       → IsTurn s before (orders got) t
+
+-- ---- what each turn takes
+
+-- how many bytes were taken behind a look that found so many sent down, where n were taken before: all, but at most 192 more
+abbrev pub taken_by : ℕ → ℕ → ℕ
+taken_by n found = min found (n + 192)
+
+-- a turn that took what its look found, where n bytes were taken before, and has heard the orders in all that was taken
+pub record IsHeard (got : List ℕ) (n found : ℕ) (t : Turn) : Type 0 where
+  pub reached : n ≤ found
+  pub seen_is : t.seen ≡ length (orders (take (taken_by n found) got))
+
+-- Turns whose looks found so many bytes sent down, where n were taken before the first: each took what its look found. Behind
+-- the last of them all was taken that was got.
+abbrev pub AreHeard : List ℕ → ℕ → List Turn → List ℕ → Type 0
+AreHeard got n [] [] = n ≡ length got
+AreHeard got n [] (f ∷ fs) = ⊥
+AreHeard got n (t ∷ ts) [] = ⊥
+AreHeard got n (t ∷ ts) (f ∷ fs) = IsHeard got n f t × AreHeard got (taken_by n f) ts fs
+
+-- what the last look found, and this where there was none
+abbrev pub last_found : ℕ → List ℕ → ℕ
+last_found n [] = n
+last_found n (f ∷ fs) = last_found f fs
 
 -- ---- what is sent
 

@@ -3,13 +3,14 @@ ghost use Rattle.std.specs.Prelude.{◌≡◌, ◌<◌, [], ◌∷◌, ◌++◌,
 ghost use Rattle.defmt_frames.specs.Frames.{count, pace_of};
 ghost use Rattle.defmt_frames.specs.Sites.{HasSites};
 ghost use Rattle.rtt_down.specs.Kept.{IsKept, SteersBy, Turned};
-ghost use Rattle.rtt_down.specs.Steered.{turn_part, turns_of};
+ghost use Rattle.rtt_down.specs.Steered.{taken_by, turn_part, turns_of};
 ghost use Rattle.rtt_ring.specs.Views.{UpKept, new_down, new_up};
 
 use crate::course::Course;
 use crate::level::level_at;
 use crate::turn::Turn;
 use crate::turns::Turns;
+use boxcar::tag::{Names, Tag};
 use defmt_encode::MESSAGE_LIMIT;
 use defmt_frames::{FRAME_SIZE, Sites, write_frame};
 use defmt_hooks::{Clock, Stamp};
@@ -28,7 +29,7 @@ const TAKEN_SIZE: usize = 192;
 /// end of a ring that orders come down.
 ///
 /// Between two calls the turns are steered by the bytes that were got, what was sent is the stream of the turns, nothing is
-/// staged, and there was one look down for each turn.
+/// staged, and there was one look down for each turn, which took what it found.
 #[derive(Drop)]
 pub struct Bridge<U: UpEnd, D: DownEnd, C: Clock> {
     script: Script,
@@ -66,6 +67,29 @@ impl<U: UpEnd, D: DownEnd, C: Clock> Model for Bridge<U, D, C> {
         b.course b.sites b.stamp b.message.items b.frame.items };
 }
 
+// The name of the split that an upper end comes from.
+struct UpSplit;
+
+impl<U: UpEnd> Names<U> for UpSplit {
+    ghost numbers = { λ up. (U.view up).split };
+}
+
+// The name of the split that a lower end comes from.
+struct DownSplit;
+
+impl<D: DownEnd> Names<D> for DownSplit {
+    ghost numbers = { λ down. (D.view down).split };
+}
+
+// How many bytes the last look of a lower end found sent.
+struct Found;
+
+impl<D: DownEnd> Names<D> for Found {
+    ghost use Rattle.std.specs.Prelude.{◌∷◌, []};
+
+    ghost numbers = { λ down. (D.view down).found ∷ [] };
+}
+
 // Takes once what came down, hears it, and says what becomes of the writer's next statement. The buffer is for what is taken.
 fn next_turn<D: DownEnd, C: Clock>(
     script: &Script,
@@ -90,7 +114,8 @@ fn next_turn<D: DownEnd, C: Clock>(
     let level = level_at(script, writer, place);
     let stamp = clock.at(number);
     let size = down.take(taken);
-    course.turn(writer, level, stamp, &taken[..size])
+    let found = Tag::of::<D, Found>(down);
+    course.turn(writer, level, stamp, &taken[..size], &found)
 }
 
 // Sends the frame of the turn with this number where the turn says so. The buffers are for its message and its frame.
@@ -140,16 +165,19 @@ struct Stores {
     frame: Vec<u8>,
 }
 
-// What a bridge of a script has before any turn is taken.
-fn prepare(alloc: Global, script: &Script) -> Result<Stores, Memory>
+// What a bridge of a script has before any turn is taken, with the names of the splits of its two ends.
+fn prepare(alloc: Global, script: &Script, split: Tag, down: Tag) -> Result<Stores, Memory>
     ensures sites { IfOk result (λ s. HasSites script.now s.sites) }
     ensures steers { IfOk result (λ s. SteersBy script.now [] s.course) }
-    ensures turns { IfOk result (λ s. s.course.turns.turns ≡ []) }
+    ensures turns { IfOk result (λ s. (s.course.turns.turns ≡ [])
+        × (s.course.turns.found ≡ [])) }
+    ensures rings { IfOk result (λ s. (s.course.turns.split ≡ split.numbers)
+        × (s.course.turns.down ≡ down.numbers)) }
     ensures message { IfOk result (λ s. length s.message.items ≡ 2000) }
     ensures frame { IfOk result (λ s. length s.frame.items ≡ 2288) }
 {
     let (message, frame) = buffers(alloc)?;
-    let course = Course::start(alloc)?;
+    let course = Course::start(alloc, split, down)?;
     let sites = Sites::of(alloc, script)?;
     Ok(Stores {
         course,
@@ -161,16 +189,20 @@ fn prepare(alloc: Global, script: &Script) -> Result<Stores, Memory>
 
 impl<U: UpEnd, D: DownEnd, C: Clock> Bridge<U, D, C> {
     /// Takes the turn of the next statement of a writer that has one left: takes once from the ring that orders come down,
-    /// hears what came, and sends the statement's frame in blocking mode or mutes it. It may wait for the reader. Takes no
-    /// memory.
+    /// all that its look finds but at most 192 bytes, hears them, and sends the statement's frame in blocking mode or mutes
+    /// it. It may wait for the reader. Takes no memory.
     pub fn append<R: Relief, W: Wait>(&mut self, rt: &W, writer: u8, relief: &mut R) -> Turn
         requires writer { writer < 8 }
         requires place { turns_of writer self.old.turns.turns < count self.old.script writer }
         requires relief { R.kept relief.old }
         ensures turns { self.new.turns.turns ≡ self.old.turns.turns ++ result ∷ [] }
         ensures writer { result.writer ≡ writer }
+        ensures found { self.new.turns.found ≡ self.old.turns.found ++ self.new.down.found ∷ [] }
+        ensures took { length self.new.down.got
+            ≡ taken_by (length self.old.down.got) self.new.down.found }
         ensures script { self.new.script ≡ self.old.script }
         ensures up { self.new.up.split ≡ self.old.up.split }
+        ensures tells { self.new.up.tells ≡ self.old.up.tells }
         ensures down { self.new.down.split ≡ self.old.down.split }
         ensures kept { IsKept self.new }
         ensures relief { R.kept relief.new }
@@ -216,7 +248,9 @@ impl<U: UpEnd + Drop, D: DownEnd + Drop, C: Clock + Drop> Bridge<U, D, C> {
         ensures up { IfOk result (λ bridge. bridge.up ≡ U.view up) }
         ensures down { IfOk result (λ bridge. bridge.down ≡ D.view down) }
     {
-        let stores = prepare(alloc, &script)?;
+        let split = Tag::of::<U, UpSplit>(&up);
+        let orders = Tag::of::<D, DownSplit>(&down);
+        let stores = prepare(alloc, &script, split, orders)?;
         Ok(Bridge {
             script,
             sites: stores.sites,

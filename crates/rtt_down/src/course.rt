@@ -9,6 +9,7 @@ use crate::level::is_sent;
 use crate::order_count::OrderCount;
 use crate::turn::Turn;
 use crate::turns::Turns;
+use boxcar::tag::Tag;
 use defmt_hooks::Level;
 use dl_io::Memory;
 use std::alloc::Global;
@@ -25,13 +26,15 @@ pub(crate) struct Course {
 }
 
 impl Course {
-    // No turn yet, and room for as many as a script has statements.
-    pub(crate) fn start(alloc: Global) -> Result<Course, Memory>
+    // No turn yet, and room for as many as a script has statements. The logger's ends come from these two splits.
+    pub(crate) fn start(alloc: Global, split: Tag, down: Tag) -> Result<Course, Memory>
         ensures steers { IfOk result (λ c. (s : AnyScript)
             → Steers s [] c.turns c.places c.heard.ear c.heard.seen c.heard.floor) }
-        ensures turns { IfOk result (λ c. c.turns.turns ≡ []) }
+        ensures turns { IfOk result (λ c. (c.turns.turns ≡ []) × (c.turns.found ≡ [])) }
+        ensures rings { IfOk result (λ c. (c.turns.split ≡ split.numbers)
+            × (c.turns.down ≡ down.numbers)) }
     {
-        let mut turns = Turns::new(alloc);
+        let mut turns = Turns::of_splits(alloc, split, down);
         turns.reserve(STATEMENTS)?;
         Ok(Course {
             turns,
@@ -41,13 +44,14 @@ impl Course {
     }
 
     // The next turn of a writer, whose statement has this level and this stamp: hears the bytes that were taken, and answers
-    // what becomes of the statement.
+    // what becomes of the statement. The tag has what the turn's look found.
     pub(crate) fn turn(
         &mut self,
         writer: u8,
         level: Option<Level>,
         stamp: u64,
         taken: &[u8],
+        found: &Tag,
     ) -> Turn
         requires writer { writer < 8 }
         requires place { slice_index_or self.old.places writer 0 + 1 < 2 ^ 32 }
@@ -62,6 +66,9 @@ impl Course {
           sent = is_sent level self.new.heard.floor;
         } }
         ensures turns { self.new.turns.turns ≡ self.old.turns.turns ++ result ∷ [] }
+        ensures found { self.new.turns.found ≡ self.old.turns.found ++ found.now.numbers }
+        ensures rings { (self.new.turns.split ≡ self.old.turns.split)
+            × (self.new.turns.down ≡ self.old.turns.down) }
         ensures steers { (s : AnyScript) (got : List ℕ)
             → Steers s got self.old.turns self.old.places
             self.old.heard.ear self.old.heard.seen self.old.heard.floor
@@ -84,7 +91,7 @@ impl Course {
             sent: is_sent(level, floor),
         };
         self.places[writer as usize] = place + 1;
-        self.turns.push_reserved(turn);
+        self.turns.push_reserved(turn, found);
         turn
     }
 

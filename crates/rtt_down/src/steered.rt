@@ -9,6 +9,7 @@ ghost use Rattle.shared_work.specs.Names.{AreNamed};
 use crate::bridge::Bridge;
 use crate::steering::{EachTurn, Naming, Steering};
 use crate::turns::Turns;
+use boxcar::tag::{Names as Reads, Tag};
 use defmt_frames::totals_of;
 use defmt_hooks::{Clock, Stamp};
 use defmt_script::Script;
@@ -25,6 +26,15 @@ use std::sync::ledger::Ledger;
 #[derive(Drop)]
 pub struct Steered<B: Books, Q: Quota, T: Work<Q>> {
     shared: Shared<B, Q, T>,
+    // All bytes that had been sent down when no turn was taken yet, where this was noted. Contracts alone read it.
+    ahead: Tag,
+}
+
+// All bytes that an upper end has sent.
+struct Sent;
+
+impl<V: UpEnd> Reads<V> for Sent {
+    ghost numbers = { λ up. (V.view up).sent };
 }
 
 impl<B: Books, Q: Quota, T: Work<Q>> Steered<B, Q, T> {
@@ -60,6 +70,8 @@ impl<E: Names, K: Naming, U: UpEnd + Drop, D: DownEnd + Drop, C: Clock + Drop> S
     EachTurn<K>,
     Steering<K, U, D, C>,
 > {
+    ghost use Rattle.rtt_down.specs.Shared.{ahead_of, shared_of};
+
     /// A steered logger of which no turn was taken, and the helms of the writers 0 to 7.
     ///
     /// The stamp counts as the script's stamps do, and by 0 and 0 without them. Both ends are as their splits gave them.
@@ -80,6 +92,7 @@ impl<E: Names, K: Naming, U: UpEnd + Drop, D: DownEnd + Drop, C: Clock + Drop> S
         requires down { D.view down ≡ new_down (D.view down).split (D.view down).size }
         requires names { (K.script ≡ script) × (K.up ≡ (U.view up).split)
             × (K.down ≡ (D.view down).split) }
+        requires tells { K.tells ≡ (U.view up).tells }
         requires ledgers { AreNamed blanks E.names }
         ensures p0 { IfOk result (λ r. r.1.p0.place ≡ 0) }
         ensures p1 { IfOk result (λ r. r.1.p1.place ≡ 0) }
@@ -97,23 +110,48 @@ impl<E: Names, K: Naming, U: UpEnd + Drop, D: DownEnd + Drop, C: Clock + Drop> S
             of: PhantomData,
         };
         let (shared, helms) = Shared::start(blanks, totals, steering);
-        Ok((Steered { shared }, helms))
+        let steered = Steered {
+            shared,
+            ahead: Tag::empty(),
+        };
+        Ok((steered, helms))
+    }
+
+    /// Notes for the turns what the upper end of the ring that orders come down has sent so far. All helms are here, at their
+    /// first places: so it was sent before any turn was taken. Takes no memory.
+    pub fn note_sent<V: UpEnd>(&mut self, helms: &Pens<E, EachTurn<K>>, sends: &V)
+        requires pair { (V.view sends.now).split ≡ K.down }
+        requires p0 { helms.now.p0.place ≡ 0 }
+        requires p1 { helms.now.p1.place ≡ 0 }
+        requires p2 { helms.now.p2.place ≡ 0 }
+        requires p3 { helms.now.p3.place ≡ 0 }
+        requires p4 { helms.now.p4.place ≡ 0 }
+        requires p5 { helms.now.p5.place ≡ 0 }
+        requires p6 { helms.now.p6.place ≡ 0 }
+        requires p7 { helms.now.p7.place ≡ 0 }
+        ensures ahead { ahead_of self.new ≡ (V.view sends.now).sent }
+        ensures shared { shared_of self.new ≡ shared_of self.old }
+    {
+        let _ = helms;
+        self.ahead = Tag::of::<V, Sent>(sends);
     }
 
     /// The turns, the two ends and the script, once all eight helms are back. Takes no memory.
     ///
-    /// The script is the one that `start` took, and the ends come from the same splits as those that `start` took. Each
-    /// writer has as many turns as its helm's place.
+    /// The script is the one that `start` took, and the ends come from the same splits as those that `start` took, whose names
+    /// the turns have. Each writer has as many turns as its helm's place.
     pub fn close(self, helms: Pens<E, EachTurn<K>>) -> (Turns, U, D, Script)
         ensures script { result.3 ≡ K.script }
         ensures up { (U.view result.1).split ≡ K.up }
         ensures down { (D.view result.2).split ≡ K.down }
+        ensures tells { (U.view result.1).tells ≡ K.tells }
         ensures kept { IsKept (record {
           script = result.3;
           turns = result.0;
           up = U.view result.1;
           down = D.view result.2;
         }) }
+        ensures ahead { result.0.ahead ≡ ahead_of self }
         ensures p0 { turns_of 0 result.0.turns ≡ helms.p0.place }
         ensures p1 { turns_of 1 result.0.turns ≡ helms.p1.place }
         ensures p2 { turns_of 2 result.0.turns ≡ helms.p2.place }
@@ -123,8 +161,10 @@ impl<E: Names, K: Naming, U: UpEnd + Drop, D: DownEnd + Drop, C: Clock + Drop> S
         ensures p6 { turns_of 6 result.0.turns ≡ helms.p6.place }
         ensures p7 { turns_of 7 result.0.turns ≡ helms.p7.place }
     {
-        let Steered { shared } = self;
+        let Steered { shared, ahead } = self;
         let Steering { bridge, of: _ } = shared.close(helms);
-        bridge.close()
+        let (mut turns, up, down, script) = bridge.close();
+        turns.note_ahead(ahead);
+        (turns, up, down, script)
     }
 }

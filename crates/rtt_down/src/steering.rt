@@ -7,9 +7,10 @@ use shared_work::{Quota, Work};
 use std::marker::{Brand, Model, PhantomData};
 use std::sync::Wait;
 
-/// Which script a steered logger has, and from which splits of two rings its ends come. Whoever starts it picks the three.
+/// Which script a steered logger has, from which splits of two rings its ends come, and whether the upper ring tells what its
+/// reader released. Whoever starts it picks the four.
 pub trait Naming {
-    ghost use Rattle.std.specs.Prelude.{ℕ, List};
+    ghost use Rattle.std.specs.Prelude.{ℕ, Bool, List};
     ghost use Rattle.defmt_script.specs.Script.{Script};
 
     /// The script.
@@ -20,10 +21,13 @@ pub trait Naming {
 
     /// The name of the split of the ring that orders come down.
     ghost down: { List ℕ };
+
+    /// Whether the ring that frames go up tells how many bytes were released.
+    ghost tells: { Bool };
 }
 
 impl Naming for Brand {
-    ghost use Rattle.std.specs.Prelude.{[]};
+    ghost use Rattle.std.specs.Prelude.{[], false};
     ghost use Rattle.defmt_script.specs.State.{empty_script};
 
     ghost script = { empty_script };
@@ -31,6 +35,8 @@ impl Naming for Brand {
     ghost up = { [] };
 
     ghost down = { [] };
+
+    ghost tells = { false };
 }
 
 /// The quota of a steered logger: a writer has a turn for each of its statements.
@@ -45,7 +51,8 @@ impl<K: Naming> Quota for EachTurn<K> {
     ghost quota = { λ w. count K.script w };
 }
 
-/// A bridge with what its naming tells: the script is the named one, and the ends are from the named splits.
+/// A bridge with what its naming tells: the script is the named one, and the ends are from the named splits and tell what they
+/// are named to.
 #[derive(Drop)]
 pub struct Steering<K: Naming, U: UpEnd, D: DownEnd, C: Clock> {
     pub(crate) bridge: Bridge<U, D, C>,
@@ -64,7 +71,7 @@ impl<K: Naming, U: UpEnd, D: DownEnd, C: Clock> Model for Steering<K, U, D, C> {
     ghost view = { λ s. s.bridge };
 
     ghost invariant = { λ s. (s.bridge.script ≡ K.script) × (s.bridge.up.split ≡ K.up)
-        × (s.bridge.down.split ≡ K.down) };
+        × (s.bridge.down.split ≡ K.down) × (s.bridge.up.tells ≡ K.tells) };
 }
 
 impl<K: Naming, U: UpEnd, D: DownEnd, C: Clock> Work<EachTurn<K>> for Steering<K, U, D, C> {

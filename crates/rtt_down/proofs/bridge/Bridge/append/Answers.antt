@@ -1,9 +1,10 @@
-use Rattle.std.proofs.Common.{rules, ◌≡◌, ◌<◌, ◌++◌, [], ◌∷◌, ◌∙◌, ap, subst, arith}
+use Rattle.std.proofs.Common.{rules, ◌≡◌, ◌<◌, ◌++◌, [], ◌∷◌, ◌∙◌, length, ap, subst, arith}
 use Rattle.std.specs.Prelude.{slice_index_or}
 use Rattle.std.proofs.lemmas.Grind.{common_steps}
 use Rattle.defmt_frames.specs.Frames.{count}
 use Rattle.rtt_down.proofs.Turned.{kept_next, more_left, place_below, turn_below}
 use Rattle.rtt_down.specs.Kept.{Sheet}
+use Rattle.rtt_down.specs.Steered.{taken_by}
 use Rattle.rtt_down.proofs.bridge.Bridge.append.Goals as goal
 
 pub next_turn-turn-requires-clause-place : goal.next_turn-turn-requires-clause-place
@@ -43,3 +44,12 @@ pub returns-clause-kept : goal.returns-clause-kept
 returns-clause-kept g c =
     let s = c.self.inside in
     kept_next s.script _ _ _ _ s.course c.next_turn-turn.new.course c.args.writer c.count-number.result c.next_turn-turn.result c.self.invariant.kept c.next_turn-turn.ensures c.count-number.ensures c.send_turn.ensures.sent c.send_turn.ensures.kept
+
+pub returns-clause-found : goal.returns-clause-found
+returns-clause-found g c = c.next_turn-turn.ensures.found ∙ ap (λ (x : Sheet). x.turns.found ++ (g.D.DownEnd.view c.next_turn-turn.new.down).found ∷ []) c.self.view_is
+
+pub returns-clause-took : goal.returns-clause-took
+returns-clause-took g c = c.next_turn-turn.ensures.count ∙ ap (λ (x : Sheet). taken_by (length x.down.got) (g.D.DownEnd.view c.next_turn-turn.new.down).found) c.self.view_is
+
+pub returns-clause-tells : goal.returns-clause-tells
+returns-clause-tells g c = c.send_turn.ensures.kept.tells ∙ ap (λ (x : Sheet). x.up.tells) c.self.view_is
