@@ -1,25 +1,27 @@
 -- How a run of texts ends.
 use Rattle.std.proofs.Common.{◌≡◌, ℕ, ◌<◌, List, ◌++◌, Result, Ok, IfOk, ap, ◌∙◌, subst}
 use Rattle.defmt_talk.specs.Talks.{IsTalk}
+use Rattle.rtt_booth.specs.Kept.{Reel}
 use Rattle.rtt_booth.specs.Said.{IsLawful, spoken_by, words_of}
-use Rattle.rtt_booth.specs.declared.said.Word.{Word}
 use Rattle.rtt_ring.specs.Account.{Account}
 use Rattle.rtt_terminal.specs.Speech.{Speech, count_said}
 
-pub talk_ends : (speech : Speech) (words : List Word) (sent : List ℕ) (a : Account) (captured rest : List ℕ)
-    → IsLawful speech words
-    → ((w : ℕ) → w < 8 → words_of w words ≡ count_said speech w)
-    → sent ≡ spoken_by speech words
+pub talk_ends : (speech : Speech) (said : Reel) (sent : List ℕ) (a : Account) (captured rest : List ℕ)
+    → IsLawful speech said.words
+    → ((w : ℕ) → w < 8 → words_of w said.words ≡ count_said speech w)
+    → sent ≡ spoken_by speech said.words
     → a.sent ≡ sent
     → a.got ≡ captured
     → a.sent ≡ a.got ++ rest
-    → IsTalk speech words a captured rest
-talk_ends speech words sent a captured rest lawful all is sends got whole = record {
+    → a.split ≡ said.split
+    → IsTalk speech said a captured rest
+talk_ends speech said sent a captured rest lawful all is sends got whole split = record {
   lawful = lawful;
   all = all;
   sends = sends ∙ is;
   takes = got;
   whole = whole ∙ ap (λ (l : List ℕ). l ++ rest) got;
+  split = split;
 }
 
 -- what holds of an answer that is there holds of what it has

@@ -1,9 +1,8 @@
 //! The ends of the two rings of a run with texts for terminals, and the room for what is read of them.
-ghost use Rattle.std.specs.Prelude.{◌≡◌, ◌≤◌, List, [], IfOk, length};
+ghost use Rattle.std.specs.Prelude.{◌≡◌, [], IfOk};
 ghost use Rattle.defmt_logger.specs.Kept.{TellsIn};
-ghost use Rattle.defmt_writers.specs.Runs.{ModeFits};
-ghost use Rattle.rtt_booth.specs.Said.{IsLawful, spoken_by};
-ghost use Rattle.rtt_booth.specs.declared.said.Word.{Word};
+ghost use Rattle.defmt_talk.specs.Talks.{HoldsWords};
+ghost use Rattle.defmt_writers.specs.Runs.{HoldsTapes, ModeFits};
 ghost use Rattle.rtt_ring.specs.Views.{new_down, new_up};
 
 use defmt_script::Script;
@@ -22,8 +21,7 @@ const LINE_SIZE: usize = 2003;
 
 // How many bytes are enough for what any lawful words speak: as many as the longest lines of all texts have.
 fn talk_size(speech: &Speech) -> usize
-    ensures { (words : List Word) → IsLawful speech.now words
-        → length (spoken_by speech.now words) ≤ result }
+    ensures { HoldsWords speech.now result }
 {
     spoken_is_short();
     speech.lawful();
@@ -41,14 +39,17 @@ pub(crate) fn prepare_both<H: Channel>(
         ≡ new_up (H.Up.view b.1.up).split script.now.settings.ring
         (H.Up.view b.1.up).tells) }
     ensures told { IfOk result (λ b. TellsIn script.now.settings.mode (H.Up.view b.1.up)) }
+    ensures tells { IfOk result (λ b. (H.Up.view b.1.up).tells ≡ H.tells) }
     ensures down { IfOk result (λ b. H.Down.view b.1.down
         ≡ new_down (H.Up.view b.1.up).split script.now.settings.ring) }
     ensures captured { IfOk result (λ b. b.1.captured.items ≡ []) }
+    ensures room { IfOk result (λ b. HoldsTapes script.now b.1.captured.room) }
     ensures text_up { IfOk result (λ b. H.Up.view b.2.up ≡ new_up (H.Up.view b.2.up).split
-        (H.Up.view b.2.up).size (H.Up.view b.2.up).tells) }
+        (H.Up.view b.2.up).size H.tells) }
     ensures text_down { IfOk result (λ b. H.Down.view b.2.down
         ≡ new_down (H.Up.view b.2.up).split (H.Up.view b.2.up).size) }
     ensures text_captured { IfOk result (λ b. b.2.captured.items ≡ []) }
+    ensures text_room { IfOk result (λ b. HoldsWords script.now.said b.2.captured.room) }
 {
     let speech = script.speech().copy(alloc)?;
     let ends = prepare::<H>(alloc, script)?;

@@ -10,6 +10,7 @@
 #![tactic(auto)]
 
 mod ends;
+mod listener;
 mod settling;
 mod starting;
 mod talk_run;

@@ -49,11 +49,13 @@ pub(crate) fn start_both<
     requires pace { stamp ≡ pace_of script.settings.stamp }
     requires up { U.view up ≡ new_up (U.view up).split script.settings.ring (U.view up).tells }
     requires told { TellsIn script.settings.mode (U.view up) }
-    requires names { (K.script ≡ script) × (K.split ≡ (U.view up).split) }
+    requires names { (K.script ≡ script) × (K.split ≡ (U.view up).split)
+        × (K.tells ≡ (U.view up).tells) }
     requires ledgers { AreNamed blanks E.names }
     requires text_up { U.view text_up
         ≡ new_up (U.view text_up).split (U.view text_up).size (U.view text_up).tells }
-    requires text_names { (V.speech ≡ speech.now) × (V.split ≡ (U.view text_up).split) }
+    requires text_names { (V.speech ≡ speech.now) × (V.split ≡ (U.view text_up).split)
+        × (V.tells ≡ (U.view text_up).tells) }
     requires text_ledgers { AreNamed text_blanks F.names }
 {
     let logs = Logger::<Eight<E>, EachStatement<K>, Logging<K, U, C>>::start(

@@ -1,19 +1,20 @@
 //! How a run with texts for terminals goes.
-ghost use Rattle.std.specs.Prelude.{◌≡◌, [], IfOk, Ok};
+ghost use Rattle.std.specs.Prelude.{◌≡◌, true, false, [], IfOk, Ok};
 ghost use Rattle.defmt_frames.specs.Frames.{pace_of};
 ghost use Rattle.defmt_logger.specs.Kept.{TellsIn};
-ghost use Rattle.defmt_writers.specs.Runs.{IsRun, ModeFits};
-ghost use Rattle.defmt_talk.specs.Talks.{IsTalk};
+ghost use Rattle.defmt_talk.specs.Talks.{HoldsWords, IsTalk};
+ghost use Rattle.defmt_writers.specs.Runs.{HoldsTapes, IsRun, ModeFits};
 ghost use Rattle.rtt_ring.specs.Views.{new_down, new_up};
 ghost use Rattle.shared_work.specs.Names.{AreNamed};
 
 use crate::ends::prepare_both;
+use crate::listener::Listener;
 use crate::settling::settle_both;
 use crate::starting::{Booths, Logs, start_both};
 use defmt_hooks::{Clock, Stamp};
 use defmt_logger::Naming;
 use defmt_script::Script;
-use defmt_writers::{Drain, FromSplit, Reader, RingEnds, Run, drain_of};
+use defmt_writers::{Drain, FromSplit, Reader, RingEnds, Run};
 use dl_io::{Bytes, Memory};
 use rtt_booth::Said;
 use rtt_modes::Both;
@@ -41,36 +42,34 @@ pub struct Talk {
 }
 
 // The readers of both rings, which have taken nothing yet. That of the script's ring may be late.
-fn readers_of<'g, N: FromSplit, K: Naming, M: FromSplit, D: DownEnd, G: Gate>(
+fn readers_of<'g, N: FromSplit, K: Naming, M: FromSplit, V: rtt_booth::Naming, D: DownEnd, G: Gate>(
     late: bool,
     down: D,
     captured: Bytes,
     gate: &'g G,
     text_down: D,
     text_captured: Bytes,
-) -> Both<Drain<'g, N, K, D, G>, Reader<'static, M, D, OpenGate>>
+) -> Both<Drain<'g, N, K, D, G>, Listener<M, V, D>>
     requires late { late ≡ K.script.settings.late }
     requires split { (D.view down).split ≡ N.split }
     requires got { ((D.view down).got ≡ []) × (captured.items ≡ []) }
     requires text_split { (D.view text_down).split ≡ M.split }
     requires text_got { ((D.view text_down).got ≡ []) × (text_captured.items ≡ []) }
+    requires room { HoldsTapes K.script captured.room }
+    requires text_room { HoldsWords V.speech text_captured.room }
 {
-    let first = drain_of(late, down, captured, gate);
-    let second = Reader {
+    let first = Drain::new(late, down, captured, gate);
+    let reader = Reader {
         down: text_down,
         captured: text_captured,
         gate: &OpenGate,
         of: PhantomData,
     };
+    let second = Listener {
+        reader,
+        of: PhantomData,
+    };
     Both { first, second }
-}
-
-// Takes what both rings still have.
-fn take_both<N: FromSplit, K: Naming, M: FromSplit, D: DownEnd, G: Gate>(
-    readers: &mut Both<Drain<'_, N, K, D, G>, Reader<'static, M, D, OpenGate>>,
-) {
-    readers.first.take_all();
-    readers.second.take_all();
 }
 
 // Runs what was started, and settles both rings.
@@ -92,17 +91,21 @@ fn run_started<
     gate: &G,
     logs: Logs<E, K, H::Up, C>,
     booths: Booths<F, V, H::Up>,
-    readers: Both<Drain<'_, N, K, H::Down, G>, Reader<'static, M, H::Down, OpenGate>>,
+    readers: Both<Drain<'_, N, K, H::Down, G>, Listener<M, V, H::Down>>,
 ) -> Result<(Run, Talk), Memory>
     requires split { K.split ≡ N.split }
     requires text_split { V.split ≡ M.split }
     ensures script { IfOk result (λ r. r.0.script ≡ K.script) }
     ensures run { IfOk result (λ r. IsRun K.script
-        r.0.tape.marks r.0.settled r.0.captured.items r.0.rest.items r.0.looks) }
+        r.0.tape r.0.settled r.0.captured.items r.0.rest.items r.0.looks) }
     ensures talk { IfOk result (λ r. IsTalk V.speech
-        r.1.said.words r.1.settled r.1.captured.items r.1.rest.items) }
+        r.1.said r.1.settled r.1.captured.items r.1.rest.items) }
     ensures rings { IfOk result (λ r.
         (r.0.settled.ring ≡ H.KIND) × (r.1.settled.ring ≡ H.KIND)) }
+    ensures taken { IfOk result (λ r. K.tells ≡ true → K.script.settings.late ≡ false
+        → r.0.settled.got ≡ r.0.settled.sent) }
+    ensures texts_taken { IfOk result (λ r. V.tells ≡ true
+        → r.1.settled.got ≡ r.1.settled.sent) }
 {
     let (logger, mut pens) = logs;
     let (booth, mut voices) = booths;
@@ -111,11 +114,10 @@ fn run_started<
         booth: booth.shared(),
         speech,
     };
-    let mut readers = run_all(rt, &stage, &mut pens, &mut voices, gate, readers);
-    take_both(&mut readers);
+    let readers = run_all(rt, &stage, &mut pens, &mut voices, gate, readers);
     let (tape, up, script) = logger.close(pens);
     let (said, text_up) = booth.close(voices);
-    settle_both::<H, N, K, M, V, G>(alloc, tape, up, script, said, text_up, readers)
+    settle_both::<H, N, K, M, V, G, R>(rt, alloc, tape, up, script, said, text_up, readers)
 }
 
 // What was made, with what is kept beside it.
@@ -156,25 +158,32 @@ fn run_both<
     requires down { H.Down.view ends.down
         ≡ new_down (H.Up.view ends.up).split script.settings.ring }
     requires captured { ends.captured.items ≡ [] }
+    requires room { HoldsTapes script ends.captured.room }
     requires names { (K.script ≡ script) × (K.split ≡ (H.Up.view ends.up).split)
-        × (N.split ≡ (H.Up.view ends.up).split) }
+        × (K.tells ≡ (H.Up.view ends.up).tells) × (N.split ≡ (H.Up.view ends.up).split) }
     requires ledgers { AreNamed blanks E.names }
     requires text_up { H.Up.view text_ends.up ≡ new_up (H.Up.view text_ends.up).split
         (H.Up.view text_ends.up).size (H.Up.view text_ends.up).tells }
     requires text_down { H.Down.view text_ends.down
         ≡ new_down (H.Up.view text_ends.up).split (H.Up.view text_ends.up).size }
     requires text_captured { text_ends.captured.items ≡ [] }
+    requires text_room { HoldsWords speech.now text_ends.captured.room }
     requires text_names { (V.speech ≡ speech.now)
         × (V.split ≡ (H.Up.view text_ends.up).split)
+        × (V.tells ≡ (H.Up.view text_ends.up).tells)
         × (M.split ≡ (H.Up.view text_ends.up).split) }
     requires text_ledgers { AreNamed text_blanks F.names }
     ensures script { IfOk result (λ r. r.0.script ≡ K.script) }
     ensures run { IfOk result (λ r. IsRun K.script
-        r.0.tape.marks r.0.settled r.0.captured.items r.0.rest.items r.0.looks) }
+        r.0.tape r.0.settled r.0.captured.items r.0.rest.items r.0.looks) }
     ensures talk { IfOk result (λ r. IsTalk V.speech
-        r.1.said.words r.1.settled r.1.captured.items r.1.rest.items) }
+        r.1.said r.1.settled r.1.captured.items r.1.rest.items) }
     ensures rings { IfOk result (λ r.
         (r.0.settled.ring ≡ H.KIND) × (r.1.settled.ring ≡ H.KIND)) }
+    ensures taken { IfOk result (λ r. K.tells ≡ true → K.script.settings.late ≡ false
+        → r.0.settled.got ≡ r.0.settled.sent) }
+    ensures texts_taken { IfOk result (λ r. V.tells ≡ true
+        → r.1.settled.got ≡ r.1.settled.sent) }
 {
     let RingEnds { up, down, captured } = ends;
     let RingEnds {
@@ -182,7 +191,7 @@ fn run_both<
         down: text_down,
         captured: text_captured,
     } = text_ends;
-    let readers = readers_of::<N, K, M, H::Down, G>(
+    let readers = readers_of::<N, K, M, V, H::Down, G>(
         script.late(),
         down,
         captured,
@@ -209,7 +218,8 @@ fn run_both<
 /// texts does these in the script's order, and the calling thread reads at both rings.
 ///
 /// Of the statements it does as `run_script`. A text waits for room in the terminals' ring, which has 1,024 bytes, and the
-/// calling thread reads at it also where the script's reader is late. The gate isn't asked before texts, nor told of what
+/// calling thread reads at it also where the script's reader is late; at the end all of it is taken, as far as the ring tells what was
+/// released. The gate isn't asked before texts, nor told of what
 /// is taken of them. Two captures with room for all that will be sent are there before any thread is started. The call waits
 /// for its threads.
 ///
@@ -226,11 +236,15 @@ pub fn run_terminals<H: Channel, C: Clock + Send + Drop, G: Gate + Sync, R: Thre
     requires fits { ModeFits script.settings.mode H.tells }
     ensures script { IfOk result (λ r. r.0.script ≡ script) }
     ensures run { IfOk result (λ r. IsRun script
-        r.0.tape.marks r.0.settled r.0.captured.items r.0.rest.items r.0.looks) }
+        r.0.tape r.0.settled r.0.captured.items r.0.rest.items r.0.looks) }
     ensures talk { IfOk result (λ r. IsTalk script.said
-        r.1.said.words r.1.settled r.1.captured.items r.1.rest.items) }
+        r.1.said r.1.settled r.1.captured.items r.1.rest.items) }
     ensures rings { IfOk result (λ r.
         (r.0.settled.ring ≡ H.KIND) × (r.1.settled.ring ≡ H.KIND)) }
+    ensures taken { IfOk result (λ r. H.tells ≡ true → script.settings.late ≡ false
+        → r.0.settled.got ≡ r.0.settled.sent) }
+    ensures texts_taken { IfOk result (λ r. H.tells ≡ true
+        → r.1.settled.got ≡ r.1.settled.sent) }
 {
     let (speech, ends, text_ends) = prepare_both::<H>(alloc, &script)?;
     run_both::<H, Brand, Brand, Brand, Brand, Brand, Brand, C, G, R>(

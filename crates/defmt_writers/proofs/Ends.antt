@@ -45,8 +45,9 @@ pub run_ends : (s q : Script) (tape : Reel) (u : Up) (a : Account) (captured res
     → u.freed ≤ length a.got
     → (s.settings.late ≡ true → captured ≡ [])
     → looks ≡ min u.looks (2 ^ 64 - 1)
-    → IsRun s tape.marks a captured rest looks
-run_ends s q tape u a captured rest looks e k all sent got whole freed late told =
+    → a.split ≡ u.split
+    → IsRun s tape a captured rest looks
+run_ends s q tape u a captured rest looks e k all sent got whole freed late told split =
     let now : IsKept (record { script = s; tape = tape; up = u }) = subst (λ (x : Script). IsKept (record { script = x; tape = tape; up = u })) e k in
     let few : length tape.marks ≤ 4096 = omega (arith, now.room) in
     record {
@@ -58,4 +59,7 @@ run_ends s q tape u a captured rest looks e k all sent got whole freed late told
       reach = reached s.settings.mode s tape.marks u (length a.got) now.behind freed;
       late = λ h. got ∙ late h;
       looked = subst (λ (n : ℕ). LooksIn s.settings.mode (length tape.marks) n) (sym told) (looks_told s.settings.mode (length tape.marks) u.looks few now.looks);
+      split = split ∙ sym now.tape.split;
+      counted = told ∙ ap (λ (n : ℕ). min n (2 ^ 64 - 1)) (sym now.tape.looks);
+      rooms = now.rooms;
     }

@@ -1,3 +1,4 @@
 mod Capture
 pub mod Ends
 pub mod Sends
+pub mod Taken

@@ -19,7 +19,7 @@ mod serving;
 pub use drain::Drain;
 pub use reader::{FromSplit, Reader};
 pub use ring_ends::{RingEnds, SettledRing, empty_capture, new_ends, prepare, settle, split_ring};
-pub use script_run::{Run, drain_of, run_script, settle_run};
+pub use script_run::{Run, run_script, settle_run};
 pub use serving::serve_here;
 pub use writer_threads::{
     Gate, OpenGate, Yields, ease_on, finish, log_all, log_until, run_threads,

@@ -1,11 +1,15 @@
 //! A reader of a ring.
-ghost use Rattle.std.specs.Prelude.{◌≡◌, ℕ, ◌+◌, List, []};
+ghost use Rattle.std.specs.Prelude.{◌≡◌, ◌⊎◌, ℕ, ◌+◌, ◌<◌, true, List, [], length};
 ghost use Rattle.defmt_writers.specs.Takes.{Takes};
+ghost use Rattle.rtt_ring.specs.Views.{UpKept};
 
+use crate::serving::serve;
 use dl_io::Bytes;
 use rtt_modes::Relief;
-use rtt_ring::DownEnd;
+use rtt_ring::{DownEnd, UpEnd};
+use shared_work::{Eight, Names, Pens, Quota, Shared, Work, pens};
 use std::marker::{Brand, PhantomData};
+use std::sync::Wait;
 use writer_threads::Gate;
 
 // The most bytes that one take moves.
@@ -18,6 +22,7 @@ pub(crate) fn take<D: DownEnd, G: Gate>(down: &mut D, capture: &mut Bytes, gate:
     ensures got { (D.view down.new).got ≡ capture.new.items }
     ensures room { capture.new.room + result ≡ capture.old.room }
     ensures takes { Takes (D.view down.old) (D.view down.new) capture.old capture.new result }
+    ensures told { 0 < result → G.told gate.now (length capture.new.items) }
 {
     let mut buffer = [0; PIECE];
     let size = capture.spare().min(PIECE);
@@ -28,6 +33,18 @@ pub(crate) fn take<D: DownEnd, G: Gate>(down: &mut D, capture: &mut Bytes, gate:
         gate.took(capture.len() as u64);
     }
     count
+}
+
+// Takes until nothing is there, or there is no room, and tells the gate of each take that took something.
+pub(crate) fn take_all<D: DownEnd, G: Gate>(down: &mut D, capture: &mut Bytes, gate: &G)
+    requires got { (D.view down.old).got ≡ capture.old.items }
+    ensures split { (D.view down.new).split ≡ (D.view down.old).split }
+    ensures got { (D.view down.new).got ≡ capture.new.items }
+    ensures takes { Takes (D.view down.old) (D.view down.new) capture.old capture.new 0 }
+    ensures told { length capture.old.items < length capture.new.items
+        → G.told gate.now (length capture.new.items) }
+{
+    while take(down, capture, gate) > 0 {}
 }
 
 /// From which split of a ring a reader's end comes.
@@ -56,12 +73,73 @@ pub struct Reader<'g, N: FromSplit, D: DownEnd, G: Gate> {
 }
 
 impl<'g, N: FromSplit, D: DownEnd, G: Gate> Reader<'g, N, D, G> {
-    /// Takes until nothing is there, or there is no room. What was captured before stays in front.
+    /// Takes until nothing is there, or there is no room. What was captured before stays in front. Where something was taken
+    /// the gate was told the total.
     pub fn take_all(&mut self)
-        ensures { Takes (D.view self.old.down) (D.view self.new.down)
+        ensures takes { Takes (D.view self.old.down) (D.view self.new.down)
             self.old.captured self.new.captured 0 }
+        ensures told { length self.old.captured.items < length self.new.captured.items
+            → G.told self.new.gate.now (length self.new.captured.items) }
     {
-        while take(&mut self.down, &mut self.captured, self.gate) > 0 {}
+        take_all(&mut self.down, &mut self.captured, self.gate)
+    }
+
+    /// Takes until the upper end of the ring, at which nothing is staged, finds all released that was sent, or there is no room.
+    /// What was captured before stays in front. The call waits for writers at the upper end, so there should be none.
+    pub fn take_rest<U: UpEnd, W: Wait>(&mut self, rt: &W, up: &mut U)
+        requires { (U.view up.old).staged ≡ [] }
+        ensures takes { Takes (D.view self.old.down) (D.view self.new.down)
+            self.old.captured self.new.captured 0 }
+        ensures sent { (U.view up.new).sent ≡ (U.view up.old).sent }
+        ensures kept { UpKept (U.view up.old) (U.view up.new) }
+        ensures taken { (U.view up.old).tells ≡ true
+            → ((U.view up.new).freed ≡ length (U.view up.new).sent) ⊎ (self.new.captured.room ≡ 0) }
+    {
+        for _ in rt.forever() {
+            self.take_all();
+            let room = up.look();
+            let size = up.size();
+            if room + 1 == size || self.captured.spare() == 0 {
+                return;
+            }
+        }
+        unreachable!()
+    }
+
+    /// Does the steps that the pens have left, on the calling thread. Where a step waits, bytes that are there are taken; and behind
+    /// each pen's last step all that is there, as far as there is room.
+    pub fn serve<E: Names, Q: Quota, T: Work<Q>, W: Wait>(
+        &mut self,
+        rt: &W,
+        shared: &Shared<Eight<E>, Q, T>,
+        pens: &mut Pens<E, Q>,
+    )
+        ensures takes { Takes (D.view self.old.down) (D.view self.new.down)
+            self.old.captured self.new.captured 0 }
+        ensures p0 { pens.new.p0.place ≡ pens.new.p0.total }
+        ensures p1 { pens.new.p1.place ≡ pens.new.p1.total }
+        ensures p2 { pens.new.p2.place ≡ pens.new.p2.total }
+        ensures p3 { pens.new.p3.place ≡ pens.new.p3.total }
+        ensures p4 { pens.new.p4.place ≡ pens.new.p4.total }
+        ensures p5 { pens.new.p5.place ≡ pens.new.p5.total }
+        ensures p6 { pens.new.p6.place ≡ pens.new.p6.total }
+        ensures p7 { pens.new.p7.place ≡ pens.new.p7.total }
+    {
+        let Reader {
+            down,
+            captured,
+            gate,
+            ..
+        } = self;
+        let pens!(p0, p1, p2, p3, p4, p5, p6, p7) = pens;
+        serve(rt, shared, p0, down, captured, *gate);
+        serve(rt, shared, p1, down, captured, *gate);
+        serve(rt, shared, p2, down, captured, *gate);
+        serve(rt, shared, p3, down, captured, *gate);
+        serve(rt, shared, p4, down, captured, *gate);
+        serve(rt, shared, p5, down, captured, *gate);
+        serve(rt, shared, p6, down, captured, *gate);
+        serve(rt, shared, p7, down, captured, *gate);
     }
 
     /// The end and what was captured of it, as they are.
@@ -79,7 +157,10 @@ impl<'g, N: FromSplit, D: DownEnd, G: Gate> Reader<'g, N, D, G> {
 impl<'g, N: FromSplit, D: DownEnd, G: Gate> Relief for Reader<'g, N, D, G> {
     ghost kept = { λ _. Unit {0} };
 
-    fn ease(&mut self) {
+    fn ease(&mut self)
+        ensures { Takes (D.view self.old.down) (D.view self.new.down)
+            self.old.captured self.new.captured 1 }
+    {
         take(&mut self.down, &mut self.captured, self.gate);
     }
 }

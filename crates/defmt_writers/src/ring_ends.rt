@@ -108,6 +108,7 @@ pub fn prepare<H: Channel>(
     ensures up { IfOk result (λ e. H.Up.view e.up
         ≡ new_up (H.Up.view e.up).split script.now.settings.ring (H.Up.view e.up).tells) }
     ensures told { IfOk result (λ e. TellsIn script.now.settings.mode (H.Up.view e.up)) }
+    ensures tells { IfOk result (λ e. (H.Up.view e.up).tells ≡ H.tells) }
     ensures down { IfOk result (λ e. H.Down.view e.down
         ≡ new_down (H.Up.view e.up).split script.now.settings.ring) }
     ensures captured { IfOk result (λ e. e.captured.items ≡ []) }
@@ -127,6 +128,7 @@ pub fn settle<H: Channel>(alloc: Global, up: H::Up, down: H::Down) -> Result<Set
     requires staged { (H.Up.view up).staged ≡ [] }
     ensures account { IfOk result (λ a. (a.settled.sent ≡ (H.Up.view up).sent)
         × (a.settled.got ≡ (H.Down.view down).got) × (a.settled.ring ≡ H.KIND)) }
+    ensures split { IfOk result (λ a. a.settled.split ≡ (H.Up.view up).split) }
     ensures rest { IfOk result (λ a. (a.settled.sent ≡ a.settled.got ++ a.rest.items)
         × ((H.Up.view up).freed ≤ length a.settled.got)) }
 {

@@ -1,27 +1,28 @@
 //! How a run goes.
-ghost use Rattle.std.specs.Prelude.{◌≡◌, ◌<◌, ℕ, [], IfOk};
+ghost use Rattle.std.specs.Prelude.{◌≡◌, ◌<◌, ℕ, true, false, [], IfOk};
 ghost use Rattle.defmt_frames.specs.Frames.{count as count_of, pace_of};
 ghost use Rattle.defmt_logger.specs.Kept.{IsKept, TellsIn};
 ghost use Rattle.defmt_logger.specs.Tape.{marks_of};
-ghost use Rattle.defmt_writers.specs.Runs.{IsRun, ModeFits};
+ghost use Rattle.defmt_writers.specs.Runs.{HoldsTapes, IsRun, ModeFits};
+ghost use Rattle.std.specs.Io.{StartsWith};
 ghost use Rattle.rtt_ring.specs.Account.{capped};
 ghost use Rattle.rtt_ring.specs.Views.{new_down, new_up};
 ghost use Rattle.shared_work.specs.Names.{AreNamed};
 
 use crate::drain::Drain;
-use crate::reader::{FromSplit, Reader};
+use crate::reader::FromSplit;
 use crate::ring_ends::{RingEnds, SettledRing, prepare, settle};
 use defmt_hooks::{Clock, Stamp};
 use defmt_logger::{EachStatement, Logger, Logging, Naming, Tape};
 use defmt_script::Script;
 use dl_io::{Bytes, Memory};
-use rtt_ring::{Channel, DownEnd, Settled, UpEnd};
+use rtt_ring::{Channel, Settled, UpEnd};
 use shared_work::{Blanks, Eight, Names};
 use std::alloc::Global;
-use std::marker::{Brand, PhantomData};
+use std::marker::Brand;
 use std::sync::Wait;
 use std::thread::Threads;
-use writer_threads::{Gate, finish, run_threads};
+use writer_threads::{Gate, run_threads};
 
 /// What a run answers.
 #[derive(Drop)]
@@ -38,33 +39,6 @@ pub struct Run {
     pub rest: Bytes,
     /// How many looks the logger made.
     pub looks: u64,
-}
-
-/// A reader that has taken nothing yet, and is late where the script is.
-pub fn drain_of<'g, N: FromSplit, K: Naming, D: DownEnd, G: Gate>(
-    late: bool,
-    down: D,
-    captured: Bytes,
-    gate: &'g G,
-) -> Drain<'g, N, K, D, G>
-    requires late { late ≡ K.script.settings.late }
-    requires split { (D.view down).split ≡ N.split }
-    requires got { ((D.view down).got ≡ []) × (captured.items ≡ []) }
-    ensures late { result.late ≡ late }
-    ensures down { result.reader.down ≡ down }
-    ensures captured { result.reader.captured ≡ captured }
-{
-    let reader = Reader {
-        down,
-        captured,
-        gate,
-        of: PhantomData,
-    };
-    Drain {
-        reader,
-        late,
-        of: PhantomData,
-    }
 }
 
 // Runs a script over the two ends of one split, under their names.
@@ -92,32 +66,37 @@ fn run_named<
     requires down { H.Down.view ends.down
         ≡ new_down (H.Up.view ends.up).split script.settings.ring }
     requires captured { ends.captured.items ≡ [] }
+    requires room { HoldsTapes script ends.captured.room }
     requires names { (K.script ≡ script) × (K.split ≡ (H.Up.view ends.up).split)
-        × (N.split ≡ (H.Up.view ends.up).split) }
+        × (K.tells ≡ (H.Up.view ends.up).tells) × (N.split ≡ (H.Up.view ends.up).split) }
     requires ledgers { AreNamed blanks E.names }
     ensures script { IfOk result (λ r. r.script ≡ K.script) }
     ensures run { IfOk result (λ r.
-        IsRun K.script r.tape.marks r.settled r.captured.items r.rest.items r.looks) }
+        IsRun K.script r.tape r.settled r.captured.items r.rest.items r.looks) }
     ensures ring { IfOk result (λ r. r.settled.ring ≡ H.KIND) }
+    ensures taken { IfOk result (λ r. K.tells ≡ true → K.script.settings.late ≡ false
+        → r.settled.got ≡ r.settled.sent) }
 {
     let RingEnds { up, down, captured } = ends;
     let late = script.late();
-    let drain = drain_of::<N, K, H::Down, G>(late, down, captured, gate);
+    let drain = Drain::<N, K, H::Down, G>::new(late, down, captured, gate);
     let (logger, mut pens) = Logger::<Eight<E>, EachStatement<K>, Logging<K, H::Up, C>>::start(
         alloc, blanks, script, stamp, up,
     )?;
     let mut drain = run_threads(rt, logger.shared(), &mut pens, gate, !late, drain);
-    finish(rt, logger.shared(), &mut pens, gate, &mut drain);
-    drain.take_all();
+    drain.serve(rt, logger.shared(), &mut pens);
     let (tape, up, script) = logger.close(pens);
-    settle_run::<H, N, K, G>(alloc, tape, up, script, drain)
+    settle_run::<H, N, K, G, R>(rt, alloc, tape, up, script, drain)
 }
 
-/// Settles the ring of a run of which every statement is on the tape. The tape and what the reader captured come back as they were.
+/// Settles the ring of a run of which every statement is on the tape. A reader that isn't late takes what is still there: all that
+/// was sent. What it captured before stays in front, and the tape comes back as it was. The call waits for nobody where no
+/// other thread has an end of the ring.
 ///
 /// # Errors
 /// `Memory` where there is none.
-pub fn settle_run<H: Channel, N: FromSplit, K: Naming, G: Gate>(
+pub fn settle_run<H: Channel, N: FromSplit, K: Naming, G: Gate, W: Wait>(
+    rt: &W,
     alloc: Global,
     tape: Tape,
     up: H::Up,
@@ -130,14 +109,22 @@ pub fn settle_run<H: Channel, N: FromSplit, K: Naming, G: Gate>(
     requires all { (w : ℕ) → w < 8 → marks_of w tape.marks ≡ count_of K.script w }
     ensures script { IfOk result (λ r. r.script ≡ K.script) }
     ensures run { IfOk result (λ r.
-        IsRun K.script r.tape.marks r.settled r.captured.items r.rest.items r.looks) }
+        IsRun K.script r.tape r.settled r.captured.items r.rest.items r.looks) }
     ensures ring { IfOk result (λ r. r.settled.ring ≡ H.KIND) }
     ensures tape { IfOk result (λ r. r.tape ≡ tape) }
     ensures sent { IfOk result (λ r. r.settled.sent ≡ (H.Up.view up).sent) }
-    ensures captured { IfOk result (λ r. r.captured ≡ drain.entry.reader.captured) }
+    ensures captured { IfOk result (λ r.
+        StartsWith r.captured.items drain.entry.reader.captured.items) }
+    ensures late { drain.entry.late ≡ true
+        → IfOk result (λ r. r.captured ≡ drain.entry.reader.captured) }
+    ensures taken { IfOk result (λ r. (H.Up.view up).tells ≡ true
+        → K.script.settings.late ≡ false → r.settled.got ≡ r.settled.sent) }
     ensures looks { IfOk result (λ r. r.looks ≡ capped (H.Up.view up).looks) }
 {
     let looks = up.looks();
+    let mut up = up;
+    let mut drain = drain;
+    drain.take_rest(rt, &mut up);
     let Drain { reader, .. } = drain;
     let (down, captured) = reader.into_parts();
     let SettledRing { settled, rest } = settle::<H>(alloc, up, down)?;
@@ -155,8 +142,8 @@ pub fn settle_run<H: Channel, N: FromSplit, K: Naming, G: Gate>(
 ///
 /// The stamp counts as the script's stamps do, and by 0 and 0 without them. In skip and trim mode the ring tells how many bytes
 /// were released. The gate is asked before each statement is logged, and told of each take that took something. A late reader
-/// takes nothing. A writer whose thread couldn't be started is run by the calling thread, which reads where a frame waits for room.
-/// The call waits for its threads.
+/// takes nothing; another has taken all that was sent at the end, as far as the ring tells what was released. A writer whose thread
+/// couldn't be started is run by the calling thread, which reads where a frame waits for room. The call waits for its threads.
 ///
 /// # Errors
 /// `Memory` where there is none.
@@ -171,8 +158,10 @@ pub fn run_script<H: Channel, C: Clock + Send + Drop, G: Gate + Sync, R: Threads
     requires fits { ModeFits script.settings.mode H.tells }
     ensures script { IfOk result (λ r. r.script ≡ script) }
     ensures run { IfOk result (λ r.
-        IsRun script r.tape.marks r.settled r.captured.items r.rest.items r.looks) }
+        IsRun script r.tape r.settled r.captured.items r.rest.items r.looks) }
     ensures ring { IfOk result (λ r. r.settled.ring ≡ H.KIND) }
+    ensures taken { IfOk result (λ r. H.tells ≡ true → script.settings.late ≡ false
+        → r.settled.got ≡ r.settled.sent) }
 {
     let ends = prepare::<H>(alloc, &script)?;
     run_named::<H, Brand, Brand, Brand, C, G, R>(

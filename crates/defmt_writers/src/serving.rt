@@ -1,7 +1,11 @@
 //! A reader that reads while its own thread logs.
-ghost use Rattle.std.specs.Prelude.{◌≡◌, ℕ, List, []};
+ghost use Rattle.std.specs.Prelude.{◌≡◌, ℕ, []};
+ghost use Rattle.dl_io.specs.Buffer.{Buffer};
+ghost use Rattle.defmt_writers.specs.Takes.{Takes};
+ghost use Rattle.rtt_ring.specs.Views.{Down, new_down};
+ghost use Rattle.writer_threads.specs.Passing.{PassedAll};
 
-use crate::reader::take;
+use crate::reader::{take, take_all};
 use defmt_logger::Logger;
 use dl_io::Bytes;
 use rtt_modes::Relief;
@@ -12,15 +16,17 @@ use std::sync::Wait;
 use std::sync::ledger::Ledger;
 use writer_threads::{Gate, log_all};
 
-// Which lower end and which capture were lent, and the name of the end's split when they were.
+// Which lower end and which capture were lent, and what they were then.
 trait Lent {
     // The names of the two loans.
     ghost down: { ℕ };
 
     ghost capture: { ℕ };
 
-    // The name of the split.
-    ghost split: { List ℕ };
+    // The end and the capture.
+    ghost before: { Down };
+
+    ghost had: { Buffer };
 }
 
 impl Lent for Brand {
@@ -28,7 +34,9 @@ impl Lent for Brand {
 
     ghost capture = { 0 };
 
-    ghost split = { [] };
+    ghost before = { new_down [] 0 };
+
+    ghost had = { record { items = []; room = 0 } };
 }
 
 // A lower end and what was captured of it, both lent.
@@ -44,15 +52,30 @@ impl<'s, D: DownEnd> Loan<'s, D> {
         requires got { (D.view self.old.down.now).got ≡ self.old.capture.now.items }
         ensures got { (D.view self.new.down.now).got ≡ self.new.capture.now.items }
         ensures split { (D.view self.new.down.now).split ≡ (D.view self.old.down.now).split }
+        ensures takes { Takes (D.view self.old.down.now) (D.view self.new.down.now)
+            self.old.capture.now self.new.capture.now 1 }
         ensures same_down { self.new.down.ghost_name ≡ self.old.down.ghost_name }
         ensures same_capture { self.new.capture.ghost_name ≡ self.old.capture.ghost_name }
     {
         take(self.down, self.capture, gate);
     }
+
+    // Takes until nothing is there, or there is no room.
+    fn take_all<G: Gate>(&mut self, gate: &G)
+        requires got { (D.view self.old.down.now).got ≡ self.old.capture.now.items }
+        ensures got { (D.view self.new.down.now).got ≡ self.new.capture.now.items }
+        ensures split { (D.view self.new.down.now).split ≡ (D.view self.old.down.now).split }
+        ensures takes { Takes (D.view self.old.down.now) (D.view self.new.down.now)
+            self.old.capture.now self.new.capture.now 0 }
+        ensures same_down { self.new.down.ghost_name ≡ self.old.down.ghost_name }
+        ensures same_capture { self.new.capture.ghost_name ≡ self.old.capture.ghost_name }
+    {
+        take_all(self.down, self.capture, gate)
+    }
 }
 
-// The relief that reads: each ease takes what is there. The capture holds exactly what the end has got, and the end and the
-// capture are those that were lent, the end from the split that it was from.
+// The relief that reads: each ease takes what is there. The capture holds exactly what the end has got; and the end and the
+// capture are those that were lent, the end from the split that it was from, after takes and nothing else.
 #[derive(Drop)]
 struct Serving<'s, 'g, N: Lent, D: DownEnd, G: Gate> {
     loan: Loan<'s, D>,
@@ -62,16 +85,17 @@ struct Serving<'s, 'g, N: Lent, D: DownEnd, G: Gate> {
 
 impl<'s, 'g, N: Lent, D: DownEnd, G: Gate> Relief for Serving<'s, 'g, N, D, G> {
     ghost kept = { λ s. ((D.view s.loan.down.now).got ≡ s.loan.capture.now.items)
-        × ((D.view s.loan.down.now).split ≡ N.split)
-        × (s.loan.down.ghost_name ≡ N.down) × (s.loan.capture.ghost_name ≡ N.capture) };
+        × ((D.view s.loan.down.now).split ≡ N.before.split)
+        × (s.loan.down.ghost_name ≡ N.down) × (s.loan.capture.ghost_name ≡ N.capture)
+        × Takes N.before (D.view s.loan.down.now) N.had s.loan.capture.now 1 };
 
     fn ease(&mut self) {
         self.loan.take(self.gate);
     }
 }
 
-// Does the steps that the pen has left, with a relief that reads, and gives the loan back.
-fn serve<
+// Does the steps that the pen has left, with a relief that reads, takes all that is there then, and gives the loan back.
+fn serve_named<
     's,
     N: Lent,
     B: Books,
@@ -90,11 +114,13 @@ fn serve<
     gate: &G,
 ) -> Loan<'s, D>
     requires got { (D.view loan.down.now).got ≡ loan.capture.now.items }
-    requires split { (D.view loan.down.now).split ≡ N.split }
+    requires before { (D.view loan.down.now ≡ N.before) × (loan.capture.now ≡ N.had) }
     requires lent { (loan.down.ghost_name ≡ N.down) × (loan.capture.ghost_name ≡ N.capture) }
     ensures place { pen.new.place ≡ pen.new.total }
+    ensures asked { PassedAll (G.passed gate.now S.NUMBER) pen.old.place pen.new.place }
     ensures got { (D.view result.down.now).got ≡ result.capture.now.items }
-    ensures split { (D.view result.down.now).split ≡ N.split }
+    ensures split { (D.view result.down.now).split ≡ N.before.split }
+    ensures takes { Takes N.before (D.view result.down.now) N.had result.capture.now 0 }
     ensures lent { (result.down.ghost_name ≡ N.down) × (result.capture.ghost_name ≡ N.capture) }
 {
     let mut serving = Serving::<N, D, G> {
@@ -103,12 +129,43 @@ fn serve<
         of: PhantomData,
     };
     log_all(rt, shared, pen, gate, &mut serving);
-    let Serving { loan, .. } = serving;
+    let Serving { mut loan, .. } = serving;
+    loan.take_all(gate);
     loan
 }
 
+// Does the steps that the pen has left. Where a step waits, bytes that are there are taken; and behind the last all that is there.
+pub(crate) fn serve<
+    B: Books,
+    Q: Quota,
+    T: Work<Q>,
+    S: HasBook<B, L>,
+    L: Ledger,
+    D: DownEnd,
+    G: Gate,
+    W: Wait,
+>(
+    rt: &W,
+    shared: &Shared<B, Q, T>,
+    pen: &mut Pen<S, L, Q>,
+    down: &mut D,
+    capture: &mut Bytes,
+    gate: &G,
+)
+    requires got { (D.view down.old).got ≡ capture.old.items }
+    ensures place { pen.new.place ≡ pen.new.total }
+    ensures asked { PassedAll (G.passed gate.now S.NUMBER) pen.old.place pen.new.place }
+    ensures got { (D.view down.new).got ≡ capture.new.items }
+    ensures split { (D.view down.new).split ≡ (D.view down.old).split }
+    ensures takes { Takes (D.view down.old) (D.view down.new) capture.old capture.new 0 }
+{
+    let loan = Loan { down, capture };
+    serve_named::<Brand, B, Q, T, S, L, D, G, W>(rt, shared, pen, loan, gate);
+}
+
 /// Logs the statements that a pen has left, on the calling thread. In blocking mode, where a frame waits for room, bytes are
-/// taken at the ring's lower end and captured, as far as the capture has room for them.
+/// taken at the ring's lower end and captured, as far as the capture has room for them. Behind the last statement all that is
+/// there is taken.
 ///
 /// The pen is one of this logger's, as its type says, and `count` is how many statements its writer has, by the logger's
 /// quota. The capture holds exactly what the lower end has got, before and afterwards; the end stays one of the same split.
@@ -135,10 +192,10 @@ pub fn serve_here<
     requires count { count ≡ Q.quota S.NUMBER }
     requires got { (H.Down.view down.old).got ≡ capture.old.items }
     ensures place { pen.new.place ≡ count }
+    ensures asked { PassedAll (G.passed gate.now S.NUMBER) pen.old.place pen.new.place }
     ensures got { (H.Down.view down.new).got ≡ capture.new.items }
     ensures split { (H.Down.view down.new).split ≡ (H.Down.view down.old).split }
+    ensures takes { Takes (H.Down.view down.old) (H.Down.view down.new) capture.old capture.new 0 }
 {
-    let loan = Loan { down, capture };
-    let shared = logger.shared();
-    serve::<Brand, B, Q, T, S, L, H::Down, G, W>(rt, shared, pen, loan, gate);
+    serve(rt, logger.shared(), pen, down, capture, gate)
 }

@@ -14,3 +14,9 @@ returns-clause-talk g c = IfOk-weaker c.both.result _ _ (λ r is. ok_of _ _ _ is
 pub returns-clause-rings : goal.returns-clause-rings
 returns-clause-rings g c =
     IfOk-weaker c.both.result _ _ (λ r is. (ok_of _ _ _ is.0 c.settle_run-run.ensures.ring, ok_of _ _ _ is.1 c.settle_talk-talk.ensures.ring)) c.both.ensures
+
+pub returns-clause-taken : goal.returns-clause-taken
+returns-clause-taken g c = IfOk-weaker c.both.result _ _ (λ r is. ok_of _ _ _ is.0 c.settle_run-run.ensures.taken) c.both.ensures
+
+pub returns-clause-texts_taken : goal.returns-clause-texts_taken
+returns-clause-texts_taken g c = IfOk-weaker c.both.result _ _ (λ r is. ok_of _ _ _ is.1 c.settle_talk-talk.ensures.taken) c.both.ensures

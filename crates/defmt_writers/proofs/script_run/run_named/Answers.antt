@@ -15,13 +15,13 @@ run_threads-drain-requires-send-T g c κs within =
 pub settle_run-requires-clause-all : goal.settle_run-requires-clause-all
 settle_run-requires-clause-all g c κs within =
     let close = c.close-tape.ensures in
-    let ends = c.finish.ensures in
+    let ends = c.serve.ensures in
     below_eight (λ w. marks_of w c.close-tape.result.0.marks ≡ count g.K.Naming.script w)
-    (close.p0 ∙ ends.p0 ∙ c.finish.new.pens.p0.all)
-    (close.p1 ∙ ends.p1 ∙ c.finish.new.pens.p1.all)
-    (close.p2 ∙ ends.p2 ∙ c.finish.new.pens.p2.all)
-    (close.p3 ∙ ends.p3 ∙ c.finish.new.pens.p3.all)
-    (close.p4 ∙ ends.p4 ∙ c.finish.new.pens.p4.all)
-    (close.p5 ∙ ends.p5 ∙ c.finish.new.pens.p5.all)
-    (close.p6 ∙ ends.p6 ∙ c.finish.new.pens.p6.all)
-    (close.p7 ∙ ends.p7 ∙ c.finish.new.pens.p7.all)
+    (close.p0 ∙ ends.p0 ∙ c.serve.new.pens.p0.all)
+    (close.p1 ∙ ends.p1 ∙ c.serve.new.pens.p1.all)
+    (close.p2 ∙ ends.p2 ∙ c.serve.new.pens.p2.all)
+    (close.p3 ∙ ends.p3 ∙ c.serve.new.pens.p3.all)
+    (close.p4 ∙ ends.p4 ∙ c.serve.new.pens.p4.all)
+    (close.p5 ∙ ends.p5 ∙ c.serve.new.pens.p5.all)
+    (close.p6 ∙ ends.p6 ∙ c.serve.new.pens.p6.all)
+    (close.p7 ∙ ends.p7 ∙ c.serve.new.pens.p7.all)

@@ -8,4 +8,4 @@ abbrev pub ghosts-run_named-N-FromSplit : goal.ghosts-run_named-N-FromSplit
 ghosts-run_named-N-FromSplit g a = record { split = (g.H.Up.UpEnd.view a.ends.up).split }
 
 abbrev pub ghosts-run_named-K-Naming : goal.ghosts-run_named-K-Naming
-ghosts-run_named-K-Naming g a = record { script = a.script; split = (g.H.Up.UpEnd.view a.ends.up).split }
+ghosts-run_named-K-Naming g a = record { script = a.script; split = (g.H.Up.UpEnd.view a.ends.up).split; tells = (g.H.Up.UpEnd.view a.ends.up).tells }
