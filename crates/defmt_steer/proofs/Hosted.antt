@@ -1,20 +1,22 @@
 -- What a host sends, and how its run ends.
-use Rattle.std.proofs.Common.{◌≡◌, ℕ, ◌+◌, ◌*◌, ◌<◌, ◌≤◌, List, ◌++◌, true, length, sym, ap, ◌∙◌, subst, arith, take}
-use Rattle.std.proofs.lemmas.List.{length-take-le}
+use Rattle.std.proofs.Common.{◌≡◌, ℕ, ◌+◌, ◌*◌, ◌<◌, ◌≤◌, List, [], ◌++◌, true, length, length-append, sym, ap, ◌∙◌, subst, inl, inr, arith, take}
+use Rattle.std.specs.Prelude.{◌⊎◌}
+use Rattle.std.proofs.lemmas.List.{length-take-le, nil_from_length}
 use Rattle.defmt_frames.specs.Frames.{count}
 use Rattle.defmt_hooks.specs.declared.level.Level.{Level}
 use Rattle.defmt_script.specs.Script.{Script}
 use Rattle.defmt_steer.proofs.Due.{due_few, joined_size}
 use Rattle.defmt_steer.specs.Steers.{IsSteeredRun, Plan, due, whole_frames}
+use Rattle.defmt_writers.specs.Runs.{HoldsStreams}
 use Rattle.rtt_down.specs.Kept.{IsKept}
 use Rattle.rtt_down.specs.Orders.{orders_joined}
 use Rattle.rtt_down.specs.Reel.{Reel}
-use Rattle.rtt_down.specs.Steered.{IsSteered, turns_of}
+use Rattle.rtt_down.specs.Steered.{AreHeard, IsSteered, turns_of}
 use Rattle.rtt_modes.specs.Fates.{ByLook, SkippedBy, part_of}
 use Rattle.rtt_modes.specs.declared.fate.Fate.{Fate}
 use Rattle.rtt_modes.specs.declared.fate.Fate.TheVariants.{Whole, Dropped, Cut}
 use Rattle.rtt_ring.specs.Account.{Account}
-use Rattle.rtt_ring.specs.Views.{Down, Up}
+use Rattle.rtt_ring.specs.Views.{Down, Up, UpKept}
 
 -- ---- an order fits
 
@@ -39,30 +41,72 @@ few_sent plan frames n sent few below is =
 
 -- ---- the end
 
-pub steered_ends : (s q : Script) (plan : Plan) (reel : Reel) (u : Up) (d : Down) (given : List ℕ) (a b : Account) (captured rest unheard : List ℕ)
+-- where the upper end only looked
+pub kept_same : (s : Script) (reel : Reel) (u v : Up) (d : Down) → IsKept (record { script = s; turns = reel; up = u; down = d }) → UpKept u v → v.sent ≡ u.sent
+    → IsKept (record { script = s; turns = reel; up = v; down = d })
+kept_same s reel u v d k kept sent = record {
+  steered = k.steered;
+  sent = sent ∙ k.sent;
+  staged = kept.staged;
+  looks = k.looks;
+  heard = k.heard;
+  found = k.found;
+  split = k.split ∙ sym kept.split;
+  down = k.down;
+  room = k.room;
+}
+
+-- nothing is left where all was released, and where all that can be sent was captured
+all_taken : (u : Up) (a : Account) (captured rest : List ℕ) (left room : ℕ) → a.sent ≡ u.sent → a.got ≡ captured → a.sent ≡ a.got ++ rest → u.freed ≤ length a.got → length u.sent ≤ room
+    → left + length captured ≡ room → (u.freed ≡ length u.sent) ⊎ (left ≡ 0) → rest ≡ []
+all_taken u a captured rest left room sent got whole freed fits held ends =
+    let total : length a.sent ≡ length a.got + length rest = ap length whole ∙ length-append a.got rest in
+    let same : length a.sent ≡ length u.sent = ap length sent in
+    let took : length a.got ≡ length captured = ap length got in
+    nil_from_length rest (elim ends [ inl all ↦ omega (arith, all, total, same, freed) | inr full ↦ omega (arith, full, total, same, took, held, fits) ])
+
+-- what a settled ring of frames was: its upper end, and what was left of the host's room
+pub record Emptied (u : Up) (a : Account) (captured rest : List ℕ) (left room : ℕ) : Type 0 where
+  pub split : a.split ≡ u.split
+  pub sent : a.sent ≡ u.sent
+  pub got : a.got ≡ captured
+  pub whole : a.sent ≡ a.got ++ rest
+  pub freed : u.freed ≤ length a.got
+  pub held : left + length captured ≡ room
+  pub ends : (u.freed ≡ length u.sent) ⊎ (left ≡ 0)
+
+pub steered_ends : (s q : Script) (plan : Plan) (reel : Reel) (u : Up) (d : Down) (given name : List ℕ) (a b : Account) (captured rest unheard : List ℕ) (left room : ℕ)
     → q ≡ s
     → plan ≡ s.settings.orders
     → IsKept (record { script = q; turns = reel; up = u; down = d })
     → ((w : ℕ) → w < 8 → turns_of w reel.turns ≡ count s w)
-    → a.sent ≡ u.sent
-    → a.got ≡ captured
-    → a.sent ≡ a.got ++ rest
+    → Emptied u a captured rest left room
+    → HoldsStreams s room
+    → reel.ahead ≡ orders_joined (due plan 0)
     → given ≡ orders_joined (due plan (whole_frames captured))
+    → b.split ≡ name → d.split ≡ name
     → b.sent ≡ given
     → b.got ≡ d.got
     → b.sent ≡ b.got ++ unheard
-    → IsSteeredRun s reel.turns a captured rest b unheard
-steered_ends s q plan reel u d given a b captured rest unheard e same k all sent got whole is ordered heard left =
+    → IsSteeredRun s reel a captured rest b unheard
+steered_ends s q plan reel u d given name a b captured rest unheard left room e same k all t holds early is named down ordered heard behind =
     let P : Script → Type 0 = λ x. IsKept (record { script = x; turns = reel; up = u; down = d }) in
     let now : IsKept (record { script = s; turns = reel; up = u; down = d }) = subst P e k in
+    let steered : IsSteered s reel.turns b.got = subst (λ (l : List ℕ). IsSteered s reel.turns l) (sym heard) now.steered in
+    let fits : length u.sent ≤ room = subst (λ (l : List ℕ). length l ≤ room) (sym now.sent) (holds.turns reel.turns b.got steered) in
     record {
-      steered = subst (λ (l : List ℕ). IsSteered s reel.turns l) (sym heard) now.steered;
+      steered = steered;
+      hears = subst (λ (l : List ℕ). AreHeard l 0 reel.turns reel.found) (sym heard) now.heard;
       all = all;
-      sends = sent ∙ now.sent;
-      takes = got;
-      whole = whole ∙ ap (λ (l : List ℕ). l ++ rest) got;
+      sends = t.sent ∙ now.sent;
+      takes = t.got;
+      whole = t.whole ∙ ap (λ (l : List ℕ). l ++ rest) t.got;
+      taken = all_taken u a captured rest left room t.sent t.got t.whole t.freed fits t.held t.ends;
+      split = t.split ∙ sym now.split;
+      down = named ∙ sym down ∙ sym now.down;
+      early = early ∙ ap (λ (p : Plan). orders_joined (due p 0)) same;
       ordered =
-          ordered ∙ is ∙ ap (λ (l : List ℕ). orders_joined (due plan (whole_frames l))) (sym got)
+          ordered ∙ is ∙ ap (λ (l : List ℕ). orders_joined (due plan (whole_frames l))) (sym t.got)
           ∙ ap (λ (p : Plan). orders_joined (due p (whole_frames a.got))) same;
-      heard = left;
+      heard = behind;
     }

@@ -1,7 +1,8 @@
 //! The host of a run under orders.
-ghost use Rattle.std.specs.Prelude.{◌≡◌, ◌+◌, ◌<◌, ◌≤◌, true, [], ◌++◌, length, take};
+ghost use Rattle.std.specs.Prelude.{◌≡◌, ◌⊎◌, ℕ, ◌+◌, ◌<◌, ◌≤◌, true, [], ◌++◌, length, min, take};
 ghost use Rattle.std.specs.Coded.{Coded-set};
 ghost use Rattle.defmt_steer.specs.Steers.{Counts, coded_plan, due, whole_frames};
+ghost use Rattle.defmt_writers.specs.Takes.{Takes};
 ghost use Rattle.rtt_down.specs.Orders.{order_of, orders_joined};
 ghost use Rattle.rtt_ring.specs.Views.{UpKept, new_up};
 
@@ -12,19 +13,21 @@ use rtt_down::order_bytes;
 use rtt_modes::{Relief, skip};
 use rtt_ring::{DownEnd, UpEnd};
 use std::marker::{Brand, PhantomData};
+use std::sync::Wait;
 use writer_threads::Gate;
 
 // The most bytes that one take moves.
 const PIECE: usize = 256;
 
-// Takes bytes into the buffer, captures them, and counts the frames that are whole now.
+// Takes bytes into the buffer, which has all the room that one take asks for, captures them, and counts the frames that are whole
+// now.
 fn take_counted<D: DownEnd>(
     down: &mut D,
     capture: &mut Bytes,
     count: &mut FrameCount,
     buffer: &mut [u8],
 ) -> usize
-    requires room { length buffer.old ≤ capture.old.room }
+    requires room { length buffer.old ≡ min capture.old.room 256 }
     requires got { (D.view down.old).got ≡ capture.old.items }
     requires counts { Counts count.old.frames count.old.zeros count.old.begun capture.old.items }
     ensures split { (D.view down.new).split ≡ (D.view down.old).split }
@@ -32,6 +35,7 @@ fn take_counted<D: DownEnd>(
     ensures counts { Counts count.new.frames count.new.zeros count.new.begun capture.new.items }
     ensures more { count.old.frames ≤ count.new.frames }
     ensures room { capture.new.room + result ≡ capture.old.room }
+    ensures takes { Takes (D.view down.old) (D.view down.new) capture.old capture.new result }
 {
     let size = down.take(buffer);
     capture.extend_reserved(&buffer[..size]);
@@ -75,7 +79,7 @@ fn send_due<U: UpEnd>(up: &mut U, orders: &[(u32, Level)], next: usize, frames: 
     sent
 }
 
-// From which splits of two rings a host's ends come, and which orders it sends.
+// From which splits of two rings a host's ends come, how many bytes it can capture, and which orders it sends.
 pub(crate) trait Hosting {
     ghost use Rattle.std.specs.Prelude.{ℕ, List};
     ghost use Rattle.defmt_steer.specs.Steers.{Plan};
@@ -85,6 +89,9 @@ pub(crate) trait Hosting {
 
     // The name of the split of the ring that orders go down.
     ghost down: { List ℕ };
+
+    // For how many bytes there is room, those that were captured among them.
+    ghost room: { ℕ };
 
     // The orders.
     ghost plan: { Plan };
@@ -96,6 +103,8 @@ impl Hosting for Brand {
     ghost up = { [] };
 
     ghost down = { [] };
+
+    ghost room = { 0 };
 
     ghost plan = { [] };
 }
@@ -114,6 +123,7 @@ pub(crate) struct OrderSender<'g, N: Hosting, U: UpEnd, D: DownEnd, G: Gate> {
     pub(crate) of: PhantomData<N>,
     ghost split: { (D.view reads).split ≡ N.up },
     ghost got: { (D.view reads).got ≡ captured.items },
+    ghost room: { captured.room + length captured.items ≡ N.room },
     ghost counts: { Counts count.frames count.zeros count.begun captured.items },
     ghost order_split: { (U.view sends).split ≡ N.down },
     ghost ring: { ((U.view sends).tells ≡ true) × ((U.view sends).size ≡ 256) },
@@ -133,9 +143,10 @@ pub(crate) fn order_sender<'g, N: Hosting, U: UpEnd, D: DownEnd, G: Gate>(
     gate: &'g G,
 ) -> OrderSender<'g, N, U, D, G>
     requires reads { ((D.view reads).split ≡ N.up) × ((D.view reads).got ≡ []) }
-    requires captured { captured.items ≡ [] }
+    requires captured { (captured.items ≡ []) × (captured.room ≡ N.room) }
     requires sends { U.view sends ≡ new_up N.down 256 true }
     requires orders { (orders.items ≡ N.plan) × (length orders.items ≤ 64) }
+    ensures early { (U.view result.sends).sent ≡ orders_joined (due N.plan 0) }
 {
     let next = send_due(&mut sends, &orders, 0, 0);
     OrderSender {
@@ -162,7 +173,11 @@ impl<'g, N: Hosting, U: UpEnd, D: DownEnd, G: Gate> OrderSender<'g, N, U, D, G> 
     // Takes bytes that are there, as far as there is room for them, tells the gate, and sends the orders that are due now. Answers
     // how many bytes it took.
     fn take(&mut self) -> usize
-        ensures { self.new.captured.room + result ≡ self.old.captured.room }
+        ensures room { self.new.captured.room + result ≡ self.old.captured.room }
+        ensures takes { Takes (D.view self.old.reads) (D.view self.new.reads)
+            self.old.captured self.new.captured result }
+        ensures told { 0 < result
+            → G.told self.new.gate.now (length self.new.captured.items) }
     {
         let mut buffer = [0; PIECE];
         let size = self.captured.spare().min(PIECE);
@@ -180,8 +195,32 @@ impl<'g, N: Hosting, U: UpEnd, D: DownEnd, G: Gate> OrderSender<'g, N, U, D, G> 
     }
 
     // Takes until nothing is there, or there is no room.
-    pub(crate) fn take_all(&mut self) {
+    fn take_all(&mut self)
+        ensures { Takes (D.view self.old.reads) (D.view self.new.reads)
+            self.old.captured self.new.captured 0 }
+    {
         while self.take() > 0 {}
+    }
+
+    // Takes until the upper end of the ring of frames finds all released that was sent, or there is no room.
+    pub(crate) fn take_rest<V: UpEnd, W: Wait>(&mut self, rt: &W, up: &mut V)
+        requires up { ((V.view up.old).staged ≡ []) × ((V.view up.old).tells ≡ true) }
+        ensures takes { Takes (D.view self.old.reads) (D.view self.new.reads)
+            self.old.captured self.new.captured 0 }
+        ensures sent { (V.view up.new).sent ≡ (V.view up.old).sent }
+        ensures kept { UpKept (V.view up.old) (V.view up.new) }
+        ensures rest { ((V.view up.new).freed ≡ length (V.view up.new).sent)
+            ⊎ (self.new.captured.room ≡ 0) }
+    {
+        for _ in rt.forever() {
+            self.take_all();
+            let room = up.look();
+            let size = up.size();
+            if room + 1 == size || self.captured.spare() == 0 {
+                return;
+            }
+        }
+        unreachable!()
     }
 
     // The ends of both rings, and what was captured.
@@ -189,6 +228,8 @@ impl<'g, N: Hosting, U: UpEnd, D: DownEnd, G: Gate> OrderSender<'g, N, U, D, G> 
         ensures split { (D.view result.reads).split ≡ N.up }
         ensures order_split { (U.view result.sends).split ≡ N.down }
         ensures got { (D.view result.reads).got ≡ result.captured.items }
+        ensures captured { result.captured ≡ self.entry.captured }
+        ensures room { result.captured.room + length result.captured.items ≡ N.room }
         ensures staged { (U.view result.sends).staged ≡ [] }
         ensures sent { (U.view result.sends).sent
             ≡ orders_joined (due N.plan (whole_frames result.captured.items)) }
@@ -214,7 +255,12 @@ impl<'g, N: Hosting, U: UpEnd, D: DownEnd, G: Gate> OrderSender<'g, N, U, D, G> 
 impl<'g, N: Hosting, U: UpEnd, D: DownEnd, G: Gate> Relief for OrderSender<'g, N, U, D, G> {
     ghost kept = { λ _. Unit {0} };
 
-    fn ease(&mut self) {
+    // It looks once, and takes some bytes where any are there and there is room.
+    fn ease(&mut self)
+        ensures { (count : ℕ) × (self.new.captured.room + count ≡ self.old.captured.room)
+            × Takes (D.view self.old.reads) (D.view self.new.reads)
+            self.old.captured self.new.captured count }
+    {
         self.take();
     }
 }

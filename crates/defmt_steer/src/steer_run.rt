@@ -1,8 +1,10 @@
 //! How a run under orders goes.
-ghost use Rattle.std.specs.Prelude.{◌≡◌, ◌<◌, ◌≤◌, ◌++◌, ℕ, List, true, [], IfOk, length};
+ghost use Rattle.std.specs.Prelude.{◌≡◌, ◌⊎◌, ◌<◌, ◌≤◌, ◌++◌, ℕ, List, true, [], IfOk, length};
 ghost use Rattle.defmt_frames.specs.Frames.{count as count_of, pace_of};
-ghost use Rattle.defmt_steer.specs.Steers.{IsSteeredRun};
+ghost use Rattle.defmt_steer.specs.Steers.{IsSteeredRun, due};
+ghost use Rattle.defmt_writers.specs.Runs.{HoldsStreams};
 ghost use Rattle.rtt_down.specs.Kept.{IsKept};
+ghost use Rattle.rtt_down.specs.Orders.{orders_joined};
 ghost use Rattle.rtt_down.specs.Steered.{turns_of};
 ghost use Rattle.rtt_ring.specs.Views.{new_down, new_up};
 ghost use Rattle.shared_work.specs.Names.{AreNamed};
@@ -61,6 +63,9 @@ fn settle_both<H: Channel>(
     ensures orders { IfOk result (λ r. (r.1.settled.sent ≡ (H.Up.view sends).sent)
         × (r.1.settled.got ≡ (H.Down.view down).got)
         × (r.1.settled.sent ≡ r.1.settled.got ++ r.1.rest.items)) }
+    ensures freed { IfOk result (λ r. (H.Up.view up).freed ≤ length r.0.settled.got) }
+    ensures splits { IfOk result (λ r. (r.0.settled.split ≡ (H.Up.view up).split)
+        × (r.1.settled.split ≡ (H.Up.view sends).split)) }
     ensures rings { IfOk result (λ r.
         (r.0.settled.ring ≡ H.KIND) × (r.1.settled.ring ≡ H.KIND)) }
 {
@@ -69,7 +74,7 @@ fn settle_both<H: Channel>(
     Ok((frames, orders))
 }
 
-// Settles the two rings of a run in which every statement has its turn.
+// Settles the two rings of a run in which every statement has its turn, and of whose frames the host took what it has room for.
 fn settle_steered<H: Channel, N: Hosting, K: Naming, G: Gate>(
     alloc: Global,
     turns: Turns,
@@ -88,10 +93,14 @@ fn settle_steered<H: Channel, N: Hosting, K: Naming, G: Gate>(
       down = H.Down.view down;
     }) }
     requires all { (w : ℕ) → w < 8 → turns_of w turns.turns ≡ count_of K.script w }
+    requires rest { ((H.Up.view up).freed ≡ length (H.Up.view up).sent)
+        ⊎ (host.captured.room ≡ 0) }
+    requires room { HoldsStreams K.script N.room }
+    requires early { turns.ahead ≡ orders_joined (due N.plan 0) }
     requires plan { N.plan ≡ K.script.settings.orders }
     ensures script { IfOk result (λ r. r.script ≡ K.script) }
     ensures run { IfOk result (λ r. IsSteeredRun K.script
-        r.turns.turns r.settled r.captured.items r.rest.items r.orders r.unheard.items) }
+        r.turns r.settled r.captured.items r.rest.items r.orders r.unheard.items) }
     ensures rings { IfOk result (λ r. (r.settled.ring ≡ H.KIND) × (r.orders.ring ≡ H.KIND)) }
 {
     let HostEnds {
@@ -138,17 +147,19 @@ fn run_hosted<
         ≡ new_up (H.Up.view ends.up).split (H.Up.view ends.up).size (H.Up.view ends.up).tells }
     requires reads { H.Down.view ends.down
         ≡ new_down (H.Up.view ends.up).split (H.Up.view ends.up).size }
+    requires tells { (H.Up.view ends.up).tells ≡ true }
     requires captured { ends.captured.items ≡ [] }
+    requires room { HoldsStreams script ends.captured.room }
     requires sends { H.Up.view sends ≡ new_up (H.Up.view sends).split 256 true }
     requires down { H.Down.view down ≡ new_down (H.Up.view sends).split 256 }
     requires names { (K.script ≡ script) × (K.up ≡ (H.Up.view ends.up).split)
-        × (K.down ≡ (H.Up.view sends).split) }
+        × (K.down ≡ (H.Up.view sends).split) × (K.tells ≡ true) }
     requires hosted { (N.up ≡ (H.Up.view ends.up).split)
-        × (N.down ≡ (H.Up.view sends).split) }
+        × (N.down ≡ (H.Up.view sends).split) × (N.room ≡ ends.captured.room) }
     requires ledgers { AreNamed blanks E.names }
     ensures script { IfOk result (λ r. r.script ≡ K.script) }
     ensures run { IfOk result (λ r. IsSteeredRun K.script
-        r.turns.turns r.settled r.captured.items r.rest.items r.orders r.unheard.items) }
+        r.turns r.settled r.captured.items r.rest.items r.orders r.unheard.items) }
     ensures rings { IfOk result (λ r. (r.settled.ring ≡ H.KIND) × (r.orders.ring ≡ H.KIND)) }
 {
     script.lawful();
@@ -158,15 +169,16 @@ fn run_hosted<
         captured,
     } = ends;
     let host = order_sender::<N, H::Up, H::Down, G>(reads, captured, sends, orders, gate);
-    let (steered, mut helms) = Steered::<
+    let (mut steered, mut helms) = Steered::<
         Eight<E>,
         EachTurn<K>,
         Steering<K, H::Up, H::Down, C>,
     >::start(alloc, blanks, script, stamp, up, down)?;
+    steered.note_sent(&helms, &host.sends);
     let mut host = run_threads(rt, steered.shared(), &mut helms, gate, true, host);
     finish(rt, steered.shared(), &mut helms, gate, &mut host);
-    host.take_all();
-    let (turns, up, down, script) = steered.close(helms);
+    let (turns, mut up, down, script) = steered.close(helms);
+    host.take_rest(rt, &mut up);
     settle_steered::<H, N, K, G>(alloc, turns, up, down, script, host)
 }
 
@@ -202,7 +214,9 @@ fn prepare_steered<H: Channel>(
         ≡ new_up (H.Up.view p.1.up).split (H.Up.view p.1.up).size (H.Up.view p.1.up).tells) }
     ensures reads { IfOk result (λ p. H.Down.view p.1.down
         ≡ new_down (H.Up.view p.1.up).split (H.Up.view p.1.up).size) }
+    ensures tells { IfOk result (λ p. (H.Up.view p.1.up).tells ≡ true) }
     ensures captured { IfOk result (λ p. p.1.captured.items ≡ []) }
+    ensures room { IfOk result (λ p. HoldsStreams script.now p.1.captured.room) }
     ensures sends { IfOk result (λ p. H.Up.view p.2.0
         ≡ new_up (H.Up.view p.2.0).split 256 true) }
     ensures down { IfOk result (λ p. H.Down.view p.2.1
@@ -218,8 +232,8 @@ fn prepare_steered<H: Channel>(
 /// frames and sends the orders.
 ///
 /// The stamp counts as the script's stamps do, and by 0 and 0 without them. Each order is sent once as many frames were captured
-/// as it says, behind the one in front of it; those that are due at first are sent before any thread is started, and the others
-/// as far as they are due after the last take. The gate is asked before each statement, and told of each take that took something. A
+/// as it says, behind the one in front of it; those that are due at first are sent before any turn is taken, and the others
+/// as far as they are due after the last take, behind which no byte of frames is left. The gate is asked before each statement, and told of each take that took something. A
 /// writer whose thread couldn't be started is run by the calling thread. The call waits for its threads.
 ///
 /// # Errors
@@ -235,7 +249,7 @@ pub fn run_steered<H: Channel, C: Clock + Send + Drop, G: Gate + Sync, R: Thread
     requires tells { H.tells ≡ true }
     ensures script { IfOk result (λ r. r.script ≡ script) }
     ensures run { IfOk result (λ r. IsSteeredRun script
-        r.turns.turns r.settled r.captured.items r.rest.items r.orders r.unheard.items) }
+        r.turns r.settled r.captured.items r.rest.items r.orders r.unheard.items) }
     ensures rings { IfOk result (λ r. (r.settled.ring ≡ H.KIND) × (r.orders.ring ≡ H.KIND)) }
 {
     let (orders, ends, (sends, down)) = prepare_steered::<H>(alloc, &script)?;

@@ -3,6 +3,7 @@ use denote.Param.Send.{arg_send, param_send}
 use Rattle.std.proofs.Common.{◌≡◌, ◌∙◌}
 use Rattle.defmt_frames.specs.Frames.{count}
 use Rattle.defmt_writers.proofs.Ends.{below_eight}
+use Rattle.defmt_steer.proofs.Hosted.{kept_same}
 use Rattle.defmt_steer.proofs.SteeredSends.{steering_send}
 use Rattle.rtt_down.specs.Steered.{turns_of}
 use Rattle.defmt_steer.proofs.steer_run.run_hosted.Goals as goal
@@ -25,3 +26,6 @@ settle_steered-requires-clause-all g c κs within =
     (close.p5 ∙ ends.p5 ∙ c.finish.new.pens.p5.all)
     (close.p6 ∙ ends.p6 ∙ c.finish.new.pens.p6.all)
     (close.p7 ∙ ends.p7 ∙ c.finish.new.pens.p7.all)
+
+pub settle_steered-requires-clause-kept : goal.settle_steered-requires-clause-kept
+settle_steered-requires-clause-kept g c κs within = kept_same _ _ _ _ _ c.close-turns.ensures.kept c.take_rest.ensures.kept c.take_rest.ensures.sent

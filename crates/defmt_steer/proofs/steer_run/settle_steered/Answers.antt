@@ -1,4 +1,5 @@
-use Rattle.std.proofs.Common.{◌∙◌}
+use Rattle.std.proofs.Common.{ap, ◌∙◌, arith}
+use Rattle.dl_io.specs.Buffer.{Buffer}
 use Rattle.defmt_steer.proofs.Hosted.{steered_ends}
 use Rattle.defmt_steer.proofs.steer_run.settle_steered.Goals as goal
 
@@ -7,7 +8,16 @@ returns-clause-run g c =
     let made = c.in_ok-frames.ensures in
     let parts = c.into_parts-reads.ensures in
     steered_ends g.K.Naming.script c.args.script g.N.Hosting.plan c.args.turns (g.H.Up.UpEnd.view c.args.up) (g.H.Down.DownEnd.view c.args.down)
-    _ _ _ _ _ _
+    _ g.N.Hosting.down _ _ _ _ _ c.args.host.captured.room g.N.Hosting.room
     c.requires.script c.requires.plan c.requires.kept c.requires.all
-    made.frames.0 (made.frames.1 ∙ parts.got) made.frames.2
-    parts.sent made.orders.0 made.orders.1 made.orders.2
+    (record {
+      split = made.splits.0;
+      sent = made.frames.0;
+      got = made.frames.1 ∙ parts.got;
+      whole = made.frames.2;
+      freed = made.freed;
+      held = omega (arith, ap (λ (b : Buffer). b.room) parts.captured, parts.room);
+      ends = c.requires.rest;
+    })
+    c.requires.room c.requires.early
+    parts.sent (made.splits.1 ∙ parts.order_split) c.requires.down made.orders.0 made.orders.1 made.orders.2
