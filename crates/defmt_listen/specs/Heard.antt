@@ -1,6 +1,6 @@
 -- What is heard in a recording, and what is written of it.
-use Rattle.std.specs.Prelude.{◌≡◌, ◌≤◌, ◌+◌, ℕ, Bool, List, [], ◌∷◌, ◌++◌, length, take, filter}
-use Rattle.std.specs.Io.KnownBytes.{Consumes, IsAtEnd, Keeps}
+use Rattle.std.specs.Prelude.{◌≡◌, ◌≤◌, ◌+◌, ℕ, Bool, Option, List, [], ◌∷◌, ◌++◌, length, take, filter}
+use Rattle.std.specs.Io.KnownBytes.{Appends, Consumes, IsAtEnd, Keeps}
 use Rattle.dl_io.specs.Outside.{Rose, Took}
 use Rattle.defmt_framing.specs.Calls.{HeardAs}
 use Rattle.defmt_framing.specs.Told.{Tells, events, begun}
@@ -95,6 +95,14 @@ Breaks reports input output Source = HeardBegun reports input output × Rose inp
 Breaks reports input output Sink = HeardFront reports input output × Rose output.faults output.faults_after
 Breaks reports input output Long = HeardTooMuch reports input output
 Breaks reports input output Memory = HeardFront reports input output
+
+-- ---- turns
+
+-- A source may be read wherever what is begun in all that was taken of it is written. So whoever reads it shows that each time.
+abbrev pub TakesTurns : {T E S K : Type 0} → Reports T E → (S → Option (List ℕ)) → (K → Option (List ℕ)) → (S → K → Type 0) → S → K → Type 0
+TakesTurns reports left held may src out =
+    (bytes : List ℕ) (src_now : _) (out_now : _) → Consumes (left src) (left src_now) bytes
+    → Appends (held out) (held out_now) (lines reports (begun reports.tells bytes)) → may src_now out_now
 
 -- ---- bytes at hand
 

@@ -79,7 +79,10 @@ pub fn hear_bytes<L: Listener + Drop, R: Reporter<L> + Drop>(
     let mut told = Report::new(alloc);
     match hear_part(&mut listener, &mut reporter, &mut Nowhere, &mut told, bytes) {
         Ok(()) => Ok((listener, reporter)),
-        Err(_) => Err(Memory),
+        Err(ListenFault::Memory) => Err(Memory),
+        Err(ListenFault::Sink) => unreachable!(),
+        Err(ListenFault::Source) => unreachable!(),
+        Err(ListenFault::Long) => unreachable!(),
     }
 }
 

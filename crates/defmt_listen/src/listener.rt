@@ -4,6 +4,7 @@ ghost use Rattle.std.specs.Prelude.{◌≡◌, ◌≤◌, ◌<◌, ◌++◌, ℕ
 ghost use Rattle.defmt_framing.specs.Told.{Tells, events, begun};
 ghost use Rattle.defmt_framing.specs.Framing.{Framing, Stands, Hears};
 ghost use Rattle.defmt_framing.specs.Notices.{HasText, told_by};
+ghost use Rattle.defmt_listen.specs.Gathered.{IsKnownText};
 
 use defmt_framing::Notice;
 use dl_io::Memory;
@@ -20,6 +21,9 @@ pub trait Listener {
 
     /// The line with this text.
     ghost line: { Self.Origin → List ℕ → Self.Event };
+
+    /// What is known of the text of each line that it writes to a buffer.
+    ghost known: { List ℕ → Type 0 };
 
     /// What each part tells.
     ghost tells: { Self → Tells Self.Event };
@@ -43,6 +47,7 @@ pub trait Listener {
             → Hears (tells self.old) (framing self.new) stream (take r.0 bytes.now)
             (told_by line (drop at text.new.items) r.1)) }
         ensures text { IfOk result (λ r. HasText (drop at text.new.items) r.1) }
+        ensures known { IfOk result (λ r. IsKnownText known (drop at text.new.items) r.1) }
         ensures front { take at text.new.items ≡ take at text.old.items }
         ensures some { IfOk result (λ r. 0 < length bytes.now → 0 < r.0) }
         ensures all { IfOk result (λ r. told_by line (drop at text.new.items) r.1 ≡ None

@@ -2,7 +2,7 @@
 ghost use Rattle.std.specs.Prelude.{◌≡◌, ◌≤◌, ◌<◌, ◌+◌, [], length, take, IfOk, IfErr};
 ghost use Rattle.std.specs.Io.KnownBytes.{Consumes, IsAtEnd};
 ghost use Rattle.defmt_framing.specs.Framing.{Stands};
-ghost use Rattle.defmt_listen.specs.Heard.{HeardAll, Breaks, ReadsNo, recording_limit};
+ghost use Rattle.defmt_listen.specs.Heard.{HeardAll, Breaks, ReadsNo, TakesTurns, recording_limit};
 ghost use Rattle.defmt_listen.specs.Streams.{input_of, output_of};
 
 use crate::fault::ListenFault;
@@ -10,6 +10,7 @@ use crate::listener::Listener;
 use crate::part::{add_told, hear_part};
 use crate::report::{Report, write_lines};
 use crate::reporter::Reporter;
+use crate::turns::Turns;
 use dl_io::{Failed, Memory, Sink, Source};
 use std::alloc::Global;
 
@@ -24,9 +25,9 @@ const RECORDING_LIMIT: usize = 268_435_456;
 /// Reads the source to its end as a recording, gives its bytes to the listener, and writes what the reporter prints of each event
 /// to the sink. Answers how many events are faults.
 ///
-/// At most 65,536 bytes are read at a time, and the lines that they tell are written before the next ones are read. A
-/// recording has at most 268,435,456 bytes. The source, this limit and the sink take turns, and the first fault that is
-/// met is answered.
+/// At most 65,536 bytes are read at a time, and what is begun in them is written before more is read, as [`listen_in_turns`]
+/// says. A recording has at most 268,435,456 bytes. The source, this limit and the sink take turns, and the first fault that
+/// is met is answered.
 pub fn listen<S: Source, K: Sink, L: Listener + Drop, R: Reporter<L> + Drop>(
     alloc: Global,
     src: &mut S,
@@ -46,13 +47,39 @@ pub fn listen<S: Source, K: Sink, L: Listener + Drop, R: Reporter<L> + Drop>(
     ensures source_count { S.faults src.old ≤ S.faults src.new }
     ensures sink_count { K.faults out.old ≤ K.faults out.new }
 {
+    listen_in_turns(alloc, src, out, listener, reporter)
+}
+
+/// The same from a source that may be read only where what is begun in all that was taken of it is written.
+pub fn listen_in_turns<S: Turns<K>, K: Sink, L: Listener + Drop, R: Reporter<L> + Drop>(
+    alloc: Global,
+    src: &mut S,
+    out: &mut K,
+    listener: L,
+    reporter: R,
+) -> Result<u64, ListenFault>
+    requires stands { Stands (L.framing listener) [] }
+    requires turns { TakesTurns
+        (record { tells = L.tells listener; reporting = R.reporting; start = reporter })
+        S.left K.held S.may src.old out.old }
+    ensures heard { IfOk result (λ count. HeardAll
+        (record { tells = L.tells listener; reporting = R.reporting; start = reporter })
+        (input_of S.left S.faults src.old src.new)
+        (output_of K.held K.faults out.old out.new) count) }
+    ensures breaks { IfErr result (λ fault. Breaks
+        (record { tells = L.tells listener; reporting = R.reporting; start = reporter })
+        (input_of S.left S.faults src.old src.new)
+        (output_of K.held K.faults out.old out.new) fault) }
+    ensures source_count { S.faults src.old ≤ S.faults src.new }
+    ensures sink_count { K.faults out.old ≤ K.faults out.new }
+{
     let mut listener = listener;
     let mut reporter = reporter;
     let mut buf = part_buffer(alloc)?;
     let mut report = Report::new(alloc);
     let mut taken = 0usize;
     'parts: loop {
-        let count = next_part(src, &mut buf, taken)?;
+        let count = next_part(src, out, &mut buf, taken)?;
         if count == 0 {
             break;
         }
@@ -91,7 +118,13 @@ fn widen(buf: &mut Vec<u8>, count: usize)
 }
 
 // Reads the next bytes, behind so many that were taken.
-fn next_part<S: Source>(src: &mut S, buf: &mut [u8], taken: usize) -> Result<usize, ListenFault>
+fn next_part<S: Turns<K>, K: Sink>(
+    src: &mut S,
+    out: &K,
+    buf: &mut [u8],
+    taken: usize,
+) -> Result<usize, ListenFault>
+    requires turn { S.may src.old out.now }
     requires room { 0 < length buf.old }
     requires within { taken ≤ recording_limit }
     ensures within { IfOk result
@@ -104,7 +137,7 @@ fn next_part<S: Source>(src: &mut S, buf: &mut [u8], taken: usize) -> Result<usi
     ensures later { S.faults src.old ≤ S.faults src.new }
 {
     let most = buf.len().min(RECORDING_LIMIT - taken).max(1);
-    match src.read(&mut buf[..most]) {
+    match src.next(out, &mut buf[..most]) {
         Ok(0) => Ok(0),
         Ok(_) if taken == RECORDING_LIMIT => Err(ListenFault::Long),
         Ok(count) => Ok(count),

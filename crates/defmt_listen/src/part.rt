@@ -4,7 +4,7 @@ ghost use Rattle.std.specs.Io.KnownBytes.{Appends};
 ghost use Rattle.dl_io.specs.Outside.{Rose};
 ghost use Rattle.defmt_framing.specs.Framing.{Stands};
 ghost use Rattle.defmt_framing.specs.Notices.{HasText, told_by};
-ghost use Rattle.defmt_listen.specs.Gathered.{gathered, IsGathered};
+ghost use Rattle.defmt_listen.specs.Gathered.{gathered, IsGathered, IsKnownText};
 ghost use Rattle.defmt_listen.specs.Heard.{HeardPart, HeardSome, BreaksPart, faults_among, lines_from, state_behind};
 ghost use Rattle.defmt_listen.specs.Streams.{output_of};
 
@@ -96,6 +96,7 @@ fn add_line_told<L: Listener, R: Reporter<L>>(
     size: usize,
 ) -> Result<(), Memory>
     requires within { report.old.end + size ≤ length report.old.text.items }
+    requires known { L.known (take size (drop report.old.end report.old.text.items)) }
     ensures lines { OnOk result (gathered report.new ≡ gathered report.old ++ R.reporting.line
         reporter.old (L.line origin (take size (drop report.old.end report.old.text.items)))) }
     ensures within { OnOk result (IsGathered report.new) }
@@ -120,6 +121,7 @@ fn add_asked<L: Listener, R: Reporter<L>>(
     size: usize,
 ) -> Result<(), Memory>
     requires within { report.old.end + size ≤ length report.old.text.items }
+    requires known { L.known (take size (drop report.old.end report.old.text.items)) }
     ensures lines { OnOk result (gathered report.new ≡ gathered report.old ++ R.reporting.line
         reporter.old (L.line origin (take size (drop report.old.end report.old.text.items)))) }
     ensures within { OnOk result (IsGathered report.new) }
@@ -148,6 +150,7 @@ fn add_noticed<L: Listener, R: Reporter<L>>(
     requires room { report.old.faults + 1 < 2 ^ 64 }
     requires within { IsGathered report.old }
     requires text { HasText (drop report.old.end report.old.text.items) notice }
+    requires known { IsKnownText L.known (drop report.old.end report.old.text.items) notice }
     ensures lines { OnOk result (gathered report.new ≡ gathered report.old
         ++ lines_from R.reporting reporter.old (option_to_list
         (told_by L.line (drop report.old.end report.old.text.items) notice))) }

@@ -34,7 +34,7 @@ pub trait Reporter<L: Listener> {
         ensures err { OnErr result (out.new.items ≡ out.old.items) }
         ensures same { OnErr result (self.new ≡ self.old) };
 
-    /// The same of the line with this text, which is no fault.
+    /// The same of the line with this text, of which the listener's `known` holds. It is no fault.
     fn add_text(
         &mut self,
         alloc: Global,
@@ -42,6 +42,7 @@ pub trait Reporter<L: Listener> {
         text: &[u8],
         out: &mut Bytes,
     ) -> Result<(), Memory>
+        requires { L.known text.now }
         ensures appended { OnOk result (out.new.items
             ≡ out.old.items ++ reporting.line self.old (L.line origin text.now)) }
         ensures moved { OnOk result (self.new ≡ reporting.after self.old (L.line origin text.now)) }

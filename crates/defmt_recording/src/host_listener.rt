@@ -1,4 +1,5 @@
 //! The host as a listener.
+ghost use Rattle.std.specs.Str.{IsUtf8};
 ghost use Rattle.defmt_decode.specs.Event.{line_with, tells};
 
 use defmt_decode::{Event, Host, Origin};
@@ -18,6 +19,8 @@ impl Listener for HostListener {
     type Origin = Origin;
 
     ghost line = { line_with };
+
+    ghost known = { IsUtf8 };
 
     ghost tells = { λ listener. tells listener.host.table };
 

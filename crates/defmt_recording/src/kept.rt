@@ -1,5 +1,6 @@
 //! A reporter that keeps the events.
 ghost use Rattle.std.specs.Prelude.{◌≡◌, IfOk};
+ghost use Rattle.std.specs.Str.{IsUtf8};
 ghost use Rattle.defmt_recording.specs.Keeping.{by_keeping};
 
 use crate::host_listener::HostListener;
@@ -45,12 +46,13 @@ impl Reporter<HostListener> for Kept {
     }
 }
 
-// A copy of the bytes of a line. They are a text; where they weren't, this would answer as for want of memory.
+// UTF-8 as a text of its own.
 fn text_of(alloc: Global, bytes: &[u8]) -> Result<Text, Memory>
+    requires { IsUtf8 bytes.now }
     ensures { IfOk result (λ text. text ≡ bytes.now) }
 {
     let Ok(text) = str::from_utf8(bytes) else {
-        return Err(Memory);
+        unreachable!();
     };
     let mut copy = Text::new(alloc);
     match copy.push_str(text) {

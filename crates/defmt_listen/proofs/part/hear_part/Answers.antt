@@ -83,6 +83,9 @@ add_noticed-requires-clause-room g c = omega (arith, c.requires.few, c.parts.inv
 pub add_noticed-requires-clause-text : goal.add_noticed-requires-clause-text
 add_noticed-requires-clause-text g c = c.in-Ok.ensures.text
 
+pub add_noticed-requires-clause-known : goal.add_noticed-requires-clause-known
+add_noticed-requires-clause-known g c = c.in-Ok.ensures.known
+
 pub returns-in-Err-clause-fault : goal.returns-in-Err-clause-fault
 returns-in-Err-clause-fault g c = tt
 

@@ -2,18 +2,18 @@ use Rattle.std.proofs.Common.{◌≡◌, ◌≤◌, ◌<◌, ◌-◌, [], length
 use Rattle.defmt_listen.specs.Gathered.{gathered, IsGathered}
 use Rattle.defmt_listen.specs.Heard.{recording_limit}
 use Rattle.defmt_listen.proofs.Wholes.{Listening}
-use Rattle.defmt_listen.proofs.listening.listen.Given as goal
+use Rattle.defmt_listen.proofs.listening.listen_in_turns.Given as goal
 
 abbrev pub invariant-parts : goal.invariant-parts
 invariant-parts g l = record {
   listening : Listening (record { tells = g.L.Listener.tells l.fn.listener; reporting = g.R.Reporter.reporting; start = l.fn.reporter }) l.reporter
-      (g.L.Listener.framing l.listener) (g.S.Source.left l.fn.src) (g.S.Source.left l.src)
+      (g.L.Listener.framing l.listener) (g.S.Turns.left l.fn.src) (g.S.Turns.left l.src)
       (g.K.Sink.held l.fn.out) (g.K.Sink.held l.out) l.taken l.report.faults;
   within : IsGathered l.report;
   empty : gathered l.report ≡ [];
   room : 0 < length l.buf.items;
   same : g.L.Listener.tells l.listener ≡ g.L.Listener.tells l.fn.listener;
-  source_later : g.S.Source.faults l.fn.src ≤ g.S.Source.faults l.src;
+  source_later : g.S.Turns.faults l.fn.src ≤ g.S.Turns.faults l.src;
   sink_later : g.K.Sink.faults l.fn.out ≤ g.K.Sink.faults l.out;
 }
 
