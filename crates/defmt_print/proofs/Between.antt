@@ -9,7 +9,7 @@ use Rattle.defmt_intern.specs.Table.{Map}
 use Rattle.defmt_logger.specs.Tape.{mark_line}
 use Rattle.defmt_logger.specs.declared.mark.Mark.{Mark}
 use Rattle.defmt_print.proofs.ShownLines.{no_events, one_event, one_line}
-use Rattle.defmt_print.specs.Heard.{AreNoLines, HaveNoPlaces, IsWhole, WasDropped, WereDropped, line_at}
+use Rattle.defmt_print.specs.Heard.{AreNoLines, HaveNoPlaces, IsWhole, WasDropped, WereDropped, line_at, place_behind}
 use Rattle.defmt_recording.specs.Output.{gap_before, gap_line, last_behind}
 use Rattle.defmt_print.specs.Shown.{dropped_behind, kept_line, shows_index, shows_mark, tape_line, tape_lines}
 use Rattle.defmt_recording.specs.Shown.{event_lines_by, event_lines_from, kept_event}
@@ -20,28 +20,23 @@ use Rattle.rtt_modes.specs.declared.fate.Fate.TheVariants.{Whole, Dropped, Cut}
 -- ---- two lines of a recording
 
 module _ (only : Option Rules) (table : Map) where
-  -- the place of the last line behind these events
-  abbrev behind_all : Option ℕ → List Event → Option ℕ
-  behind_all last [] = last
-  behind_all last (event ∷ events) = behind_all (last_behind last event) events
-
-  all-append : (last : Option ℕ) (xs ys : List Event) → behind_all last (xs ++ ys) ≡ behind_all (behind_all last xs) ys
+  all-append : (last : Option ℕ) (xs ys : List Event) → place_behind last (xs ++ ys) ≡ place_behind (place_behind last xs) ys
   all-append last [] ys = refl
   all-append last (x ∷ xs) ys = all-append (last_behind last x) xs ys
 
-  prints-append : (last : Option ℕ) (xs ys : List Event)
-      → event_lines_from only table last (xs ++ ys) ≡ event_lines_from only table last xs ++ event_lines_from only table (behind_all last xs) ys
+  pub prints-append : (last : Option ℕ) (xs ys : List Event)
+      → event_lines_from only table last (xs ++ ys) ≡ event_lines_from only table last xs ++ event_lines_from only table (place_behind last xs) ys
   prints-append last [] ys = ap (λ (l : List ℕ). l ++ event_lines_from only table last ys) (sym (no_events only table last))
   prints-append last (x ∷ xs) ys =
       let line : List ℕ = gap_line (gap_before last x) ++ kept_event only table x in
       let behind : Option ℕ = last_behind last x in
       one_event only table last x (xs ++ ys)
       ∙ ap (λ (l : List ℕ). line ++ l) (prints-append behind xs ys)
-      ∙ sym (append_assoc line (event_lines_from only table behind xs) (event_lines_from only table (behind_all behind xs) ys))
-      ∙ ap (λ (l : List ℕ). l ++ event_lines_from only table (behind_all behind xs) ys) (sym (one_event only table last x xs))
+      ∙ sym (append_assoc line (event_lines_from only table behind xs) (event_lines_from only table (place_behind behind xs) ys))
+      ∙ ap (λ (l : List ℕ). l ++ event_lines_from only table (place_behind behind xs) ys) (sym (one_event only table last x xs))
 
   -- events that are no lines leave the place of the last line
-  behind_no_lines : (last : Option ℕ) (events : List Event) → AreNoLines events → behind_all last events ≡ last
+  behind_no_lines : (last : Option ℕ) (events : List Event) → AreNoLines events → place_behind last events ≡ last
   unfolding last_behind
   behind_no_lines last [] none = refl
   behind_no_lines last (Line index place text ∷ events) none = absurd none
@@ -49,7 +44,7 @@ module _ (only : Option Rules) (table : Map) where
   behind_no_lines last (CutFront bytes ∷ events) none = behind_no_lines last events none
   behind_no_lines last (CutTail bytes ∷ events) none = behind_no_lines last events none
 
-  behind_line : (last : Option ℕ) (index place : ℕ) (text : List ℕ) (events : List Event) → AreNoLines events → behind_all last (line_at index place text ∷ events) ≡ Some place
+  behind_line : (last : Option ℕ) (index place : ℕ) (text : List ℕ) (events : List Event) → AreNoLines events → place_behind last (line_at index place text ∷ events) ≡ Some place
   unfolding last_behind
   behind_line last index place text events none = behind_no_lines (Some place) events none
 
@@ -58,10 +53,10 @@ module _ (only : Option Rules) (table : Map) where
       ≡ event_lines_by only table (front ++ line_at first a one ∷ between)
       ++ (gap_line (gap_of a b) ++ kept_line (shows_index only table second) two) ++ event_lines_from only table (Some b) rest
   lines_between front between rest first second a b one two none =
-      let behind : Option ℕ = behind_all None front in
+      let behind : Option ℕ = place_behind None front in
       let seen : List Event = front ++ line_at first a one ∷ between in
       let line : List ℕ = gap_line (gap_of a b) ++ kept_line (shows_index only table second) two in
-      let last : behind_all None seen ≡ Some a =
+      let last : place_behind None seen ≡ Some a =
       all-append None front (line_at first a one ∷ between) ∙ behind_line behind first a one between none in
       prints-append None seen (line_at second b two ∷ rest)
       ∙ ap (λ (o : Option ℕ). event_lines_by only table seen ++ event_lines_from only table o (line_at second b two ∷ rest)) last

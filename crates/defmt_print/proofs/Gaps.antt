@@ -1,5 +1,5 @@
 -- What the lines of what was sent print: in profile One they stand alone, and in profile Two with the gaps of the tape.
-use Rattle.std.proofs.Common.{◌≡◌, ◌≤◌, ◌<◌, ◌+◌, ◌%◌, ℕ, List, [], ◌∷◌, ◌++◌, length, refl, sym, ◌∙◌, ap, arith}
+use Rattle.std.proofs.Common.{◌≡◌, ◌≤◌, ◌<◌, ◌+◌, ◌%◌, ℕ, List, [], ◌∷◌, ◌++◌, length, refl, sym, ◌∙◌, ap, subst, arith}
 use Rattle.std.specs.Prelude.{Option, Some, None}
 use Rattle.defmt_decode.specs.Gap.{gap_of}
 use Rattle.defmt_decode.specs.declared.event.Event.{Event}
@@ -11,12 +11,13 @@ use Rattle.defmt_lines.specs.declared.settings.RingMode.{RingMode}
 use Rattle.defmt_lines.specs.declared.settings.RingMode.TheVariants.{Block, Skip, Trim}
 use Rattle.defmt_logger.specs.Tape.{mark_line}
 use Rattle.defmt_logger.specs.declared.mark.Mark.{Mark}
-use Rattle.defmt_print.proofs.Marks.{there}
+use Rattle.defmt_print.proofs.Between.{prints-append}
+use Rattle.defmt_print.proofs.Marks.{placed_at, there}
 use Rattle.defmt_print.proofs.ShownLines.{no_events, one_whole}
-use Rattle.defmt_print.specs.Heard.{GapsIn, LinesIn, event_by, whole_events, whole_from}
+use Rattle.defmt_print.specs.Heard.{GapsIn, HaveWhole, IsWhole, LinesIn, PrintWhole, event_by, events_after, events_before, mark_events, place_behind, whole_events, whole_from}
 use Rattle.defmt_recording.specs.Output.{gap_between, gap_line}
-use Rattle.defmt_print.specs.Printed.{ArePlaced, mark_statement}
-use Rattle.defmt_print.specs.Shown.{dropped_behind, kept_line, shown_by, shown_mark_line, shown_mark_lines, shows_by, tape_line, tape_lines, tape_lines_by}
+use Rattle.defmt_print.specs.Printed.{ArePlaced, IsPlaced, mark_statement}
+use Rattle.defmt_print.specs.Shown.{dropped_behind, kept_line, shown_by, shown_mark_line, shown_mark_lines, shows_by, shows_mark, tape_line, tape_lines, tape_lines_by}
 use Rattle.defmt_recording.specs.Shown.{event_lines_by, event_lines_from}
 use Rattle.defmt_script.specs.Script.{Script, statements_by}
 use Rattle.defmt_values.specs.declared.value.Statement.{Statement}
@@ -113,9 +114,32 @@ module _ (only : Option Rules) (s : Script) where
         with_statement None None n m ms found.0 found.1
         (first_by m.fate n found.0 (mark_line s m) ms (omega (arith, few)) placed.1 (at_first ms placed.1))
 
+  -- ---- any profile, in the place of a frame that was sent whole
+
+  one_mark : (last : Option ℕ) (n : ℕ) (m : Mark) (events : List Event) → IsPlaced s m → IsWhole m
+      → Prints last (mark_events s n m ++ events)
+      ≡ (gap_line (gap_between last (place_in s.settings.profile n)) ++ kept_line (shows_mark only s m) (mark_line s m)) ++ Prints (place_in s.settings.profile n) events
+  one_mark last n m events placed whole =
+      let found = there (statements_by s m.writer) m.place placed in
+      let place : Option ℕ = place_in s.settings.profile n in
+      ap (λ (fate : Fate). Prints last (event_by fate place (mark_statement s m) (mark_line s m) ++ events)) whole
+      ∙ ap (λ (o : Option Statement). Prints last (event_by Whole place o (mark_line s m) ++ events)) found.1
+      ∙ one_whole only s.table last place found.0 (mark_line s m) events
+      ∙ ap (λ (o : Option Statement). (gap_line (gap_between last place) ++ kept_line (shows_by only s.table o) (mark_line s m)) ++ Prints place events) (sym found.1)
+
 -- ---- both
 
-printed_in : (profile : Profile) (s : Script) (tape : List Mark) → Counts → ArePlaced s tape → length tape ≤ 4096 → s.settings.profile ≡ profile
+print_whole : (s : Script) (tape : List Mark) (events : List Event) → ArePlaced s tape → HaveWhole s tape events → PrintWhole s tape events
+print_whole s tape events placed lines only before after m is whole =
+    let number : ℕ = length before in
+    let front : List Event = events_before s before in
+    let rest : List Event = events_after s (number + 1) after in
+    ap (event_lines_by only s.table) (lines before after m is whole)
+    ∙ prints-append only s.table None front (mark_events s number m ++ rest)
+    ∙ ap (λ (l : List ℕ). event_lines_by only s.table front ++ l)
+    (one_mark only s (place_behind None front) number m rest (placed_at s before after m (subst (ArePlaced s) is placed)) whole)
+
+pub printed_in : (profile : Profile) (s : Script) (tape : List Mark) → Counts → ArePlaced s tape → length tape ≤ 4096 → s.settings.profile ≡ profile
     → (only : Option Rules) → event_lines_by only s.table (whole_events s tape) ≡ tape_lines_by profile only s tape
 printed_in profiles.One s tape counts placed few is only = all_alone only s is 0 tape
 printed_in profiles.Two s tape counts placed few is only = at_first only s counts is tape placed 0 (omega (arith, few))
@@ -124,7 +148,7 @@ in_mode : (mode : RingMode) (s : Script) (tape : List Mark) (events : List Event
     → LinesIn mode s tape events → GapsIn mode s.settings.profile s tape events
 in_mode Block s tape events counts placed few lines = λ only. ap (event_lines_by only s.table) lines ∙ printed_in s.settings.profile s tape counts placed few refl only
 in_mode Skip s tape events counts placed few lines = λ only. ap (event_lines_by only s.table) lines ∙ printed_in s.settings.profile s tape counts placed few refl only
-in_mode Trim s tape events counts placed few lines = tt
+in_mode Trim s tape events counts placed few lines = print_whole s tape events placed lines
 
 pub gaps_in : Counts → (s : Script) (tape : List Mark) (events : List Event) → ArePlaced s tape → length tape ≤ 4096 → LinesIn s.settings.mode s tape events
     → GapsIn s.settings.mode s.settings.profile s tape events

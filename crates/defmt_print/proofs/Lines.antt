@@ -1,4 +1,5 @@
--- In blocking and skip mode the events of what was sent are the lines of the frames that were sent whole, with their places.
+-- In blocking and skip mode the events of what was sent are the lines of the frames that were sent whole, with their places, and in
+-- trim mode each of these lines stands in its place among them.
 use Rattle.std.proofs.Common.{◌≡◌, ◌≤◌, ◌+◌, ℕ, List, [], ◌∷◌, ◌++◌, Bool, length, map, drop, refl, sym, ◌∙◌, ap, arith, append_assoc}
 use Rattle.std.specs.Prelude.{if◌then◌else◌, Option, Some, None, slice_get}
 use Rattle.std.proofs.lemmas.Bool.{le-leb}
@@ -19,11 +20,11 @@ use Rattle.defmt_framing.specs.Frames.{frame_of, frames}
 use Rattle.defmt_intern.specs.Catalog.{Catalog}
 use Rattle.defmt_lines.specs.declared.settings.RingMode.{RingMode}
 use Rattle.defmt_lines.specs.declared.settings.RingMode.TheVariants.{Block, Skip, Trim}
-use Rattle.defmt_logger.specs.Tape.{IsLawful as IsLawfulTape, line_with, mark_frame, mark_line, stream_from, stream_of}
+use Rattle.defmt_logger.specs.Tape.{IsLawful as IsLawfulTape, line_with, mark_frame, mark_line, mark_part, stream_from, stream_of}
 use Rattle.defmt_logger.specs.declared.mark.Mark.{Mark}
-use Rattle.defmt_print.proofs.Marks.{AreGood, IsGood, IsKept, are_good, there}
+use Rattle.defmt_print.proofs.Marks.{AreGood, IsGood, IsKept, are_good, good_whole, there}
 use Rattle.defmt_print.proofs.Stamped.{Fit}
-use Rattle.defmt_print.specs.Heard.{LinesIn, catalog_of, event_by, mark_events, whole_events, whole_from}
+use Rattle.defmt_print.specs.Heard.{HaveWhole, IsWhole, LinesIn, catalog_of, event_by, events_after, events_before, mark_events, whole_events, whole_from}
 use Rattle.defmt_print.specs.Printed.{mark_statement}
 use Rattle.defmt_script.specs.Lawful.{IsLawful, IsSound, stamp_in}
 use Rattle.defmt_script.specs.Script.{Script, statements_by}
@@ -169,17 +170,73 @@ lines_are s number (m ∷ ms) good =
     (fate_events s number m (statement_at s m good.0) m.fate (there (statements_by s m.writer) m.place good.0.placed).1)
     ∙ ap (λ (l : List Event). mark_events s number m ++ l) (lines_are s (number + 1) ms good.1)
 
+-- ---- in trim mode each that was sent whole
+
+abbrev pub Intact : Type 0
+Intact = (t : Catalog) (p q : List ℕ) (x : Sent) → IsSent t x
+    → events_of t (p ++ (0 ∷ (code_of t x ++ (0 ∷ q)))) ≡ events_of t (p ++ 0 ∷ []) ++ (line_of t x ∷ events_of t (0 ∷ q))
+
+stream_split : (s : Script) (n : ℕ) (before after : List Mark) (m : Mark)
+    → stream_from s n (before ++ m ∷ after) ≡ stream_from s n before ++ (mark_part s (n + length before) m ++ stream_from s ((n + length before) + 1) after)
+stream_split s n [] after m =
+    let z : n ≡ n + 0 = omega arith in
+    ap (λ (k : ℕ). mark_part s k m ++ stream_from s (k + 1) after) z
+stream_split s n (x ∷ before) after m =
+    let z : (n + 1) + length before ≡ n + length (x ∷ before) = omega arith in
+    ap (λ (l : List ℕ). mark_part s n x ++ l) (stream_split s (n + 1) before after m)
+    ∙ sym (append_assoc (mark_part s n x) (stream_from s (n + 1) before) (mark_part s ((n + 1) + length before) m ++ stream_from s (((n + 1) + length before) + 1) after))
+    ∙ ap (λ (k : ℕ). (mark_part s n x ++ stream_from s (n + 1) before) ++ (mark_part s k m ++ stream_from s (k + 1) after)) z
+
+frame_is : (s : Script) (number : ℕ) (m : Mark) (stm : Statement) → slice_get (statements_by s m.writer) m.place ≡ Some stm
+    → mark_frame s number m ≡ frame_of (code_of (catalog_of s) (sent_of s number m.stamp stm))
+unfolding frame_at
+frame_is s number m stm found = ap (frame_with s.table (place_in s.settings.profile number) (stamp_in s.settings.stamp m.stamp)) found
+
+-- the frame stands in the stream with both its zeros
+whole_stands : (s : Script) (before after : List Mark) (m : Mark) (stm : Statement) → slice_get (statements_by s m.writer) m.place ≡ Some stm → IsWhole m
+    → stream_of s (before ++ m ∷ after)
+    ≡ stream_of s before ++ (0 ∷ (code_of (catalog_of s) (sent_of s (length before) m.stamp stm) ++ (0 ∷ stream_from s (length before + 1) after)))
+whole_stands s before after m stm found whole =
+    let z : 0 + length before ≡ length before = omega arith in
+    let number : ℕ = length before in
+    let p : List ℕ = stream_of s before in
+    let q : List ℕ = stream_from s (number + 1) after in
+    let code : List ℕ = code_of (catalog_of s) (sent_of s number m.stamp stm) in
+    stream_split s 0 before after m
+    ∙ ap (λ (k : ℕ). p ++ (mark_part s k m ++ stream_from s (k + 1) after)) z
+    ∙ ap (λ (fate : Fate). p ++ (part_of (mark_frame s number m) fate ++ q)) whole
+    ∙ ap (λ (l : List ℕ). p ++ (l ++ q)) (frame_is s number m stm found)
+    ∙ ap (λ (l : List ℕ). p ++ (0 ∷ l)) (append_assoc code (0 ∷ []) q)
+
+pub have_whole : (s : Script) → Known s → Short → Intact → (tape : List Mark) → IsLawfulTape s tape → HaveWhole s tape (events_of (catalog_of s) (stream_of s tape))
+have_whole s known short intact tape lawful before after m is whole =
+    let t : Catalog = catalog_of s in
+    let number : ℕ = length before in
+    let good : IsGood s m = good_whole s tape before after m known.lawful lawful known.base known.step is whole in
+    let stm : Statement = statement_at s m good in
+    let found = (there (statements_by s m.writer) m.place good.placed).1 in
+    let line : Event = line_of t (mark_sent s number m good) in
+    let line_there : line ∷ [] ≡ mark_events s number m =
+    fate_events s number m stm Whole found
+    ∙ ap (λ (fate : Fate). event_by fate (place_in s.settings.profile number) (mark_statement s m) (mark_line s m)) (sym whole) in
+    ap (λ (l : List Mark). events_of t (stream_of s l)) is
+    ∙ ap (events_of t) (whole_stands s before after m stm found whole)
+    ∙ intact t (stream_of s before) (stream_from s (number + 1) after) (mark_sent s number m good) (is_sent s known short number m good)
+    ∙ ap (λ (l : List Event). events_before s before ++ (l ++ events_after s (number + 1) after)) line_there
+
 -- ---- both
 
 pub heard_lines : (s : Script) → Known s → Short → WithoutFront → (tape : List Mark) → AreGood s tape → events_of (catalog_of s) (stream_of s tape) ≡ whole_events s tape
 heard_lines s known short law tape good =
     ap (events_of (catalog_of s)) (stream_is s 0 tape good) ∙ lines_sent law (catalog_of s) (sents s 0 tape good) (are_sent s known short 0 tape good) ∙ lines_are s 0 tape good
 
-in_mode : (mode : RingMode) (s : Script) (tape : List Mark) (events : List Event) → ((mode ≡ Trim → ⊥) → events ≡ whole_events s tape) → LinesIn mode s tape events
-in_mode Block s tape events lines = lines (λ e. absurd (cc e))
-in_mode Skip s tape events lines = lines (λ e. absurd (cc e))
-in_mode Trim s tape events lines = tt
+in_mode : (mode : RingMode) (s : Script) (tape : List Mark) (events : List Event) → ((mode ≡ Trim → ⊥) → events ≡ whole_events s tape) → HaveWhole s tape events → LinesIn mode s tape events
+in_mode Block s tape events lines whole = lines (λ e. absurd (cc e))
+in_mode Skip s tape events lines whole = lines (λ e. absurd (cc e))
+in_mode Trim s tape events lines whole = whole
 
-pub lines_in : (s : Script) → Known s → Short → WithoutFront → (tape : List Mark) → IsLawfulTape s tape → LinesIn s.settings.mode s tape (events_of (catalog_of s) (stream_of s tape))
-lines_in s known short law tape lawful =
-    in_mode s.settings.mode s tape (events_of (catalog_of s) (stream_of s tape)) (λ mode. heard_lines s known short law tape (are_good s tape known.lawful lawful mode known.base known.step))
+pub lines_in : (s : Script) → Known s → Short → WithoutFront → Intact → (tape : List Mark) → IsLawfulTape s tape → LinesIn s.settings.mode s tape (events_of (catalog_of s) (stream_of s tape))
+lines_in s known short law intact tape lawful =
+    in_mode s.settings.mode s tape (events_of (catalog_of s) (stream_of s tape))
+    (λ mode. heard_lines s known short law tape (are_good s tape known.lawful lawful mode known.base known.step))
+    (have_whole s known short intact tape lawful)

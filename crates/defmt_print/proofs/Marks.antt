@@ -7,6 +7,7 @@ use Rattle.defmt_lines.specs.declared.settings.RingMode.TheVariants.{Trim}
 use Rattle.defmt_logger.proofs.Room.{tape_fits}
 use Rattle.defmt_logger.specs.Tape.{FateLaw, IsLawful as IsLawfulTape, mark_frame, marks_of, places}
 use Rattle.defmt_logger.specs.declared.mark.Mark.{Mark}
+use Rattle.defmt_print.specs.Heard.{IsWhole}
 use Rattle.defmt_print.specs.Printed.{ArePlaced}
 use Rattle.defmt_script.specs.Lawful.{IsLawful}
 use Rattle.defmt_script.specs.Script.{Script}
@@ -98,3 +99,20 @@ few_marks s tape script lawful = omega (arith, tape_fits s tape lawful.within, s
 pub are_good : (s : Script) (tape : List Mark) → IsLawful s → IsLawfulTape s tape → (s.settings.mode ≡ Trim → ⊥)
     → first_stamp s.settings.stamp ≤ 281474976710656 → stamp_step s.settings.stamp ≤ 281474976710656 → AreGood s tape
 are_good s tape script lawful mode base step = good_from s tape [] tape lawful (few_marks s tape script lawful) mode base step refl (are_placed s tape lawful)
+
+-- ---- one mark among the others
+
+pub placed_at : (s : Script) (before after : List Mark) (m : Mark) → ArePlaced s (before ++ m ∷ after) → m.place < count s m.writer
+placed_at s [] after m placed = placed.0
+placed_at s (x ∷ before) after m placed = placed_at s before after m placed.1
+
+-- a mark is good in each mode whose frame was sent whole
+pub good_whole : (s : Script) (tape before after : List Mark) (m : Mark) → IsLawful s → IsLawfulTape s tape
+    → first_stamp s.settings.stamp ≤ 281474976710656 → stamp_step s.settings.stamp ≤ 281474976710656 → tape ≡ before ++ m ∷ after → IsWhole m → IsGood s m
+good_whole s tape before after m script lawful base step is whole =
+    let few : length before ≤ 4096 = omega (arith, few_marks s tape script lawful, ap length is, length-append before (m ∷ after)) in
+    record {
+      placed = placed_at s before after m (subst (ArePlaced s) is (are_placed s tape lawful));
+      small = subst (λ (n : ℕ). n < 2 ^ 64) (sym (lawful.stamps before after m is)) (small_stamp s (length before) base step few);
+      kept = subst IsKept (sym whole) tt;
+    }

@@ -1,15 +1,19 @@
 -- The events of the stream of turns are those of a tape on which the frame of each turn that was sent is whole, and each other one dropped.
 use Rattle.std.proofs.Common.{◌≡◌, ◌≤◌, ◌<◌, ◌+◌, ◌^◌, ◌==◌, ℕ, List, [], ◌∷◌, ◌++◌, Bool, true, false, length, map, refl, sym, subst, ◌∙◌, ap, arith, append_assoc, length-append}
-use Rattle.std.specs.Prelude.{if◌then◌else◌}
+use Rattle.std.specs.Prelude.{Option, if◌then◌else◌}
+use Rattle.std.proofs.lemmas.List.{length-map}
 use Rattle.defmt_decode.specs.Event.{events_of}
 use Rattle.defmt_decode.specs.declared.event.Event.{Event}
 use Rattle.defmt_frames.specs.Frames.{first_stamp, frame_at, stamp_step}
 use Rattle.defmt_logger.specs.Tape.{mark_part, marks_of, places, stream_from}
 use Rattle.defmt_logger.specs.declared.mark.Mark.{Mark}
+use Rattle.defmt_print.proofs.Gaps.{Counts, printed_in}
 use Rattle.defmt_print.proofs.Lines.{Known, Short, WithoutFront, heard_lines}
 use Rattle.defmt_print.proofs.Marks.{AreGood, IsKept, placed_from, small_stamp}
-use Rattle.defmt_print.specs.Heard.{catalog_of, mark_events, turn_events_from, turn_events, turn_mark, whole_from}
+use Rattle.defmt_print.specs.Heard.{PrintTurns, catalog_of, fate_by, mark_events, mark_of, turn_events_from, turn_events, turn_mark, whole_from}
+use Rattle.defmt_hooks.specs.declared.rules.Rules.{Rules}
 use Rattle.defmt_print.specs.Printed.{ArePlaced}
+use Rattle.defmt_recording.specs.Shown.{event_lines_by}
 use Rattle.defmt_script.specs.Script.{Script}
 use Rattle.rtt_down.proofs.Room.{turns_fit}
 use Rattle.rtt_down.specs.Steered.{IsSteered, places as turn_places, stream_from as steered_from, stream_of as steered_stream, turn_part, turns_of}
@@ -21,22 +25,15 @@ use Rattle.shared_work.specs.Places.{AreConsecutive}
 
 -- ---- a turn as a mark
 
-abbrev fate_of : Bool → Fate
-fate_of true = Whole
-fate_of false = Dropped 0 0
-
 abbrev mark_by : Turn → Bool → Mark
-mark_by t sent = record { writer = t.writer; place = t.place; stamp = t.stamp; fate = fate_of sent }
-
-abbrev mark_of : Turn → Mark
-mark_of t = mark_by t t.sent
+mark_by t sent = record { writer = t.writer; place = t.place; stamp = t.stamp; fate = fate_by sent }
 
 -- ---- the same was sent, and the same events stand for it
 
 part_same : (s : Script) (number : ℕ) (t : Turn) → turn_part s number t ≡ mark_part s number (mark_of t)
 part_same s number t =
     let frame : List ℕ = frame_at s number t.writer t.place t.stamp in
-    elim t.sent as (λ (b : Bool). (if b then frame else []) ≡ part_of frame (fate_of b)) [ true ↦ refl | false ↦ refl ]
+    elim t.sent as (λ (b : Bool). (if b then frame else []) ≡ part_of frame (fate_by b)) [ true ↦ refl | false ↦ refl ]
 
 stream_same : (s : Script) (number : ℕ) (turns : List Turn) → steered_from s number turns ≡ stream_from s number (map mark_of turns)
 stream_same s number [] = refl
@@ -64,7 +61,7 @@ count_same : (w : ℕ) (turns : List Turn) → turns_of w turns ≡ marks_of w (
 count_same w [] = refl
 count_same w (t ∷ ts) = ap (λ (n : ℕ). if t.writer == w then n + 1 else n) (count_same w ts)
 
-kept : (sent : Bool) → IsKept (fate_of sent)
+kept : (sent : Bool) → IsKept (fate_by sent)
 kept true = tt
 kept false = tt
 
@@ -93,3 +90,9 @@ module _ (s : Script) (turns : List Turn) (got : List ℕ) (steered : IsSteered 
       ap (events_of (catalog_of s)) (stream_same s 0 turns)
       ∙ heard_lines s known short law (map mark_of turns) (good_from [] turns few known.base known.step refl are_placed)
       ∙ events_same s 0 turns
+
+  pub turn_prints : Counts → Known s → PrintTurns s turns (turn_events s turns)
+  turn_prints counts known only =
+      let few : length (map mark_of turns) ≤ 4096 = omega (arith, turns_fit s turns steered.within, known.lawful.few, length-map turns mark_of) in
+      ap (event_lines_by only s.table) (sym (events_same s 0 turns))
+      ∙ printed_in s.settings.profile s (map mark_of turns) counts are_placed few refl only

@@ -1,5 +1,6 @@
 -- What the host tells of what was sent.
-use Rattle.std.specs.Prelude.{◌≡◌, ◌+◌, ℕ, List, [], ◌∷◌, ◌++◌, Option, Some, None, if◌then◌else◌}
+use Rattle.std.specs.Prelude.{◌≡◌, ◌+◌, ℕ, Bool, true, false, List, [], ◌∷◌, ◌++◌, length, map, Option, Some, None, if◌then◌else◌}
+use Rattle.defmt_decode.specs.Event.{events_of}
 use Rattle.defmt_decode.specs.declared.event.Event.{Event}
 use Rattle.defmt_decode.specs.declared.event.Event.TheVariants.{Line, Bad, CutFront, CutTail}
 use Rattle.defmt_encode.specs.Placed.{place_in}
@@ -8,11 +9,12 @@ use Rattle.defmt_intern.specs.Catalog.{Catalog}
 use Rattle.defmt_intern.specs.declared.table.Profile.{Profile}
 use Rattle.defmt_lines.specs.declared.settings.RingMode.{RingMode}
 use Rattle.defmt_lines.specs.declared.settings.RingMode.TheVariants.{Block, Skip, Trim}
-use Rattle.defmt_logger.specs.Tape.{mark_line}
+use Rattle.defmt_logger.specs.Tape.{mark_line, stream_from, stream_of}
 use Rattle.defmt_logger.specs.declared.mark.Mark.{Mark}
 use Rattle.defmt_print.specs.Printed.{mark_statement}
-use Rattle.defmt_print.specs.Shown.{tape_lines_by}
-use Rattle.defmt_recording.specs.Shown.{event_lines_by}
+use Rattle.defmt_print.specs.Shown.{kept_line, shows_mark, tape_lines_by}
+use Rattle.defmt_recording.specs.Output.{gap_between, gap_line, last_behind}
+use Rattle.defmt_recording.specs.Shown.{event_lines_by, event_lines_from}
 use Rattle.defmt_script.specs.Script.{Script}
 use Rattle.defmt_values.specs.declared.value.Statement.{Statement}
 use Rattle.rtt_down.specs.declared.turn.Turn.{Turn}
@@ -43,18 +45,53 @@ whole_from s number (m ∷ ms) = mark_events s number m ++ whole_from s (number 
 abbrev pub whole_events : Script → List Mark → List Event
 whole_events s tape = whole_from s 0 tape
 
--- in blocking and skip mode there is a line with its mark's place for each frame that was sent whole, and nothing else
+-- a frame that was sent whole
+abbrev pub IsWhole : Mark → Type 0
+IsWhole m = m.fate ≡ Whole
+
+-- ---- each of them among what was sent beside it
+
+-- what is told of all that was sent before a frame, with the zero that begins it
+abbrev pub events_before : Script → List Mark → List Event
+events_before s before = events_of (catalog_of s) (stream_of s before ++ 0 ∷ [])
+
+-- what is told of all that was sent after a frame, with the zero that ends it, where the next mark has this number
+abbrev pub events_after : Script → ℕ → List Mark → List Event
+events_after s number after = events_of (catalog_of s) (0 ∷ stream_from s number after)
+
+-- each frame that was sent whole gives its line, between what is told of all before it and of all after it
+abbrev pub HaveWhole : Script → List Mark → List Event → Type 0
+HaveWhole s tape events = (before after : List Mark) (m : Mark) → tape ≡ before ++ m ∷ after → IsWhole m
+    → events ≡ events_before s before ++ (mark_events s (length before) m ++ events_after s (length before + 1) after)
+
+-- the place of the last line of some events, behind a line with this place
+abbrev pub place_behind : Option ℕ → List Event → Option ℕ
+place_behind last [] = last
+place_behind last (event ∷ events) = place_behind (last_behind last event) events
+
+-- What is printed of them, by any rules and by none: in such a frame's place its line, where it is shown, behind a report of how many
+-- are missing since the line before, by the places of both.
+abbrev pub PrintWhole : Script → List Mark → List Event → Type 0
+PrintWhole s tape events = (only : Option Rules) (before after : List Mark) (m : Mark) → tape ≡ before ++ m ∷ after → IsWhole m
+    → let place = place_in s.settings.profile (length before) in
+    event_lines_by only s.table events
+    ≡ event_lines_by only s.table (events_before s before)
+    ++ ((gap_line (gap_between (place_behind None (events_before s before)) place) ++ kept_line (shows_mark only s m) (mark_line s m))
+    ++ event_lines_from only s.table place (events_after s (length before + 1) after))
+
+-- In blocking and skip mode there is a line with its mark's place for each frame that was sent whole, and nothing else. In trim mode,
+-- where what was sent of the cut frames stands between them, each of them has its line in its place.
 abbrev pub LinesIn : RingMode → Script → List Mark → List Event → Type 0
 LinesIn Block s tape events = events ≡ whole_events s tape
 LinesIn Skip s tape events = events ≡ whole_events s tape
-LinesIn Trim s tape events = Unit {0}
+LinesIn Trim s tape events = HaveWhole s tape events
 
--- in blocking and skip mode what is printed of them, by any rules and by none, is what the tape prints, in profile Two with the
--- gaps of the tape
+-- In blocking and skip mode what is printed of them, by any rules and by none, is what the tape prints, in profile Two with the
+-- gaps of the tape. In trim mode the line of each frame that was sent whole is printed in its place.
 abbrev pub GapsIn : RingMode → Profile → Script → List Mark → List Event → Type 0
 GapsIn Block profile s tape events = (only : Option Rules) → event_lines_by only s.table events ≡ tape_lines_by profile only s tape
 GapsIn Skip profile s tape events = (only : Option Rules) → event_lines_by only s.table events ≡ tape_lines_by profile only s tape
-GapsIn Trim profile s tape events = Unit {0}
+GapsIn Trim profile s tape events = PrintWhole s tape events
 
 -- ---- the turns that were sent
 
@@ -71,6 +108,20 @@ turn_events_from s number (t ∷ ts) = (if t.sent then mark_events s number (tur
 -- of the turns of a run under orders
 abbrev pub turn_events : Script → List Turn → List Event
 turn_events s turns = turn_events_from s 0 turns
+
+-- what was sent of a turn, as the fate of its frame: one of which nothing was sent is a dropped one
+abbrev pub fate_by : Bool → Fate
+fate_by true = Whole
+fate_by false = Dropped 0 0
+
+-- the mark that a turn would have on a tape
+abbrev pub mark_of : Turn → Mark
+mark_of t = record (turn_mark t) { fate = fate_by t.sent }
+
+-- What is printed of the lines of turns, by any rules and by none, is what a tape of their marks prints: in profile Two the gaps count
+-- the turns that weren't sent.
+abbrev pub PrintTurns : Script → List Turn → List Event → Type 0
+PrintTurns s turns events = (only : Option Rules) → event_lines_by only s.table events ≡ tape_lines_by s.settings.profile only s (map mark_of turns)
 
 -- ---- two lines, and what stands between them
 
@@ -94,10 +145,6 @@ AreNoLines (Line index place text ∷ events) = ⊥
 AreNoLines (Bad cause ∷ events) = AreNoLines events
 AreNoLines (CutFront bytes ∷ events) = AreNoLines events
 AreNoLines (CutTail bytes ∷ events) = AreNoLines events
-
--- a frame that was sent whole
-abbrev pub IsWhole : Mark → Type 0
-IsWhole m = m.fate ≡ Whole
 
 abbrev pub WasDropped : Fate → Type 0
 WasDropped Whole = ⊥

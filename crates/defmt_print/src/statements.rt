@@ -1,20 +1,19 @@
 //! The lines of a script's statements.
-ghost use Rattle.std.specs.Prelude.{◌≡◌, ◌≤◌, ◌<◌, ◌^◌, ◌+◌, ◌++◌, length, IfOk, OnOk};
+ghost use Rattle.std.specs.Prelude.{◌≡◌, ◌≤◌, ◌<◌, ◌^◌, ◌+◌, ◌++◌, length, IfOk, IfSome, OnOk};
 ghost use Rattle.defmt_encode.specs.Carry.{stamp_args};
 ghost use Rattle.defmt_frames.specs.Frames.{first_stamp, stamp_number, stamp_step};
 ghost use Rattle.defmt_logger.specs.Tape.{mark_line};
 ghost use Rattle.defmt_recording.specs.Output.{ended};
 ghost use Rattle.defmt_eager.specs.Line.{eager_line};
 ghost use Rattle.defmt_print.specs.Printed.{IsPlaced, Prints, numbered, numbered_line, statement_lines};
-ghost use Rattle.defmt_put.specs.Written.{Writes};
+ghost use Rattle.defmt_hints.specs.Written.{Written};
 ghost use Rattle.defmt_script.specs.Lawful.{IsSound, stamp_in};
 ghost use Rattle.defmt_script.specs.Script.{statements_by};
 
-use defmt_eager::{EagerFault, line};
-use defmt_flat::put_line;
+use defmt_eager::{EagerFault, line, put_line};
+use defmt_hints::put;
 use defmt_intern::Table;
 use defmt_logger::Mark;
-use defmt_put::put;
 use defmt_script::{Script, WRITERS, stamps_fit};
 use defmt_values::{Args, Statement, Value};
 use dl_io::{Bytes, Memory};
@@ -145,9 +144,9 @@ fn put_ended(
     statement: &Statement,
     room: &mut [u8],
 ) -> Option<usize>
-    ensures { Writes result room.old 0 room.new
+    ensures { IfSome result (λ end. Written room.old 0 room.new end
         (ended (eager_line table.now.entries (stamp_args stamp)
-        statement.now.index statement.now.args)) }
+        statement.now.index statement.now.args))) }
 {
     let end = put_line(table, stamp, statement, room, 0)?;
     put(room, end, b"\n")

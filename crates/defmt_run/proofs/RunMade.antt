@@ -1,9 +1,9 @@
 -- What a run comes to.
 use Rattle.std.proofs.Common.{◌≡◌, ◌++◌, ℕ, List, [], refl, sym, ap, subst, ◌∙◌}
-use Rattle.std.specs.Prelude.{Err, IfOk, None, Ok, Option, Result, Some}
+use Rattle.std.specs.Prelude.{false, Err, IfOk, None, Ok, Option, Result, Some}
 use Rattle.defmt_decode.specs.Event.{events_of}
 use Rattle.defmt_decode.specs.declared.event.Event.{Event}
-use Rattle.defmt_logger.specs.declared.mark.Mark.{Mark}
+use Rattle.defmt_logger.specs.Kept.{Reel as Tape}
 use Rattle.defmt_run.specs.Making.{IsLogged, Makes, MakesAlone, RanAlone, RanHeard, RanUnheard}
 use Rattle.defmt_print.specs.Heard.{GapsIn, LinesIn, catalog_of}
 use Rattle.defmt_run.specs.Told.{IsUntold, Ran, Spoke, Told, told, told_of}
@@ -17,12 +17,13 @@ use Rattle.defmt_writers.specs.Runs.{IsRun}
 use Rattle.defmt_writers.specs.declared.script_run.Run.{Run as ScriptRun}
 use Rattle.dl_io.specs.Buffer.{Buffer}
 use Rattle.defmt_talk.specs.Talks.{IsTalk}
-use Rattle.rtt_booth.specs.declared.said.Word.{Word as SaidWord}
+use Rattle.rtt_booth.specs.Kept.{Reel as Said}
 use Rattle.rtt_ring.specs.Account.{Account}
 use Rattle.rtt_ring.specs.declared.settled.RingKind.TheVariants.{Word}
 
-module _ (s : Script) (tape : List Mark) (account : Account) (captured rest : List ℕ) (looks : ℕ) (run : IsRun s tape account captured rest looks) (ring : account.ring ≡ Word) where
-  logged : (events : List Event) (said : List SaidWord) (term : Option Account) → Ran s account (told_of tape account events looks said term)
+module _ (s : Script) (tape : Tape) (account : Account) (captured rest : List ℕ) (looks : ℕ) (run : IsRun s tape account captured rest looks) (ring : account.ring ≡ Word)
+    (taken : s.settings.late ≡ false → account.got ≡ account.sent) where
+  logged : (events : List Event) (said : Said) (term : Option Account) → Ran s account (told_of tape account events looks said term)
   logged events said term = record {
     settled = refl;
     ring = ring;
@@ -33,30 +34,36 @@ module _ (s : Script) (tape : List Mark) (account : Account) (captured rest : Li
     reach = run.reach;
     late = run.late;
     looks = run.looked;
+    taken = taken;
+    split = run.split;
+    counted = run.counted;
+    rooms = run.rooms;
   }
 
-  pub heard : (events : List Event) (said : List SaidWord) (term : Option Account) → events ≡ events_of (catalog_of s) account.sent → LinesIn s.settings.mode s tape events
-      → GapsIn s.settings.mode s.settings.profile s tape events → RanHeard s (told_of tape account events looks said term)
+  pub heard : (events : List Event) (said : Said) (term : Option Account) → events ≡ events_of (catalog_of s) account.sent → LinesIn s.settings.mode s tape.marks events
+      → GapsIn s.settings.mode s.settings.profile s tape.marks events → RanHeard s (told_of tape account events looks said term)
   heard events said term is lines gaps =
-      (account, logged events said term, record { events = is; lines = lines; gaps = gaps }, record { turns = refl; orders = refl })
+      (account, logged events said term, record { events = is; lines = lines; gaps = gaps }, record { turns = refl; orders = refl; rings = refl })
 
-  pub alone : (events : List Event) (said : List SaidWord) → events ≡ events_of (catalog_of s) account.sent → LinesIn s.settings.mode s tape events
-      → GapsIn s.settings.mode s.settings.profile s tape events → said ≡ [] → RanAlone s (told_of tape account events looks said None)
-  alone events said is lines gaps none = (heard events said None is lines gaps, record { said = none; term = refl })
+  pub alone : (events : List Event) (said : Said) → events ≡ events_of (catalog_of s) account.sent → LinesIn s.settings.mode s tape.marks events
+      → GapsIn s.settings.mode s.settings.profile s tape.marks events → (said.words ≡ []) × (said.split ≡ []) → RanAlone s (told_of tape account events looks said None)
+  alone events said is lines gaps none = (heard events said None is lines gaps, record { said = none.0; term = refl; spoken = none.1 })
 
-  pub unheard : (events : List Event) (said : List SaidWord) → events ≡ [] → said ≡ [] → RanUnheard s (told_of tape account events looks said None)
+  pub unheard : (events : List Event) (said : Said) → events ≡ [] → (said.words ≡ []) × (said.split ≡ []) → RanUnheard s (told_of tape account events looks said None)
   unheard events said none silent =
-      (account, logged events said None, none, record { said = silent; term = refl }, record { turns = refl; orders = refl })
+      (account, logged events said None, none, record { said = silent.0; term = refl; spoken = silent.1 }, record { turns = refl; orders = refl; rings = refl })
 
-  pub spoke : (events : List Event) (words : List SaidWord) (term : Account) (taken left : List ℕ) → IsTalk s.said words term taken left → term.ring ≡ Word
-      → Spoke s term (told_of tape account events looks words (Some term))
-  spoke events words term taken left talk kind = record {
+  pub spoke : (events : List Event) (said : Said) (term : Account) (got left : List ℕ) → IsTalk s.said said term got left → term.ring ≡ Word
+      → term.got ≡ term.sent → Spoke s term (told_of tape account events looks said (Some term))
+  spoke events said term got left talk kind all_taken = record {
     term = refl;
     ring = kind;
     lawful = talk.lawful;
     all = talk.all;
     sent = talk.sends;
     got = (left, talk.whole ∙ ap (λ (l : List ℕ). l ++ left) (sym talk.takes));
+    taken = all_taken;
+    split = talk.split;
   }
 
 -- what was heard of a run is what comes of the job

@@ -1,5 +1,5 @@
 -- What a job makes of a script, before it is written.
-use Rattle.std.specs.Prelude.{◌≡◌, List, [], ℕ, Some, None}
+use Rattle.std.specs.Prelude.{◌≡◌, false, List, [], ℕ, Some, None}
 use Rattle.defmt_decode.specs.declared.event.Event.{Event}
 use Rattle.defmt_logger.specs.Tape.{stream_of}
 use Rattle.defmt_print.specs.Printed.{statement_lines, summary}
@@ -17,6 +17,7 @@ use Rattle.defmt_steer.specs.declared.steer_run.SteeredRun.{SteeredRun}
 use Rattle.defmt_talk.specs.declared.talk_run.Talk.{Talk}
 use Rattle.elf_section.specs.Written.{written}
 use Rattle.elf_table.specs.Listed.{symbols_in}
+use Rattle.rtt_booth.specs.Kept.{Reel as Said}
 use Rattle.rtt_ring.specs.Account.{Account}
 use Rattle.rtt_ring.specs.declared.settled.RingKind.TheVariants.{Word}
 
@@ -55,17 +56,19 @@ Makes (Generate count) s told output = RanAlone s told × (output ≡ summary s 
 -- it is a run of its script over a word ring
 abbrev pub IsWordRun : ScriptRun → Type 0
 IsWordRun run =
-    IsRun run.script run.tape.marks run.settled run.captured.items run.rest.items run.looks × (run.settled.ring ≡ Word)
+    IsRun run.script run.tape run.settled run.captured.items run.rest.items run.looks × (run.settled.ring ≡ Word)
+    × (run.script.settings.late ≡ false → run.settled.got ≡ run.settled.sent)
 
 -- its texts were said over a word ring
 abbrev pub IsWordTalk : ScriptRun → Talk → Type 0
 IsWordTalk run talk =
-    IsTalk run.script.said talk.said.words talk.settled talk.captured.items talk.rest.items × (talk.settled.ring ≡ Word)
+    IsTalk run.script.said talk.said talk.settled talk.captured.items talk.rest.items × (talk.settled.ring ≡ Word)
+    × (talk.settled.got ≡ talk.settled.sent)
 
 -- it is a run of its script under orders over two word rings
 abbrev pub IsWordSteered : SteeredRun → Type 0
 IsWordSteered run =
-    IsSteeredRun run.script run.turns.turns run.settled run.captured.items run.rest.items run.orders run.unheard.items
+    IsSteeredRun run.script run.turns run.settled run.captured.items run.rest.items run.orders run.unheard.items
     × (run.settled.ring ≡ Word) × (run.orders.ring ≡ Word)
 
 -- a job that logs the script, and says no texts for terminals
@@ -77,14 +80,14 @@ IsLogged job = ⊥
 
 -- what a job makes of such a run, of which the host tells these events
 abbrev pub MakesAlone : ScriptJob → ScriptRun → List Event → List ℕ → Type 0
-MakesAlone job run events output =
-    Makes job run.script (told_of run.tape.marks run.settled events run.looks [] None) output
+MakesAlone job run events output = (said : Said) → (said.words ≡ []) × (said.split ≡ [])
+    → Makes job run.script (told_of run.tape run.settled events run.looks said None) output
 
 -- the same of a run whose texts were said
 abbrev pub MakesSpoken : ScriptRun → Talk → List Event → List ℕ → Type 0
 MakesSpoken run talk events output =
-    Makes Terminals run.script (told_of run.tape.marks run.settled events run.looks talk.said.words (Some talk.settled)) output
+    Makes Terminals run.script (told_of run.tape run.settled events run.looks talk.said (Some talk.settled)) output
 
 -- the same of a run under orders
 abbrev pub MakesSteered : SteeredRun → List Event → List ℕ → Type 0
-MakesSteered run events output = Makes Steer run.script (steered_of run.turns.turns run.settled events run.orders) output
+MakesSteered run events output = Makes Steer run.script (steered_of run.turns run.settled events run.orders) output

@@ -105,7 +105,7 @@ pub fn hear_steered(alloc: Global, run: &SteeredRun) -> Result<Heard, Memory>
 // The events of what a run sent. In blocking and skip mode they are the lines of the frames that were sent whole, with the places
 // of their marks, and in profile Two the gaps between them are those of the tape.
 fn events_of_run(alloc: Global, run: &Run) -> Result<Events, Memory>
-    requires { IsRun run.now.script run.now.tape.marks run.now.settled
+    requires { IsRun run.now.script run.now.tape run.now.settled
         run.now.captured.items run.now.rest.items run.now.looks }
     ensures events { IfOk result (λ events.
         events ≡ events_of (catalog_of run.now.script) run.now.settled.sent) }

@@ -125,7 +125,7 @@ fn with_run(
 ) -> Result<Making, Memory>
     ensures { IfOk result (λ made. (h : HeardOf) × (heard ≡ Ok h)
         × (made.output.items ≡ h.output.items) × (told made.outcome
-        ≡ told_of run.tape.marks run.settled h.events run.looks said.words term)) }
+        ≡ told_of run.tape run.settled h.events run.looks said term)) }
 {
     let Run {
         script,
@@ -161,7 +161,7 @@ fn with_steered(
 ) -> Result<Making, Memory>
     ensures { IfOk result (λ made. (h : HeardOf) × (heard ≡ Ok h)
         × (made.output.items ≡ h.output.items) × (told made.outcome
-        ≡ steered_of run.turns.turns run.settled h.events run.orders)) }
+        ≡ steered_of run.turns run.settled h.events run.orders)) }
 {
     let SteeredRun {
         script,

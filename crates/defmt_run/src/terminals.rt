@@ -20,7 +20,7 @@ pub fn with_spoken(
     script: &Script,
     talk: &Talk,
 ) -> Result<Bytes, Memory>
-    requires { IsTalk script.now.said talk.now.said.words talk.now.settled
+    requires { IsTalk script.now.said talk.now.said talk.now.settled
         talk.now.captured.items talk.now.rest.items }
     ensures { IfOk result (λ out. out.items ≡ lines.items
         ++ screen_lines (screens_by script.now.said talk.now.said.words)) }
@@ -31,7 +31,7 @@ pub fn with_spoken(
 
 // The texts of the terminals, of what was said on them.
 fn spoken_screens(alloc: Global, script: &Script, talk: &Talk) -> Result<Screens, Memory>
-    requires { IsTalk script.now.said talk.now.said.words talk.now.settled
+    requires { IsTalk script.now.said talk.now.said talk.now.settled
         talk.now.captured.items talk.now.rest.items }
     ensures { IfOk result (λ screens.
         screens ≡ screens_by script.now.said talk.now.said.words) }

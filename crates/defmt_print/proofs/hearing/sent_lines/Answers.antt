@@ -5,7 +5,7 @@ use Rattle.defmt_print.specs.Heard.{catalog_of}
 use Rattle.defmt_print.proofs.Gaps.{gaps_in}
 use Rattle.defmt_print.proofs.Lines.{Known, lines_in}
 use Rattle.defmt_print.proofs.Marks.{are_placed, few_marks}
-use Rattle.defmt_print.proofs.Turns.{turn_lines}
+use Rattle.defmt_print.proofs.Turns.{turn_lines, turn_prints}
 use Rattle.defmt_print.proofs.hearing.sent_lines.Goals as goal
 use Rattle.defmt_print.proofs.hearing.sent_lines.Goals.{After-gaps_count}
 
@@ -20,7 +20,7 @@ known c = record {
 
 pub returns-clause-lines : goal.returns-clause-lines
 returns-clause-lines c = λ tape lawful.
-    lines_in c.args.script.now (known c) c.frames_read_back.ensures.short c.without_front.ensures tape lawful
+    lines_in c.args.script.now (known c) c.frames_read_back.ensures.short c.without_front.ensures c.intact_frames.ensures.sent tape lawful
 
 pub returns-clause-gaps : goal.returns-clause-gaps
 returns-clause-gaps c = λ tape lawful.
@@ -30,3 +30,7 @@ returns-clause-gaps c = λ tape lawful.
 pub returns-clause-turns : goal.returns-clause-turns
 returns-clause-turns c = λ turns got steered.
     turn_lines c.args.script.now turns got steered (known c) c.frames_read_back.ensures.short c.without_front.ensures
+
+pub returns-clause-muted : goal.returns-clause-muted
+returns-clause-muted c = λ turns got steered.
+    turn_prints c.args.script.now turns got steered c.gaps_count.ensures (known c)

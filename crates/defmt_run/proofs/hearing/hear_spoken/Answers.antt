@@ -16,12 +16,12 @@ returns c =
     let run = c.args.run.now in
     let talk = c.args.talk.now in (
       (
-        heard run.script run.tape.marks run.settled run.captured.items run.rest.items run.looks c.requires.run.0 c.requires.run.1
-            c.in_ok-events.events talk.said.words (Some talk.settled) c.in_ok-events.ensures.events c.in_ok-events.ensures.lines c.in_ok-events.ensures.gaps,
+        heard run.script run.tape run.settled run.captured.items run.rest.items run.looks c.requires.run.0 c.requires.run.1 c.requires.run.2
+            c.in_ok-events.events talk.said (Some talk.settled) c.in_ok-events.ensures.events c.in_ok-events.ensures.lines c.in_ok-events.ensures.gaps,
         (
           talk.settled,
-          spoke run.script run.tape.marks run.settled run.captured.items run.rest.items run.looks c.requires.run.0 c.requires.run.1
-              c.in_ok-events.events talk.said.words talk.settled talk.captured.items talk.rest.items c.requires.talk.0 c.requires.talk.1,
+          spoke run.script run.tape run.settled run.captured.items run.rest.items run.looks c.requires.run.0 c.requires.run.1 c.requires.run.2
+              c.in_ok-events.events talk.said talk.settled talk.captured.items talk.rest.items c.requires.talk.0 c.requires.talk.1 c.requires.talk.2,
         ),
       ),
       c.in_ok-output.ensures ∙ ap (λ (l : List ℕ). l ++ screen_lines (screens_by run.script.said talk.said.words)) (

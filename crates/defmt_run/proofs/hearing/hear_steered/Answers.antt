@@ -11,9 +11,10 @@ both a b first rest sent first_is rest_is sent_is =
 pub returns : goal.returns
 returns c =
     let run = c.args.run.now in (
-      ran_steered run.script run.turns.turns run.settled run.orders run.captured.items run.rest.items run.unheard.items c.in_ok-events.events
+      ran_steered run.script run.turns run.settled run.orders run.captured.items run.rest.items run.unheard.items c.in_ok-events.events
           c.requires.0 c.requires.1 c.requires.2 (c.in_ok-events.ensures ∙ ap (events_of (catalog_of run.script))
           (both run.captured.items run.rest.items c.as_slice.result.now c.as_slice-2.result.now run.settled.sent c.as_slice.ensures c.as_slice-2.ensures c.requires.0.whole))
-          (c.sent_lines.ensures.turns run.turns.turns run.orders.got c.requires.0.steered),
+          (c.sent_lines.ensures.turns run.turns.turns run.orders.got c.requires.0.steered)
+          (c.sent_lines.ensures.muted run.turns.turns run.orders.got c.requires.0.steered),
       c.in_ok-output.ensures,
     )

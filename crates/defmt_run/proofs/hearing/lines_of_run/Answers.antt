@@ -1,16 +1,14 @@
-use Rattle.std.specs.Prelude.{[]}
 use Rattle.defmt_print.proofs.Marks.{are_placed}
 use Rattle.defmt_run.proofs.RunMade.{alone}
-use Rattle.std.proofs.Common.{refl}
 use Rattle.defmt_run.proofs.hearing.lines_of_run.Goals as goal
 
 pub run_lines-requires : goal.run_lines-requires
 run_lines-requires c = are_placed c.args.run.now.script c.args.run.now.tape.marks c.requires.0.lawful
 
 pub returns : goal.returns
-returns c =
+returns c = λ said silent.
     let run = c.args.run.now in (
-      alone run.script run.tape.marks run.settled run.captured.items run.rest.items run.looks c.requires.0 c.requires.1
-          c.in_ok-events.events [] c.in_ok-events.ensures.events c.in_ok-events.ensures.lines c.in_ok-events.ensures.gaps refl,
+      alone run.script run.tape run.settled run.captured.items run.rest.items run.looks c.requires.0 c.requires.1 c.requires.2
+          c.in_ok-events.events said c.in_ok-events.ensures.events c.in_ok-events.ensures.lines c.in_ok-events.ensures.gaps silent,
       c.in_ok-output.ensures,
     )

@@ -8,10 +8,10 @@ use Rattle.rtt_ring.specs.declared.settled.RingKind.TheVariants.{Word}
 use Rattle.defmt_run.proofs.logging.steer.Goals as goal
 
 of_itself : {E : Type 0} (s : Script) (answer : Result SteeredRun E) → IfOk answer (λ (r : SteeredRun). r.script ≡ s)
-    → IfOk answer (λ (r : SteeredRun). IsSteeredRun s r.turns.turns r.settled r.captured.items r.rest.items r.orders r.unheard.items)
+    → IfOk answer (λ (r : SteeredRun). IsSteeredRun s r.turns r.settled r.captured.items r.rest.items r.orders r.unheard.items)
     → IfOk answer (λ (r : SteeredRun). (r.settled.ring ≡ Word) × (r.orders.ring ≡ Word)) → IfOk answer (λ (r : SteeredRun). IsWordSteered r)
 of_itself s (Ok r) is run rings =
-    (subst (λ (x : Script). IsSteeredRun x r.turns.turns r.settled r.captured.items r.rest.items r.orders r.unheard.items) (sym is) run, rings.0, rings.1)
+    (subst (λ (x : Script). IsSteeredRun x r.turns r.settled r.captured.items r.rest.items r.orders r.unheard.items) (sym is) run, rings.0, rings.1)
 of_itself s (Err fault) is run rings = tt
 
 pub run_steered-requires-clause-tells : goal.run_steered-requires-clause-tells

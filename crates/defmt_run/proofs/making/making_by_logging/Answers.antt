@@ -1,16 +1,16 @@
-use Rattle.std.proofs.Common.{List, subst, sym}
-use Rattle.std.specs.Prelude.{IfOk, None}
+use Rattle.std.proofs.lemmas.Result.{IfOk-weaker}
+use Rattle.std.specs.Prelude.{None}
 use Rattle.defmt_run.proofs.RunMade.{makes_so}
-use Rattle.defmt_run.specs.Making.{Makes}
+use Rattle.defmt_run.specs.Making.{Makes, MakesAlone}
 use Rattle.defmt_run.specs.Told.{told_of}
 use Rattle.defmt_run.specs.declared.hearing.Heard.{Heard}
-use Rattle.rtt_booth.specs.declared.said.Word.{Word as SaidWord}
 use Rattle.defmt_run.proofs.making.making_by_logging.Goals as goal
 
 pub returns : goal.returns
 returns g c = λ logged.
     let run = c.in_ok-run.run' in
-    makes_so c.args.job.now run.script c.args.script (λ (h : Heard). told_of run.tape.marks run.settled h.events run.looks c.new.result.words None)
+    makes_so c.args.job.now run.script c.args.script (λ (h : Heard). told_of run.tape run.settled h.events run.looks c.new.result None)
     c.hear_run-heard.result c.with_run.result c.in_ok-run.ensures.script
-    (subst (λ (words : List SaidWord). IfOk c.hear_run-heard.result (λ (h : Heard). Makes c.args.job.now run.script (told_of run.tape.marks run.settled h.events run.looks words None) h.output.items))
-    (sym c.new.ensures.words) (c.hear_run-heard.ensures logged)) c.with_run.ensures
+    (IfOk-weaker c.hear_run-heard.result (λ (h : Heard). MakesAlone c.args.job.now run h.events h.output.items)
+    (λ (h : Heard). Makes c.args.job.now run.script (told_of run.tape run.settled h.events run.looks c.new.result None) h.output.items)
+    (λ h makes. makes c.new.result (c.new.ensures.words, c.new.ensures.no_end)) (c.hear_run-heard.ensures logged)) c.with_run.ensures

@@ -9,5 +9,5 @@ pub returns : goal.returns
 returns g c =
     let run = c.in_ok-run.run' in
     let talk = c.in_ok-run.talk in
-    makes_so Terminals run.script c.args.script (λ (h : Heard). told_of run.tape.marks run.settled h.events run.looks talk.said.words (Some talk.settled))
+    makes_so Terminals run.script c.args.script (λ (h : Heard). told_of run.tape run.settled h.events run.looks talk.said (Some talk.settled))
     c.hear_spoken-heard.result c.with_run.result c.in_ok-run.ensures.script c.hear_spoken-heard.ensures c.with_run.ensures

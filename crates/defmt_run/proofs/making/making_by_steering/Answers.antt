@@ -7,5 +7,5 @@ use Rattle.defmt_run.proofs.making.making_by_steering.Goals as goal
 pub returns : goal.returns
 returns g c =
     let run = c.in_ok-run.run' in
-    makes_so Steer run.script c.args.script (λ (h : Heard). steered_of run.turns.turns run.settled h.events run.orders)
+    makes_so Steer run.script c.args.script (λ (h : Heard). steered_of run.turns run.settled h.events run.orders)
     c.hear_steered-heard.result c.with_steered.result c.in_ok-run.ensures.script c.hear_steered-heard.ensures c.with_steered.ensures
