@@ -1,45 +1,42 @@
 //! The program `defmtl`: it does what its words ask for, from the standard input and the files of the working folder to the
-//! standard output.
+//! standard output, and tells a fault on the standard error.
 //!
 //! After docs/USER-GUIDE.md. So `run --group` prints the lines of two writers writer by writer, each in its order: `INFO  a 1` and
 //! `INFO  a 2`, then `WARN  b true` and `WARN  b false` (its stored run).
 #![tactic(auto)]
 
-use defmt_run::{Fault, OpenGate, session};
-use dl_io::{Memory, StdSink, write_all};
+mod answer;
+
+use answer::{answer, without_memory};
+use dl_io::{Memory, StdSink};
 use std::process::ExitCode;
 use std::rt::Env;
 use std::{env, io};
 use std_outside::{Folder, Input};
 
+// Makes the outside, and hands it on with the words.
 fn main(rt: HostRuntime) -> ExitCode {
+    let mut errors = StdSink::new(rt.stderr());
     let Ok(words) = words_of(&rt) else {
-        return without_memory(&rt);
+        return ExitCode::from(without_memory(&mut errors));
     };
     let Ok(mut source) = Input::new(rt.alloc(), rt.stdin()) else {
-        return without_memory(&rt);
+        return ExitCode::from(without_memory(&mut errors));
     };
     let Ok(mut shelf) = Folder::new(rt.alloc(), &rt) else {
-        return without_memory(&rt);
+        return ExitCode::from(without_memory(&mut errors));
     };
     let mut sink = StdSink::new(io::writer(&rt));
-    let fault = session(
+    let status = answer(
         &rt,
         rt.alloc(),
         words.as_slice(),
         &mut source,
         &mut shelf,
         &mut sink,
-        &OpenGate,
-    )
-    .fault;
-    say(&rt, fault);
-    ExitCode::from(fault.status())
-}
-
-fn without_memory(rt: &HostRuntime) -> ExitCode {
-    tell(rt, b"memory");
-    ExitCode::from(Fault::Memory.status())
+        &mut errors,
+    );
+    ExitCode::from(status)
 }
 
 // The words of the command line. Words that aren't text ask for nothing.
@@ -48,22 +45,5 @@ fn words_of(rt: &(impl Env + AllocGlobal)) -> Result<Vec<String>, Memory> {
         Ok(words) => Ok(words.collect(rt.alloc())?),
         Err(error) if error.kind() == io::ErrorKind::OutOfMemory => Err(Memory),
         Err(_) => Ok(Vec::new(rt.alloc())),
-    }
-}
-
-// Says a fault, if there is memory for its words.
-fn say(rt: &HostRuntime, fault: Fault) {
-    if fault.status() != 0
-        && let Ok(text) = fault.say(rt.alloc())
-    {
-        tell(rt, text.as_str().as_bytes());
-    }
-}
-
-// Writes a text and a newline to the standard error. What can't be written there is lost.
-fn tell(rt: &HostRuntime, text: &[u8]) {
-    let mut errors = StdSink::new(rt.stderr());
-    if write_all(&mut errors, text).is_ok() {
-        let _ = write_all(&mut errors, b"\n");
     }
 }
