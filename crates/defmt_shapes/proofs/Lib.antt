@@ -17,3 +17,8 @@ pub mod ValueLaws
 pub mod OrderLaws
 pub mod MeaningLaws
 pub mod BareLaws
+pub mod QuickHeads
+pub mod QuickQuotes
+pub mod LastCalls
+pub mod FlagLaws
+pub mod DecimalLaws

@@ -41,7 +41,7 @@ ends_again (c ∷ cs) h =
 pub ends_not : (rest : List ℕ) → ends_there rest ≡ false → EndsThere rest → ⊥
 ends_not rest h k = both_ways (ends_there rest) h (ends_again rest k)
 
-ends_stop : (rest : List ℕ) → EndsThere rest → StopsThere rest
+pub ends_stop : (rest : List ℕ) → EndsThere rest → StopsThere rest
 ends_stop [] h = tt
 ends_stop (c ∷ cs) h = inl h
 

@@ -1,5 +1,5 @@
 -- What the code tells of a value.
-use Rattle.std.specs.Prelude.{◌≡◌, ◌<◌, ◌≤◌, ◌^◌, ℕ, Bool, ◌==◌, ◌||◌, is_some, List, ◌∷◌, ◌++◌, length, Option, Some, None, Result, Ok, Err}
+use Rattle.std.specs.Prelude.{◌≡◌, ◌<◌, ◌≤◌, ◌^◌, ℕ, Bool, ◌==◌, ◌||◌, is_some, List, [], ◌∷◌, ◌++◌, length, Option, Some, None, Result, Ok, Err}
 use Rattle.std.specs.Borrow.{Bor}
 use Rattle.defmt_grammar.specs.Cut.{behind, skip_spaces}
 use Rattle.dl_io.specs.declared.fault.Memory.{Memory}
@@ -8,7 +8,7 @@ use Rattle.defmt_shapes.specs.declared.number.Number.TheVariants.{Within, Above}
 use Rattle.defmt_shapes.specs.declared.spelling.Spelling.{Spelling}
 use Rattle.defmt_shapes.specs.declared.spelling.Spelling.TheVariants as told
 use Rattle.defmt_shapes.specs.declared.spelling.Item.{Item}
-use Rattle.defmt_shapes.specs.Shape.{Shape, Shapes, Items, decimal, hexadecimal, negative, flag, character, quoted, interned, bytes, call, empty, sequence, SpellsBytes, SpellsQuoted, SpellsShapes, SpellsItems, StartsThere, EndsThere, HeadShape, IsItemMark}
+use Rattle.defmt_shapes.specs.Shape.{Shape, Shapes, Items, decimal, hexadecimal, negative, flag, character, quoted, interned, bytes, call, empty, sequence, SpellsBytes, SpellsQuoted, SpellsShapes, SpellsItems, StartsThere, EndsThere, HeadShape, IsItemMark, IsName}
 
 -- the number, as far as 128 bits hold it
 abbrev pub Holds : Number → ℕ → Type 0
@@ -70,6 +70,16 @@ IsItem text (Some p) = (v : Option ℕ) × (ss : Shapes) × HeadItem text v ss p
 abbrev pub FindsItem : List ℕ → Result (Option (Item × Bor (List ℕ))) Memory → Type 0
 FindsItem text (Ok o) = IsItem text o
 FindsItem text (Err e) = Unit {0}
+
+-- the text is this name, `(`, this inside and `)`
+pub record IsLastCall (text name inside : List ℕ) : Type 0 where
+  pub name_is : IsName name
+  pub text_is : text ≡ name ++ 40 ∷ (inside ++ 41 ∷ [])
+
+-- the two, or that the text is no such
+abbrev pub FindsLastCall : List ℕ → Option (Bor (List ℕ) × Bor (List ℕ)) → Type 0
+FindsLastCall text None = (name inside : List ℕ) → IsLastCall text name inside → ⊥
+FindsLastCall text (Some p) = IsLastCall text p.0.now p.1.now
 
 -- ---- laws
 

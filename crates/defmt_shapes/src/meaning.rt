@@ -1,10 +1,10 @@
 //! What stands inside a spelling, as text and bytes.
 
-ghost use Rattle.std.specs.Prelude.{◌≡◌, ◌<◌, ◌≤◌, List, ℕ, ◌∷◌, length, IfOk, MatchOption};
-ghost use Rattle.std.specs.Char.{digit_value};
+ghost use Rattle.std.specs.Prelude.{◌≡◌, ◌<◌, List, ℕ, ◌∷◌, length, IfOk, MatchOption};
 ghost use Rattle.defmt_shapes.specs.Shape.{SpellsQuoted, SpellsBytes};
 ghost use Rattle.defmt_shapes.specs.Meaning.{MeansText, MeansBytes, FirstByte, NoByte};
 
+use crate::digits::digit_of;
 use crate::escape::character_of;
 use defmt_grammar::Text;
 use dl_io::{Bytes, Memory};
@@ -30,17 +30,6 @@ pub fn unescape(alloc: Global, inside: &str) -> Result<Text, Memory>
         rest = after;
     }
     Ok(text)
-}
-
-// The value of a hexadecimal digit.
-fn digit_of(digit: u8) -> Option<u8>
-    ensures { MatchOption result (16 ≤ digit_value digit)
-        (λ value. (value ≡ digit_value digit) × (value < 16)) }
-{
-    match char::from(digit).to_digit(16) {
-        Some(value) => Some(value as u8),
-        None => None,
-    }
 }
 
 // The first two bytes, and what follows them.

@@ -9,6 +9,7 @@ ghost use Rattle.defmt_grammar.specs.Param.{both_now, has_leading_zero};
 ghost use Rattle.defmt_shapes.specs.Escapes.{with_rest};
 ghost use Rattle.defmt_shapes.specs.Runs.{in_class, run, first_ascii, is_variant};
 ghost use Rattle.defmt_shapes.specs.Shape.{is_name, is_word};
+ghost use Rattle.defmt_shapes.specs.Spelling.{ends_there};
 
 /// Characters that stand together in numbers and names.
 #[derive(Clone, Copy)]
@@ -138,4 +139,14 @@ pub fn is_variant(digits: &str) -> bool
     ensures { result ≡ is_variant digits.now }
 {
     !digits.is_empty() && !has_leading_zero(digits)
+}
+
+/// Whether a value may end before this rest: it is empty or begins with a space.
+pub fn ends_there(rest: &str) -> bool
+    ensures { result ≡ ends_there rest.now }
+{
+    match rest.as_bytes() {
+        [] => true,
+        [first, ..] => *first == b' ',
+    }
 }

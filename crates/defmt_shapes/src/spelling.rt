@@ -1,14 +1,14 @@
 //! The value or element that a text begins with.
 
-ghost use Rattle.std.specs.Prelude.{◌≡◌, List, ℕ, IfOk, IfSome};
+ghost use Rattle.std.specs.Prelude.{List, ℕ, IfOk, IfSome};
 ghost use Rattle.std.specs.Str.{IsUtf8};
 ghost use Rattle.defmt_shapes.specs.Shape.{Shape as AnyShape};
 ghost use Rattle.defmt_shapes.specs.Leads.{view_whole, Leads};
-ghost use Rattle.defmt_shapes.specs.Spelling.{Tells, ends_there, FindsValue, FindsItem};
+ghost use Rattle.defmt_shapes.specs.Spelling.{Tells, FindsValue, FindsItem};
 
 use crate::head::{Head, Whole, head_of, item_of};
 use crate::number::{Number, number_of, variant_of};
-use crate::parts::behind;
+use crate::parts::ends_there;
 use crate::scan::{Bracket, enclosed};
 use dl_io::Memory;
 use std::alloc::Global;
@@ -59,13 +59,6 @@ pub struct Item<'a> {
     pub variant: Option<Number>,
     /// The values between the brackets.
     pub inside: &'a str,
-}
-
-// Whether a value may end before this rest: it is empty or begins with a space.
-fn ends_there(rest: &str) -> bool
-    ensures { result ≡ ends_there rest.now }
-{
-    rest.is_empty() || behind(rest, ' ').is_some()
 }
 
 // The spelling of a value without values inside.

@@ -9,8 +9,7 @@ ghost use Rattle.defmt_values.specs.View.{plain};
 
 use crate::leaves::{decimal_value, negative_value};
 use defmt_grammar::{IntSize, Kind, Slot, Text};
-use defmt_quick::{quick_bytes, quick_decimal, quick_flag, quick_negative, quick_quoted};
-use defmt_shapes::Number;
+use defmt_shapes::{Number, quick_bytes, quick_decimal, quick_flag, quick_negative, quick_quoted};
 use defmt_values::{Args, Value};
 use dl_io::Memory;
 use std::alloc::Global;

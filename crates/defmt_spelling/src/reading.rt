@@ -11,8 +11,7 @@ use crate::nested::{read_node, read_value};
 use crate::quick::push_quick;
 use defmt_grammar::{Kind, Pieces, Slot};
 use defmt_intern::Table;
-use defmt_quick::quick_last_call;
-use defmt_shapes::{first_value, skip_spaces};
+use defmt_shapes::{first_value, quick_last_call, skip_spaces};
 use defmt_values::{Args, Value, cut};
 use std::alloc::Global;
 

@@ -20,6 +20,7 @@ use Rattle.defmt_values.specs.Entries.{places_of}
 use Rattle.defmt_values.specs.View.{plain}
 use Rattle.defmt_values.specs.Scan.{scan_val}
 use Rattle.defmt_shapes.specs.Shape.{call}
+use Rattle.defmt_shapes.proofs.LastCalls.{call_there}
 use Rattle.defmt_spelling.proofs.+read.Goals as goal
 
 pub nested::read_node-returns-in_err-check_node-clause-value : goal.nested::read_node-returns-in_err-check_node-clause-value
@@ -162,7 +163,7 @@ reading::read_next-returns-in-Ok-clause-value t c =
     let s = c.in-Ok.ensures.spelled in
     let k = c.in-Ok.ensures.value None s.shapes tt s.spelled in record {
       shape = call c.in-Some.name.now None s.shapes;
-      head = calls.at_end c.args.text.now c.skip_spaces.result.now c.split_at.result.1.now _ c.skip_spaces.ensures.rest (c.in-Some.ensures.value s.shapes s.spelled) c.split_at.ensures.back;
+      head = calls.at_end c.args.text.now c.skip_spaces.result.now c.split_at.result.1.now _ c.skip_spaces.ensures.rest (call_there c.skip_spaces.result.now c.in-Some.name.now c.in-Some.inside.now s.shapes c.in-Some.ensures.parts s.spelled) c.split_at.ensures.back;
       meant = sym k.0;
       fits = ap (scan_val c.args.table.now.entries c.args.left c.args.slot c.args.weight c.args.sum) k.0 ∙ k.1;
     }

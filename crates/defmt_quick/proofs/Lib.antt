@@ -1,3 +1,0 @@
-pub mod CallLaws
-pub mod Heads
-pub mod QuoteLaws

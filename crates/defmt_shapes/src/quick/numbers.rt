@@ -1,0 +1,70 @@
+//! Decimal numbers.
+
+ghost use Rattle.std.specs.Prelude.{◌≡◌, ◌<◌, ◌≤◌, ℕ, List, take, length, slice_index_or, IfSome, MatchOption};
+ghost use Rattle.std.specs.Char.{digit_value};
+ghost use Rattle.std.specs.Str.{IsUtf8, IsCharBoundary};
+ghost use Rattle.std.specs.Str.Parse.{AllDigits, digits_value};
+ghost use Rattle.defmt_shapes.specs.Shape.{HeadShape, decimal, negative};
+
+use crate::parts::{behind, ends_there};
+
+// A number up to this one has room for a digit more in 64 bits.
+const MOST: u64 = 1_844_674_407_370_955_159;
+
+/// The number of decimal digits that the text begins with, and what follows it. Numbers from 18,446,744,073,709,551,600 on are left.
+pub fn quick_decimal(text: &str) -> Option<(u64, &str)>
+    ensures value { MatchOption result
+        ((n : ℕ) (rest : List ℕ) → HeadShape text.now (decimal n) rest
+        → 18446744073709551600 ≤ n)
+        (λ p. HeadShape text.now (decimal p.0) p.1.now) }
+    ensures utf8 { IfSome result (λ p. IsUtf8 p.1.now) }
+{
+    let mut number = 0u64;
+    for (i, byte) in text.as_bytes().iter().enumerate() {
+        if *byte < b'0' || *byte > b'9' {
+            return number_before(text, i, number);
+        }
+        if number > MOST {
+            return None;
+        }
+        number = number * 10 + u64::from(*byte - b'0');
+    }
+    number_before(text, text.len(), number)
+}
+
+// The number of the digits before this place, where it may end there.
+fn number_before(text: &str, at: usize, number: u64) -> Option<(u64, &str)>
+    requires place { IsCharBoundary text.now at }
+    requires digits { AllDigits 10 (take at text.now) }
+    requires value { digits_value 10 (take at text.now) ≡ number }
+    requires stop { at < length text.now → 10 ≤ digit_value (slice_index_or text.now at 0) }
+    ensures value { MatchOption result
+        ((n : ℕ) (rest : List ℕ) → HeadShape text.now (decimal n) rest
+        → 18446744073709551600 ≤ n)
+        (λ p. HeadShape text.now (decimal p.0) p.1.now) }
+    ensures utf8 { IfSome result (λ p. IsUtf8 p.1.now) }
+{
+    if at == 0 {
+        return None;
+    }
+    let (_, rest) = text.split_at(at);
+    if ends_there(rest) {
+        Some((number, rest))
+    } else {
+        None
+    }
+}
+
+/// The number behind the sign `-` that the text begins with, and what follows it. The same numbers are left.
+pub fn quick_negative(text: &str) -> Option<(u64, &str)>
+    ensures value { MatchOption result
+        ((n : ℕ) (rest : List ℕ) → HeadShape text.now (negative n) rest
+        → 18446744073709551600 ≤ n)
+        (λ p. HeadShape text.now (negative p.0) p.1.now) }
+    ensures utf8 { IfSome result (λ p. IsUtf8 p.1.now) }
+{
+    let Some(digits) = behind(text, '-') else {
+        return None;
+    };
+    quick_decimal(digits)
+}
