@@ -46,7 +46,8 @@ fn serve_alone<H: Channel, E: Names, K: Naming, C: Clock + Drop, W: Wait>(
     requires told { TellsIn script.settings.mode (H.Up.view up) }
     requires down { H.Down.view down ≡ new_down (H.Up.view up).split script.settings.ring }
     requires empty { (captured.old.items ≡ []) × (rest.old.items ≡ []) }
-    requires names { (K.script ≡ script) × (K.split ≡ (H.Up.view up).split) }
+    requires names { (K.script ≡ script) × (K.split ≡ (H.Up.view up).split)
+        × (K.tells ≡ (H.Up.view up).tells) }
     requires ledgers { AreNamed blanks E.names }
 {
     let (logger, mut pens) = Logger::<Eight<E>, EachStatement<K>, Logging<K, H::Up, C>>::start(

@@ -45,6 +45,10 @@ impl Hold {
 }
 
 impl Gate for Hold {
+    ghost passed = { λ _ _ _. Unit {0} };
+
+    ghost told = { λ _ _. Unit {0} };
+
     fn pass(&self, writer: u8, place: u32) {
         if writer < self.below && place == self.place {
             self.asked.fetch_add(1, Ordering::SeqCst);

@@ -161,7 +161,8 @@ fn log_by_pens<E: Names, K: Naming, C: Clock + Drop, W: Wait>(
 ) -> Result<(), Fail>
     requires pace { stamp ≡ pace_of script.settings.stamp }
     requires fresh { up_of ring ≡ new_up (up_of ring).split script.settings.ring true }
-    requires names { (K.script ≡ script) × (K.split ≡ (up_of ring).split) }
+    requires names { (K.script ≡ script) × (K.split ≡ (up_of ring).split)
+        × (K.tells ≡ (up_of ring).tells) }
     requires ledgers { AreNamed blanks E.names }
 {
     let (logger, mut pens) = Logger::<Eight<E>, EachStatement<K>, Logging<K, PlainRing, C>>::start(

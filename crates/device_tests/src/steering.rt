@@ -192,7 +192,7 @@ fn steer_by_helms<E: Names, K: Naming, C: Clock + Drop, W: Wait>(
     requires down { down_of down ≡ new_down (down_of down).split (down_of down).size }
     requires staged { (host_of host.old).staged ≡ [] }
     requires names { (K.script ≡ script) × (K.up ≡ (up_of ring).split)
-        × (K.down ≡ (down_of down).split) }
+        × (K.down ≡ (down_of down).split) × (K.tells ≡ (up_of ring).tells) }
     requires ledgers { AreNamed blanks E.names }
 {
     let (logger, mut helms) = Steered::<

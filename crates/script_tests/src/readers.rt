@@ -1,8 +1,10 @@
 //! The quick readers of values beside the general one, on the same texts.
 use crate::rows::Kind;
 use crate::texts::inside_of;
-use defmt_quick::{quick_bytes, quick_decimal, quick_flag, quick_negative, quick_quoted};
-use defmt_shapes::{Number, Spelling, bytes_of, first_value, unescape};
+use defmt_shapes::{
+    Number, Spelling, bytes_of, first_value, quick_bytes, quick_decimal, quick_flag,
+    quick_negative, quick_quoted, unescape,
+};
 use std::alloc::Global;
 use std::fmt::Write;
 use std::test::Fail;

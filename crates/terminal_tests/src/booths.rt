@@ -136,7 +136,8 @@ fn say_by_voices<E: Names, K: Naming, W: Wait>(
     out: &mut String,
 ) -> Result<(), Fail>
     requires fresh { up_of ring ≡ new_up (up_of ring).split (up_of ring).size (up_of ring).tells }
-    requires names { (K.speech ≡ speech.now) × (K.split ≡ (up_of ring).split) }
+    requires names { (K.speech ≡ speech.now) × (K.split ≡ (up_of ring).split)
+        × (K.tells ≡ (up_of ring).tells) }
     requires ledgers { AreNamed blanks E.names }
 {
     let (booth, mut voices) = Booth::<Eight<E>, EachText<K>, Speaking<K, PlainRing>>::start(

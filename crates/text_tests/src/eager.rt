@@ -129,7 +129,19 @@ pub fn put_first_line(alloc: Global, script: &Script, out: &mut String) -> Resul
     put_line(alloc, script.table(), stamp, statement, out)
 }
 
-/// The same of the text of a script.
+/// Puts the line of a statement, with this number as its stamp where the table has a timestamp's entry.
+pub fn put_stamped_line(
+    alloc: Global,
+    table: &Table,
+    number: u64,
+    statement: &Statement,
+    out: &mut String,
+) -> Result<(), Fail> {
+    let stamp = one(alloc, Value::Uint(u128::from(number)))?;
+    put_line(alloc, table, stamp, statement, out)
+}
+
+/// Puts the line of the first statement of a script's text.
 pub fn put_line_in(alloc: Global, text: &str, out: &mut String) -> Result<(), Fail> {
     let script = script_of(alloc, text)?;
     put_first_line(alloc, &script, out)

@@ -5,16 +5,17 @@ use crate::hints::{first_pieces, push_value};
 use crate::rows;
 use crate::shared::{put_visible, script_of};
 use defmt_grammar::{Base, Hint, Kind, Param, Piece, Text};
-use defmt_hints::show_uint;
-use defmt_put::{half_of, put_bool, put_bytes, put_char, put_int, put_str, put_uint};
+use defmt_hints::{
+    put_bool, put_bytes, put_char, put_int, put_str, put_uint, put_wide_uint, show_uint,
+};
 use defmt_script::Script;
-use defmt_values::Value;
+use defmt_values::{Value, is_signed, size_bits};
 use std::alloc::Global;
 use std::fmt::Write;
 use std::test::Fail;
 use test_rows::{PLACE, each_line, put_told, room_of, told_of};
 
-// A format string with a value, whether it is placed by defmt_put or left to defmt_hints, and its text by both.
+// A format string with a value, what becomes of it in a room, and its text.
 const NUMBERS: &str = "\
 {=u8}, 0 = placed 0
 {=u8}, 9 = placed 9
@@ -61,10 +62,10 @@ const NUMBERS: &str = "\
 {=i16:#010b}, -1 = placed 0b1111111111111111
 {=isize:X}, -1 = placed FFFFFFFF
 {=i64:o}, -2 = placed 1777777777777777777776
-{=i128}, 1 = left 1
-{=i128:x}, -1 = left ffffffffffffffffffffffffffffffff
+{=i128}, 1 = placed 1
+{=i128:x}, -1 = placed ffffffffffffffffffffffffffffffff
 {=u128}, 18446744073709551615 = placed 18446744073709551615
-{=u128}, 18446744073709551616 = left 18446744073709551616";
+{=u128}, 18446744073709551616 = placed 18446744073709551616";
 
 const TEXTS: &str = r#"{=bool}, true = placed true
 {=bool:x}, false = placed false
@@ -73,19 +74,19 @@ const TEXTS: &str = r#"{=bool}, true = placed true
 {=char:a}, '€' = placed €
 {=char:us}, '𝄞' = placed 𝄞
 {=char}, '\n' = placed <0a>
-{=char:?}, 'a' = left 'a'
-{=char:?}, '\'' = left '\''
+{=char:?}, 'a' = placed 'a'
+{=char:?}, '\'' = placed '\''
 {=str}, "" = placed
 {=str}, "aä€𝄞" = placed aä€𝄞
 {=str:x}, "a\"b\n" = placed a"b<0a>
 {=str:?}, "" = placed ""
 {=str:?}, "aä€𝄞" = placed "aä€𝄞"
 {=str:?}, "it's \u{0}\u{7f}" = placed "it's <00><7f>"
-{=str:?}, "a\"b" = left "a\"b"
-{=str:?}, "a\\b" = left "a\\b"
-{=str:?}, "a\n" = left "a\n"
-{=str:?}, "\r" = left "\r"
-{=str:?}, "\tb" = left "\tb"
+{=str:?}, "a\"b" = placed "a\"b"
+{=str:?}, "a\\b" = placed "a\\b"
+{=str:?}, "a\n" = placed "a\n"
+{=str:?}, "\r" = placed "\r"
+{=str:?}, "\tb" = placed "\tb"
 {=[u8]}, # = placed []
 {=[u8]}, #07 = placed [7]
 {=[u8]:?}, #0aff = placed [10, 255]
@@ -94,8 +95,8 @@ const TEXTS: &str = r#"{=bool}, true = placed true
 {=[u8]:02x}, #0aff = placed [0a, ff]
 {=[u8]:#X}, #0aff = placed [0xA, 0xFF]
 {=[u8]}, #000102030405060708090a0b0c0d0e0f = placed [0, 1, 2, 3, 4, 5, 6, 7, 8, 9, 10, 11, 12, 13, 14, 15]
-{=[u8]:a}, # = left b""
-{=[u8]:a}, #410a2280 = left b"A\n\"\x80""#;
+{=[u8]:a}, # = placed b""
+{=[u8]:a}, #410a2280 = placed b"A\n\"\x80""#;
 
 // A base, with `#` in front of one that has its prefix, and a number: at how many widths it is placed as it is appended.
 const WIDTHS: &str = "\
@@ -109,45 +110,24 @@ b 18446744073709551615 = 256
 o 8 = 256
 #o 18446744073709551615 = 256";
 
-fn put_number(out: &mut [u8], at: usize, number: u128, hint: Hint) -> Option<usize>
-    requires { at ≤ length out.old }
-{
-    if number > u128::from(u64::MAX) {
-        return None;
-    }
-    put_uint(out, at, number as u64, hint)
-}
-
-// The two's complement of a number, where this many numbers are below zero.
-fn complement(number: i128, half: u64) -> u128 {
-    let magnitude = number.unsigned_abs();
-    if number < 0 {
-        (2 * u128::from(half)).saturating_sub(magnitude)
-    } else {
-        magnitude
-    }
-}
-
 fn put_signed(out: &mut [u8], at: usize, number: i128, param: &Param) -> Option<usize>
     requires { at ≤ length out.old }
 {
     let Kind::Int(size) = param.kind else {
         return None;
     };
-    let half = half_of(size)?;
-    let number = complement(number, half);
-    if number > u128::from(u64::MAX) || number >= 2 * u128::from(half) {
+    if !is_signed(number, size_bits(size)) {
         return None;
     }
-    put_int(out, at, number as u64, half, param.hint)
+    put_int(out, at, number, size, param.hint)
 }
 
-// Writes a value at a place, as defmt_put does.
+// Writes a value at a place, as `put` calls do.
 fn put_value(out: &mut [u8], at: usize, value: &Value, param: &Param) -> Option<usize>
     requires { at ≤ length out.old }
 {
     match value {
-        Value::Uint(number) => put_number(out, at, *number, param.hint),
+        Value::Uint(number) => put_wide_uint(out, at, *number, param.hint),
         Value::Int(number) => put_signed(out, at, *number, param),
         Value::Bool(flag) => put_bool(out, at, *flag),
         Value::Char(character) => put_char(out, at, *character, param.hint),

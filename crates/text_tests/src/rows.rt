@@ -1,6 +1,6 @@
 //! The rows of the tests, by what is asked of their inputs.
 use crate::eager::{put_length_for, put_line_in};
-use crate::flat::{put_flat_in, put_flat_shown};
+use crate::flat::{put_flat_in, put_flat_shown, put_flat_wide};
 use crate::grammar::{put_pieces_text, put_slots, put_spelling, put_uses};
 use crate::hints::put_filled;
 use crate::intern::{put_answers, put_count_of_variants, put_parsed};
@@ -35,6 +35,7 @@ pub enum Kind {
     Widths,
     FlatIn,
     FlatShown,
+    FlatWide,
 }
 
 impl Question for Kind {
@@ -60,6 +61,7 @@ impl Question for Kind {
             Self::Widths => put_widths(alloc, input, out),
             Self::FlatIn => put_flat_in(alloc, input, out),
             Self::FlatShown => put_flat_shown(alloc, input, out),
+            Self::FlatWide => put_flat_wide(alloc, input, out),
         }
     }
 }

@@ -76,7 +76,7 @@ fn told_in(
     }
     let end = match planned.message(bytes, &mut room, PLACE) {
         None => None,
-        Some(told) if told.index == due.index && told.place == due.place => Some(told.end),
+        Some((origin, end)) if origin.index == due.index && origin.place == due.place => Some(end),
         Some(_) => return Ok("another message"),
     };
     Ok(told_of(&room, end, due.line.as_str()))
@@ -119,7 +119,7 @@ fn put_refused(
         return Err(Fail::new("no place"));
     }
     let told = planned.message(bytes, &mut room, PLACE);
-    let end = told.map(|told| told.end);
+    let end = told.map(|told| told.1);
     put_str(out, told_of(&room, end, ""))?;
     out.push(' ')?;
     Ok(())

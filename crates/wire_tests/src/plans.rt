@@ -37,12 +37,12 @@ const SENT: &str = r#"hello {{}} = placed 1: INFO  hello {}
 {=i64:x} {=i32:#X} {=i16:#010b} {=i8:o}, -1 -1 -1 -1 = placed 1: INFO  ffffffffffffffff 0xFFFFFFFF 0b1111111111111111 377
 {=i128}, 7 = left 1: INFO  7
 {=bool} {=bool:x} {=char} {=char:x}, true false 'ä' '𝄞' = placed 1: INFO  true false ä 𝄞
-{=char:?}, 'a' = left 1: INFO  'a'
+{=char:?}, 'a' = placed 1: INFO  'a'
 {=str} {=str:x} {=str:?}, "aä€𝄞" "" "aä€𝄞" = placed 1: INFO  aä€𝄞  "aä€𝄞"
-{=str:?}, "a\"b" = left 1: INFO  "a\"b"
+{=str:?}, "a\"b" = placed 1: INFO  "a\"b"
 {=istr}, @word = left 1: INFO  {word|
 {=[u8]} {=[u8]:02x} {=[u8; 2]:#X}, # #0aff #0aff = placed 1: INFO  [] [0a, ff] [0xA, 0xFF]
-{=[u8]:a}, #410a = left 1: INFO  b"A\n"
+{=[u8]:a}, #410a = placed 1: INFO  b"A\n"
 {0=u8} {1=u8}, 1 2 = placed 1: INFO  1 2
 {1=u8} {0=u8}, 1 2 = left 1: INFO  2 1
 {0=u8} {0=u8:x}, 255 = left 1: INFO  255 ff
@@ -57,16 +57,16 @@ const SENT: &str = r#"hello {{}} = placed 1: INFO  hello {}
 {=?} {=?}, opt:0() opt:1(k(7)) = placed 1: INFO  None Some(k7)
 {=?} {=[?]}, f(0xa5) f[(0x5a) (0xff)] = placed 1: INFO  5/a [10/5, 15/f]
 {=?}, two(k(1) z()) = left 1: INFO  zk1
-{=?}, c('a') = left 1: INFO  'a'
+{=?}, c('a') = placed 1: INFO  'a'
 {=?}, n(n(n(k(7)))) = placed 1: INFO  <<<k7>>>
 {=?}, n(n(n(n(n(n(n(n(n(n(n(n(n(n(n(k(7)))))))))))))))) = placed 1: INFO  <<<<<<<<<<<<<<<k7>>>>>>>>>>>>>>>
-{=?}, n(n(n(n(n(n(n(n(n(n(n(n(n(n(n(c('a')))))))))))))))) = left 1: INFO  <<<<<<<<<<<<<<<'a'>>>>>>>>>>>>>>>
+{=?}, n(n(n(n(n(n(n(n(n(n(n(n(n(n(n(c('a')))))))))))))))) = placed 1: INFO  <<<<<<<<<<<<<<<'a'>>>>>>>>>>>>>>>
 {=[?]} {=[?; 0]}, [] [] = placed 1: INFO  [] []
 {=[?]:x} {=[?; 1]}, k[(255)] z[()] = placed 1: INFO  [kff] [z]
 {=[?; 3]}, opt[0() 1(k(10)) 1(opt:0())] = placed 1: INFO  [None, Some(k10), Some(None)]
 {=[?]}, k[(0) (1) (2) (3) (4) (5) (6) (7) (8) (9) (10) (11) (12) (13) (14) (15)] = placed 1: INFO  [k0, k1, k2, k3, k4, k5, k6, k7, k8, k9, k10, k11, k12, k13, k14, k15]
 {=[?]}, two[(k(1) z())] = left 1: INFO  [zk1]
-{=[?]}, c[('a')] = left 1: INFO  ['a']"#;
+{=[?]}, c[('a')] = placed 1: INFO  ['a']"#;
 
 // The strings of a script, messages, and what becomes of each. Behind a stamp a bare line needs room for the stamp's text too.
 const READ: &str = "\

@@ -6,4 +6,4 @@ abbrev pub ghosts-serve_alone-E-Names : goal.ghosts-serve_alone-E-Names
 ghosts-serve_alone-E-Names g a = record { names = names_of a.blanks }
 
 abbrev pub ghosts-serve_alone-K-Naming : goal.ghosts-serve_alone-K-Naming
-ghosts-serve_alone-K-Naming g a = record { script = a.script; split = (up_of a.up).split }
+ghosts-serve_alone-K-Naming g a = record { script = a.script; split = (up_of a.up).split; tells = (up_of a.up).tells }

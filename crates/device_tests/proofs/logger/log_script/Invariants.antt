@@ -6,4 +6,4 @@ abbrev pub ghosts-log_by_pens-E-Names : goal.ghosts-log_by_pens-E-Names
 ghosts-log_by_pens-E-Names g a = record { names = names_of a.blanks }
 
 abbrev pub ghosts-log_by_pens-K-Naming : goal.ghosts-log_by_pens-K-Naming
-ghosts-log_by_pens-K-Naming g a = record { script = a.script; split = (up_of a.ring).split }
+ghosts-log_by_pens-K-Naming g a = record { script = a.script; split = (up_of a.ring).split; tells = (up_of a.ring).tells }

@@ -7,4 +7,4 @@ abbrev pub ghosts-steer_by_helms-E-Names : goal.ghosts-steer_by_helms-E-Names
 ghosts-steer_by_helms-E-Names g a = record { names = names_of a.blanks }
 
 abbrev pub ghosts-steer_by_helms-K-Naming : goal.ghosts-steer_by_helms-K-Naming
-ghosts-steer_by_helms-K-Naming g a = record { script = a.script; up = (up_of a.ring).split; down = (down_of a.down).split }
+ghosts-steer_by_helms-K-Naming g a = record { script = a.script; up = (up_of a.ring).split; down = (down_of a.down).split; tells = (up_of a.ring).tells }
