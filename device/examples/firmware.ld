@@ -15,11 +15,5 @@ SECTIONS
     data_from = LOADADDR(.data);
     .bss (NOLOAD) : { . = ALIGN(4); bss_start = .; *(.bss .bss.* COMMON) . = ALIGN(4); bss_end = .; } > ram
 
-    /* The format strings: a byte each from address 1 on, so that a string's address is its index. The section is in the
-       ELF file alone and takes no memory of the device. */
-    .defmt 0 (INFO) : { . = 1; KEEP(*(.defmt .defmt.*)) }
-
-    /* What a host asks for before it reads a table. The profile is named by the header. */
-    "_defmt_version_ = 4" = 1;
-    "_defmt_encoding_ = rzcobs" = 1;
+    INCLUDE defmtl.ld
 }
