@@ -1,22 +1,22 @@
 #!/usr/bin/env python3
-"""Lists the edits of must-fail/ as a table: which function each turns, and what is wrong then.
+"""Lists the edits of must-fail/, a table for each crate: which function each turns, and what is wrong then.
 
-    bench/edits.py            prints the table
-    bench/edits.py --docs     puts it into docs/PROOFS.md; the words of an edit are those that stand there, or else its first comment
+    bench/edits.py            prints the tables
+    bench/edits.py --docs     writes them to docs/generated/edits.md; the words of an edit are its first comment, or else those that stand there
     bench/edits.py --check    tells which edits have no row, which rows no edit, which have no words, and which change no text; the status is then 1
 
-An edit may begin with a comment, a line '# WORDS', which counts before the words of the table.
+An edit may begin with a comment, a line '# WORDS', which counts before the words of the page.
 """
 
 import os
 import re
 import sys
 
-from gate import TOP, crates, edits_of, put_into_docs
+from gate import TOP, crates, edits_of, page, put_into_docs
 
 HEAD = re.compile(r"^\s*(?:pub(?:\([^)]*\))? )?(?:const )?(?:unsafe )?fn (\w+)")
 OWNER = re.compile(r"^(?:pub(?:\([^)]*\))? )?(?:unsafe )?(?:impl\b(?:<(?:[^<>]|<[^<>]*>)*>)?|trait) (?:(?:\w+::)*\w+(?:<.*?>)? for )?&?(?:\w+::)*(\w+)")
-ROW = re.compile(r"^\| (\w+) \| `(\w+)` \| .*? \| (.*) \|$")
+ROW = re.compile(r"^\| `(\w+)` \| .*? \| (.*) \|$")
 
 
 def function_at(text, place):
@@ -72,21 +72,31 @@ def turns(crate, name):
 
 
 def told():
-    """The words of each edit's row in docs/PROOFS.md."""
-    with open(f"{TOP}/docs/PROOFS.md", encoding="utf-8") as it:
-        text = it.read().partition("<!-- edits -->\n")[2].partition("<!-- /edits -->\n")[0]
-    return {(row[1], row[2]): row[3] for row in map(ROW.match, text.split("\n")) if row}
+    """The words of each edit's row in docs/generated/edits.md, by crate and name."""
+    words, crate = {}, ""
+    if os.path.isfile(page("edits")):
+        with open(page("edits"), encoding="utf-8") as it:
+            for line in it.read().split("\n"):
+                if line.startswith("## "):
+                    crate = line[3:]
+                elif row := ROW.match(line):
+                    words[crate, row[1]] = row[2]
+    return words
 
 
-def table(words):
-    lines, count = ["| Crate | Edit | Turns | The wrong body |", "|---|---|---|---|"], 0
+def tables(words):
+    lines, count = [], 0
     for crate in crates():
-        for name in edits_of(crate):
+        names = edits_of(crate)
+        if names:
+            lines += [f"## {crate}", "", "| Edit | Turns | The wrong body |", "|---|---|---|"]
+        for name in names:
             file, place, comment = read(crate, name)
             turns = f"`{place}`, {file}" if place else file
-            lines.append(f"| {crate} | `{name}` | {turns} | {comment or words.get((crate, name), '')} |")
-            count += 1
-    return "\n".join([*lines, "", f"{count} edits in all."]) + "\n"
+            lines.append(f"| `{name}` | {turns} | {comment or words.get((crate, name), '')} |")
+        count += len(names)
+        lines += [""] if names else []
+    return "\n".join([f"{count} edits in all.", "", *lines]).rstrip() + "\n"
 
 
 def check(words):
@@ -101,8 +111,8 @@ def check(words):
 
 if __name__ == "__main__":
     if sys.argv[1:] == ["--docs"]:
-        put_into_docs(table(told()), "edits")
+        put_into_docs(tables(told()), "edits")
     elif sys.argv[1:] == ["--check"]:
         sys.exit(check(told()))
     else:
-        print(table(told()), end="")
+        print(tables(told()), end="")

@@ -5,9 +5,9 @@
                                                                      of a kit whose `rt ci` has no --anew, give `-- rt ci`, which is always from nothing
     bench/gate.py [--into FILE] [--edits] --watch PID                watches an `rt ci` of this checkout that runs already
 
-The table goes to FILE, or else behind what the command writes, and with --edits the seconds of each edit behind it. --docs puts the table into
-docs/PROOFS.md where the command passed, and draws docs/gate.svg anew. With --docs or --reference it runs `rt selftest` before and behind the command and tells its processor
-seconds: the same work wherever the kit is, so two runs on machines with other work can be compared.
+The table goes to FILE, or else behind what the command writes, and with --edits the seconds of each edit behind it. --docs writes it to
+docs/generated/gate.md where the command passed, and draws docs/gate.svg anew. With --docs or --reference it runs `rt selftest` before and behind
+the command and tells its processor seconds: the same work wherever the kit is, so two runs on machines with other work can be compared.
 
 It looks at the processes of the run twice a second, and takes each for what its words say. What a process used behind the last look at it is
 in its parent's sum of ended children, and is shared evenly among those that ended since the look before. A watched run is told from the
@@ -281,16 +281,23 @@ def run(command):
     return status, last[0], watch
 
 
+# The pages of docs/generated: the title of each, and by what it is made.
+PAGES = {
+    "edits": ("Wrong bodies, crate by crate", "bench/edits.py --docs"),
+    "rows": ("The rows of tests, crate by crate", "bench/rows.py --docs"),
+    "gate": ("The gate's times, crate by crate", "bench/gate.py --docs"),
+}
+
+
+def page(name):
+    return f"{TOP}/docs/generated/{name}.md"
+
+
 def put_into_docs(text, name):
-    """Puts a text between the two lines of docs/PROOFS.md that have this name."""
-    path, begin, end = f"{TOP}/docs/PROOFS.md", f"<!-- {name} -->\n", f"<!-- /{name} -->\n"
-    with open(path, encoding="utf-8") as it:
-        front, first, rest = it.read().partition(begin)
-    _, second, behind = rest.partition(end)
-    if not first or not second:
-        raise SystemExit(f"{path} has no lines {begin.strip()} and {end.strip()}")
-    with open(path, "w", encoding="utf-8") as it:
-        it.write(front + begin + text + end + behind)
+    """Writes a page of docs/generated."""
+    title, command = PAGES[name]
+    with open(page(name), "w", encoding="utf-8") as it:
+        it.write(f"# {title}\n\nMade by `{command}`.\n\n{text}")
 
 
 def main():
@@ -303,7 +310,7 @@ def main():
     parser.add_argument("command", nargs="*", default=GATE)
     asked = parser.parse_args()
     if asked.docs and (asked.watch or asked.command not in (GATE, OLDER_GATE)):
-        parser.error("only the whole gate from its begin goes into the documents")
+        parser.error("only the whole gate from its begin goes into the pages")
     if asked.reference and asked.watch:
         parser.error("a run that is watched has no reference")
     compared = asked.reference or asked.docs

@@ -2,7 +2,7 @@
 """Counts the rows of tests of each crate that has tests, as a table.
 
     bench/rows.py [CHECKOUT]    of this checkout, or of another
-    bench/rows.py --docs        of this one, into docs/PROOFS.md
+    bench/rows.py --docs        of this one, into docs/generated/rows.md
 
 A row is one thing that a test asks: a line or a block of the text that a test gives to `each_line` or `each_block`, with their number
 behind it; else an assertion or a call of `expect`, once for each entry of the tables of constants that it stands in a loop over, and once

@@ -24,10 +24,10 @@ sys.dont_write_bytecode = True
 
 # The stages in their order, each with the crates whose functions count for it. Functions of the C library and of no crate are told by their names.
 STAGES = {
-    "reading the script": "defmt_shapes defmt_quick defmt_spelling defmt_lines defmt_script",
+    "reading the script": "defmt_shapes defmt_spelling defmt_lines defmt_script",
     "frames and codes": "defmt_framing rzcobs_core defmt_frames defmt_macros",
     "messages and plans": "defmt_encode defmt_plan",
-    "texts of values": "defmt_grammar defmt_hints defmt_put defmt_eager defmt_flat",
+    "texts of values": "defmt_grammar defmt_hints defmt_eager",
     "tables": "defmt_intern defmt_values defmt_hooks",
     "events and lines": "defmt_decode defmt_listen defmt_recording defmt_print defmt_run defmt_cli std_outside dl_io",
     "threads and rings": "defmt_logger defmt_writers defmt_talk defmt_steer writer_threads talk_threads shared_work rtt_ring rtt_modes",

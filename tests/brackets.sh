@@ -6,12 +6,8 @@
 # Each is refused as its first fault says: inner number 1 where the text spells no value, and 6 where it does and is too deep. The stack has 256
 # KiB. The last line is 'N passed, M failed'.
 
-[ $# -eq 1 ] || { echo "usage: tests/brackets.sh PROGRAM"; exit 2; }
-program=$1
-[ -x "$program" ] || { echo "there is no program $program"; exit 2; }
-work=$(mktemp -d) || exit 2
-trap 'rm -rf "$work"' EXIT
-passed=0 failed=0
+. "$(dirname "$0")/runner.sh"
+takes_program "$@"
 
 # many TEXT: a million times
 many() { yes "$1" | head -n 1000000 | tr -d '\n'; }
@@ -21,11 +17,7 @@ refused() {
     { printf '%s\n' 's n defmt_prim {=?}' 's l defmt_prim {=[?]}' 's value defmt_info {=?}' 's list defmt_info {=[?]}'; printf 'w 0 %s ' "$2"; cat; } > "$work/script"
     said=$( (ulimit -s 256; exec timeout 300 "$program" print < "$work/script") 2>&1)
     status=$?
-    if [ "$status" -eq 5 ] && [ "$said" = "script line 5 cause 4 inner $3" ]; then
-        passed=$((passed + 1)); echo "ok: $1"
-    else
-        failed=$((failed + 1)); echo "FAILED: $1: status $status, $said"
-    fi
+    is "$1" "$status $said" "5 script line 5 cause 4 inner $3"
 }
 
 refused 'round brackets alone' value 1 < <(many '(')
@@ -37,5 +29,4 @@ refused 'a quote within closed brackets' value 1 < <(many 'n('; printf '"'; many
 refused 'values that are closed' value 6 < <(many 'n('; many ')')
 refused 'lists that are closed' list 6 < <({ yes 'l[(' | head -n 800000; yes ')]' | head -n 800000; } | tr -d '\n')
 
-echo "$passed passed, $failed failed"
-[ "$failed" -eq 0 ] && [ "$passed" -gt 0 ]
+counts

@@ -1,12 +1,20 @@
 #!/usr/bin/env python3
-"""Checks that each contract which docs/PROOFS.md and README.md name is there, and that each wrong body has its edit.
+"""Checks the pages against the sources: each contract that one names is there, each wrong body has its edit, each link leads to something.
 
     tests/clauses.py [CHECKOUT]
 
-In the last column of a crate's table of promises each word in backticks has to be a function of the crates, a clause, a type, a definition, a
-file or a folder: a word of the crates' sources. A clause behind a function's name has to be one of a function that the cell names. The same is
-asked of the column of contracts in README.md. What is told of wrong bodies may also name edits of must-fail/. Each function that crates/README.md says
-to read first has to be in its file. The last line is 'N passed, M failed'.
+The pages are README.md, docs/*.md, docs/generated/*.md, device/README.md, crates/README.md and crates/NAME/README.md, of which each crate has one.
+Checked are
+
+- of crates/NAME/README.md and docs/PROOFS.md, the columns 'Where', 'Clause' and 'Clause that says so', the sections 'Wrong bodies', and the columns
+  'What refuses it' and 'Edit or test': each word in backticks has to be a function of the crates, a clause, a type, a definition, a file or a folder,
+  so a word of the crates' sources; where wrong bodies are told of, an edit of must-fail/ too. A function behind a type's name has to be one of that
+  type, a clause behind a function's name one of a function that the cell names, and a clause in the row of a call one of that call;
+- of crates/README.md, that each function to read first is in its file;
+- of all pages, that each link to a file leads to one, and to a heading where it names one, and that the pages that have a limit keep within it;
+- that docs/generated/edits.md has the words of each edit (bench/edits.py --check).
+
+The last line is 'N passed, M failed'.
 """
 
 import glob
@@ -21,6 +29,23 @@ OWNER = re.compile(r"(?:pub(?:\([^)]*\))? )?(?:unsafe )?(impl|trait)\b(?:<(?:[^<
 FUNCTION = re.compile(r"\s*(?:pub(?:\([^)]*\))? )?(?:const )?(?:unsafe )?(?:ghost )?fn (\w+)")
 CLAUSE = re.compile(r"\s*(?:ensures|requires) (\w+) \{")
 WORDS = re.compile(r"\w+")
+NAMED = re.compile(r"`([^`]+)`")
+# The columns that name contracts, and those that name edits too.
+CONTRACTS, EDITS = ("Where", "Clause", "Clause that says so", "Where in `Answers`"), ("What refuses it", "Edit or test")
+# The most lines of a page, and the most characters of a line.
+LIMITS = {"README.md": (120, 160), "docs/PROOFS.md": (400, None), "defmtl": (80, None)}
+
+passed = failed = 0
+
+
+def check(place, wrong):
+    """Counts one thing that was checked, and tells what is wrong with it."""
+    global passed, failed
+    if wrong:
+        failed += 1
+        print(f"FAILED: {place}: {'; '.join(wrong)}")
+    else:
+        passed += 1
 
 
 def read(path):
@@ -28,11 +53,15 @@ def read(path):
         return it.read()
 
 
+def crates():
+    return [line.split(":")[0].split()[0] for line in read(f"{top}/crates.txt").split("\n") if line.partition("#")[0].strip()]
+
+
 def sources():
     """All words of the sources and their names, and the clauses of each function by its name, with and without its type or trait."""
     words, clauses = set(), {}
     for path in glob.glob(f"{top}/crates/*/*/**/*.*", recursive=True):
-        if not path.endswith((".rt", ".antt")):
+        if not path.endswith((".rt", ".antt")) or "/out/" in path:
             continue
         text = read(path)
         words.update(WORDS.findall(text))
@@ -56,75 +85,133 @@ def sources():
     return words, clauses
 
 
-def is_there(word, words):
-    """Whether a word in backticks is one of the sources, or names a file or folder."""
-    if re.fullmatch(r"[\w/.*-]+/[\w./*-]*|[\w-]+\.\w+", word):
-        return bool(glob.glob(f"{top}/{word}") or glob.glob(f"{top}/crates/*/{word}"))
-    return all(it in words for it in WORDS.findall(word))
+def missing(text, words):
+    """The words in backticks that are no words of the sources, and name no file or folder."""
+    for word in NAMED.findall(text):
+        if re.fullmatch(r"[\w/.*-]+/[\w./*-]*|[\w-]+\.\w+", word):
+            if glob.glob(f"{top}/{word}") or glob.glob(f"{top}/crates/*/{word}"):
+                continue
+        elif all(it in words for it in WORDS.findall(word)):
+            continue
+        yield f"there is no {word}"
 
 
-def bodies():
-    """The paragraphs and rows that tell of wrong bodies, each with its line."""
-    text, number, whole = read(f"{top}/docs/PROOFS.md"), 1, False
-    for part in text.split("\n\n"):
-        whole = part.startswith("### Of the whole") or whole and not part.startswith("#")
-        if part.startswith("**Wrong bodies.**"):
-            yield f"docs/PROOFS.md:{number}", part
-        elif whole and part.startswith("| "):
-            yield from ((f"docs/PROOFS.md:{number + at}", line) for at, line in enumerate(part.split("\n")))
-        number += part.count("\n") + 2
+def tables(text):
+    """The rows of a page's tables: the line, and the cells by their columns' heads."""
+    heads, lines = [], text.split("\n")
+    for number, line in enumerate(lines, 1):
+        if not line.startswith("|"):
+            heads = []
+            continue
+        cells = [it.strip() for it in line.strip().strip("|").split(" |")]
+        cells = [it.removeprefix("| ").strip() for it in cells]
+        if not heads:
+            heads = cells
+        elif not line.startswith("|---"):
+            yield number, dict(zip(heads, cells))
 
 
-def cells():
-    """The cells that name contracts, each with its document and line."""
-    crate = False
-    for number, line in enumerate(read(f"{top}/docs/PROOFS.md").split("\n"), 1):
-        if line.startswith("## "):
-            crate = os.path.isdir(f"{top}/crates/{line[3:]}") or line[3:] == "The test crates"
-        if crate and line.startswith("| ") and not line.startswith("| Promise |"):
-            yield f"docs/PROOFS.md:{number}", line.rstrip("| ").rpartition(" | ")[2]
-    for number, line in enumerate(read(f"{top}/README.md").split("\n"), 1):
-        if found := re.match(r"\| `(\w+)` \| (.*?) \| ", line):
-            if os.path.isdir(f"{top}/crates/{found[1]}"):
-                yield f"README.md:{number}", found[2]
+class Contracts:
+    """What the pages name, and the sources have."""
+
+    def __init__(self):
+        self.words, self.clauses = sources()
+        self.names = set().union(*self.clauses.values())
+        self.edits = {os.path.basename(it)[:-5] for it in glob.glob(f"{top}/crates/*/must-fail/*.edit")}
+
+    def cell(self, text):
+        """What is wrong with a cell: words that aren't there, and clauses that the function in front of them hasn't."""
+        wrong = list(missing(text, self.words))
+        wrong += [f"there is no {it}" for it in NAMED.findall(text) if re.fullmatch(r"\w+::[a-z]\w*", it) and it not in self.clauses]
+        # (a function, and then its clauses up to the next function or the end of a part)
+        for name, listed in re.findall(r"`((?:\w+::)?[a-z]\w*)`,? ((?:(?:, | and |, and )?`[a-z_0-9]+`)+)", text):
+            if self.clauses.get(name) and ("::" in name or name not in self.names) and not re.search(r"`, `.*` of ", listed):
+                each = NAMED.findall(listed)
+                # (a word that is a function's alone begins another function)
+                wrong += [f"{name} has no {it}" for it in each if it not in self.clauses[name] and (it in self.names or it not in self.clauses)]
+        return wrong
+
+    def of_call(self, call, text):
+        """Which clauses of a cell the calls of its row don't have."""
+        calls = [it for it in NAMED.findall(call) if it in self.clauses]
+        if not calls:
+            return []
+        theirs = set().union(*(self.clauses[it] for it in calls))
+        outside = re.sub(r"\([^()]*\)", "", text)
+        return [f"{calls[0]} has no {it}" for it in NAMED.findall(outside) if it in self.names and it not in theirs]
+
+    def check_tables(self, path):
+        for number, row in tables(read(f"{top}/{path}")):
+            for head, cell in row.items():
+                if head in CONTRACTS:
+                    wrong = self.cell(cell)
+                    if "Call" in row:
+                        wrong += [*missing(row["Call"], self.words), *self.of_call(row["Call"], cell)]
+                    check(f"{path}:{number}", wrong)
+                elif head in EDITS:
+                    check(f"{path}:{number}", list(missing(cell, self.words | self.edits)))
+
+    def check_bodies(self, path):
+        text = read(f"{top}/{path}")
+        if found := re.search(r"\n## Wrong bodies\n\n(.*?)(?=\n## |\Z)", text, re.S):
+            number = text[: found.start(1)].count("\n") + 1
+            check(f"{path}:{number}", list(missing(found[1], self.words | self.edits)))
 
 
-def read_first():
-    """The functions and traits that crates/README.md says to read first, each with its line and file."""
-    for number, line in enumerate(read(f"{top}/crates/README.md").split("\n"), 1):
+def check_read_first():
+    path = "crates/README.md"
+    for number, line in enumerate(read(f"{top}/{path}").split("\n"), 1):
         for names, file in re.findall(r"((?:`[\w:]+`(?:, )?)+) in \[[^]]*\]\(([^)]*)\)", line):
-            yield f"crates/README.md:{number}", file, [it.rpartition("::")[2] for it in re.findall(r"`([\w:]+)`", names)]
+            text = read(f"{top}/crates/{file}") if os.path.isfile(f"{top}/crates/{file}") else ""
+            names = [it.rpartition("::")[2] for it in NAMED.findall(names)]
+            check(f"{path}:{number}", [f"{file} has no {it}" for it in names if not re.search(rf"\b(?:fn|trait|struct|enum) {it}\b", text)])
+
+
+def anchors(path):
+    """The anchors of a page's headings."""
+    heads = re.findall(r"(?m)^#+ (.*)$", re.sub(r"(?ms)^```.*?^```", "", read(path)))
+    return {re.sub(r"[^\w\- ]", "", it.lower()).replace(" ", "-") for it in heads}
+
+
+def check_links(path):
+    for number, line in enumerate(read(f"{top}/{path}").split("\n"), 1):
+        for link in re.findall(r"\]\(([^)\s]+)\)", line):
+            file, _, anchor = link.partition("#")
+            if re.match(r"[a-z]+:", link):
+                continue
+            to = os.path.normpath(os.path.join(f"{top}/{path}", "..", file)) if file else f"{top}/{path}"
+            wrong = [] if os.path.exists(to) else [f"there is no {link}"]
+            if not wrong and anchor and os.path.isfile(to) and anchor not in anchors(to):
+                wrong = [f"{link} names no heading"]
+            check(f"{path}:{number}", wrong)
+
+
+def check_limits():
+    for path, (most_lines, most_characters) in LIMITS.items():
+        if not os.path.isfile(f"{top}/{path}"):
+            continue
+        lines = read(f"{top}/{path}").rstrip("\n").split("\n")
+        wrong = [f"{len(lines)} lines, where {most_lines} are the most"] if len(lines) > most_lines else []
+        if most_characters:
+            wrong += [f"line {at} has {len(it)} characters" for at, it in enumerate(lines, 1) if len(it) > most_characters]
+        check(path, wrong)
 
 
 def main():
-    words, clauses = sources()
-    named_clauses, passed, failed = set().union(*clauses.values()), 0, 0
-    for place, cell in cells():
-        missing = [it for it in re.findall(r"`([^`]+)`", cell) if not is_there(it, words)]
-        # (a function, and then its clauses up to the next function or the end of a part)
-        for name, listed in re.findall(r"`((?:\w+::)?[a-z]\w*)`,? ((?:(?:, | and |, and )?`[a-z_0-9]+`)+)", cell):
-            if clauses.get(name) and ("::" in name or name not in named_clauses) and not re.search(r"`, `.*` of ", listed):
-                each = re.findall(r"`(\w+)`", listed)
-                missing += [f"{name}, {it}" for it in each if it not in clauses[name] and it not in clauses]
-        if missing:
-            failed += 1
-            print(f"FAILED: {place}: there is no {'; no '.join(missing)}")
-        else:
-            passed += 1
-    for place, file, names in read_first():
-        text = read(f"{top}/crates/{file}") if os.path.isfile(f"{top}/crates/{file}") else ""
-        missing = [it for it in names if not re.search(rf"\b(?:fn|trait|struct|enum) {it}\b", text)]
-        passed, failed = passed + (not missing), failed + bool(missing)
-        print(f"FAILED: {place}: {file} has no {', no '.join(missing)}\n" if missing else "", end="")
-    words.update(os.path.basename(it)[:-5] for it in glob.glob(f"{top}/crates/*/must-fail/*.edit"))
-    for place, line in bodies():
-        missing = [it for it in re.findall(r"`([^`]+)`", line) if not is_there(it, words)]
-        passed, failed = passed + (not missing), failed + bool(missing)
-        print(f"FAILED: {place}: there is no {', no '.join(missing)}\n" if missing else "", end="")
+    contracts = Contracts()
+    pages = [f"crates/{it}/README.md" for it in crates()]
+    check("crates", [f"there is no {it}" for it in pages if not os.path.isfile(f"{top}/{it}")])
+    pages = [it for it in pages if os.path.isfile(f"{top}/{it}")]
+    for path in [*pages, "docs/PROOFS.md"]:
+        contracts.check_tables(path)
+        contracts.check_bodies(path)
+    check_read_first()
+    for path in [*pages, "README.md", "crates/README.md", "device/README.md", *sorted(os.path.relpath(it, top) for it in glob.glob(f"{top}/docs/**/*.md", recursive=True))]:
+        check_links(path)
+    check_limits()
     if top == TOP:
         edits = subprocess.run([sys.executable, f"{TOP}/bench/edits.py", "--check"], capture_output=True, text=True)
-        passed, failed = passed + (edits.returncode == 0), failed + (edits.returncode != 0)
-        print(edits.stdout if edits.returncode else "", end="")
+        check("docs/generated/edits.md", edits.stdout.strip().split("\n") if edits.returncode else [])
     print(f"{passed} passed, {failed} failed")
     return 1 if failed or not passed else 0
 

@@ -1,5 +1,5 @@
 #!/bin/bash
-# Checks that each contract which docs/PROOFS.md and README.md name is there, and that each wrong body has its edit: tests/clauses.py.
+# Checks that each contract which a page names is there, that each wrong body has its edit, and that links lead to something: tests/clauses.py.
 #
 #   tests/clauses.sh
 #

@@ -14,8 +14,7 @@
 # With the same seed each recording is the same. Where there is no python3 the script is skipped. The last line is 'N passed, M failed'.
 
 [ $# -ge 1 ] && [ $# -le 3 ] && [[ ${2-1} =~ ^[1-9][0-9]*$ ]] || { echo "usage: tests/damage.sh PROGRAM [TIMES [SEED]]"; exit 2; }
-program=$(realpath "$1") && [ -x "$program" ] || { echo "there is no program $1"; exit 2; }
-command -v python3 > /dev/null || { echo 'skipped: there is no python3'; echo '0 passed, 0 failed'; exit; }
-work=$(mktemp -d) || exit 2
-trap 'rm -rf "$work"' EXIT
+. "$(dirname "$0")/runner.sh"
+takes_program "$@"
+needs python3
 PYTHONDONTWRITEBYTECODE=1 python3 "$(dirname "$0")/damage.py" "$program" "$work" "${2:-10000}" "${3:-1}"

@@ -7,23 +7,18 @@
 # bytes; the table's file isn't there, is a folder, or has too long a name. So it is with each command that reads or writes. Then the order of two faults,
 # outputs to which nothing is to be written, and faults that can't be told. The last line is 'N passed, M failed'.
 
-[ $# -eq 1 ] || { echo "usage: tests/failing-calls.sh PROGRAM"; exit 2; }
-program=$(realpath "$1") && [ -x "$program" ] || { echo "there is no program $1"; exit 2; }
-work=$(mktemp -d) || exit 2
-trap 'rm -rf "$work"' EXIT
+. "$(dirname "$0")/runner.sh"
+takes_program "$@"
 cd "$work" || exit 2
-passed=0 failed=0
 
 # check WHAT STATUS SAID: the run that was made last ended with this status and said this
 check() {
-    if [ "$status" -eq "$2" ] && [ "$(cat said)" = "$3" ]; then passed=$((passed + 1)); else
-        failed=$((failed + 1)); echo "FAILED: $1: status $status, $(head -c 200 said)"
-    fi
+    is "$1" "$status $(head -c 200 said)" "$2 $3"
 }
 
 # wrote WHAT FILE: the run that was made last wrote just this
 wrote() {
-    if cmp -s written "$2"; then passed=$((passed + 1)); else failed=$((failed + 1)); echo "FAILED: $1: wrote $(stat -c %s written) bytes"; fi
+    if cmp -s written "$2"; then pass; else fail "$1: wrote $(stat -c %s written) bytes"; fi
 }
 
 defmtl() { timeout 60 "$program" "$@"; }
@@ -110,5 +105,4 @@ check 'a closed input, and a closed standard error' 3 ''
 defmtl run < script > /dev/full 2> /dev/full; status=$?
 check 'a full output, and a full standard error' 4 ''
 
-echo "$passed passed, $failed failed"
-[ "$failed" -eq 0 ] && [ "$passed" -gt 0 ]
+counts

@@ -7,32 +7,25 @@
 # '```console' is a piece of a session: a line '$ COMMAND' is a command for bash, and the lines up to the next command are
 # what it prints, on the standard output and the standard error together. A command whose status isn't 0 is followed by
 # '$ echo $?'. Each document has a folder of its own for its files, with the examples/ of the repository, where `defmtl`
-# and `./defmtl` are PROGRAM. The last line is 'N passed, M failed'.
+# and `./defmtl` are the command as PROGRAM is installed. The last line is 'N passed, M failed'.
 
-[ $# -ge 1 ] || { echo "usage: tests/guide.sh PROGRAM [DOCUMENT..]"; exit 2; }
-program=$(realpath "$1") && [ -x "$program" ] || { echo "there is no program $1"; exit 2; }
+. "$(dirname "$0")/runner.sh"
+takes_program "$@"
 shift
-top=$(realpath "$(dirname "$0")/..") || exit 2
 [ $# -ge 1 ] || set -- "$top/README.md" "$top"/docs/{USER-GUIDE,SCRIPT,FORMATS,EXPLAIN}.md
-work=$(mktemp -d) || exit 2
-trap 'rm -rf "$work"' EXIT
-passed=0 failed=0
 
-fail() {
-    failed=$((failed + 1))
-    echo "FAILED: $document:$place: $1"
-}
+wrong() { fail "$document:$place: $1"; }
 
 # What is due of the command that ran last is whole: compares it with what was printed.
 compare() {
     [ -n "$command" ] || return
     if ! cmp -s "$work/due" "$work/got"; then
-        fail "$command"
+        wrong "$command"
         diff "$work/due" "$work/got" | head -n 20
     elif [ "$status" != 0 ] && [ "$1" != '$ echo $?' ]; then
-        fail "$command: the status is $status"
+        wrong "$command: the status is $status"
     else
-        passed=$((passed + 1))
+        pass
     fi
     command=
 }
@@ -47,7 +40,7 @@ run() {
 read_document() {
     document=$1 number=0 block= command= status=0
     room=$work/room.${document##*/}
-    mkdir "$room" && ln -s "$program" "$room/defmtl" && ln -s "$top/examples" "$room/examples" || exit 2
+    mkdir "$room" && ln -s "$work/prefix/bin/defmtl" "$room/defmtl" && ln -s "$top/examples" "$room/examples" || exit 2
     PATH=$room:$start_path
     while IFS= read -r line; do
         number=$((number + 1))
@@ -67,10 +60,10 @@ read_document() {
         esac
     done < "$document"
     place=$number
-    [ -z "$block" ] || fail "the last block has no end"
+    [ -z "$block" ] || wrong "the last block has no end"
 }
 
+"$top/tools/install" "$program" "$work/prefix" || exit 2
 start_path=$PATH
 for each; do read_document "$each"; done
-echo "$passed passed, $failed failed"
-[ "$failed" -eq 0 ] && [ "$passed" -gt 0 ]
+counts

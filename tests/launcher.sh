@@ -1,27 +1,19 @@
 #!/bin/bash
-# Runs ./defmtl over a kit that proves nothing, and checks what it builds, when, what it tells and how it ends.
+# Runs ./defmtl and tools/build over a kit that proves nothing, and checks what they build, when, what they tell and how they end; and the installed
+# command.
 #
 #   tests/launcher.sh
 #
-# A folder has a copy of the launcher, a few crates and a kit of small scripts: its rt "proves" a crate by a short sleep, and "builds" a program
+# A folder has a copy of the launcher and its tools, a few crates and a kit of small scripts: its rt "proves" a crate by a short sleep, and "builds" a program
 # that is a script too, and tells which sources it was built of. The last line is 'N passed, M failed'.
 
 # A signal that is ignored here, as nohup has it, would stop no build.
 [ -n "$SIGNALS_STOP" ] || SIGNALS_STOP=1 exec env --default-signal bash "$0" "$@"
 
-top=$(realpath "$(dirname "$0")/..") || exit 2
-work=$(mktemp -d) || exit 2
-trap 'rm -rf "$work"' EXIT
+. "$(dirname "$0")/runner.sh"
 # (a folder of temporary files of its own, so that what others leave in theirs counts for nothing)
 mkdir "$work/temporary" && export TMPDIR=$work/temporary || exit 2
 unset DEFMTL_UNPROVED
-passed=0 failed=0
-
-pass() { passed=$((passed + 1)); }
-fail() { failed=$((failed + 1)); echo "FAILED: $*"; }
-is() { if [ "$2" = "$3" ]; then pass; else fail "$1: '$2' and not '$3'"; fi; }
-has() { if [[ $2 == *"$3"* ]]; then pass; else fail "$1: '$3' is not in '$2'"; fi; }
-lacks() { if [[ $2 != *"$3"* ]]; then pass; else fail "$1: '$3' is in '$2'"; fi; }
 
 # ---- the kit
 
@@ -81,6 +73,7 @@ prove() {
 }
 case $1 in
     doc) echo "$KIT/START-HERE.md" ;;
+    version) echo 'the kit' ;;
     lib) prove "${PWD##*/}" "$PWD/out/rlib/${PWD##*/}.rlib" ;;
     run)
         [ -f ../defmt_run/out/rlib/stamp ] || { echo 'error: defmt_run is not built'; exit 1; }
@@ -114,7 +107,7 @@ begin() {
     for it in calls provers proved events sleeps; do : > "$kit/$it"; done
     echo "$1" > "$kit/seconds"; echo 4 > "$kit/processors"; echo 16 > "$kit/memory"
     mkdir "$work/top" && cd "$work/top" || exit 2
-    cp "$top/defmtl" .
+    mkdir docs && cp -r "$top/defmtl" "$top/tools" . && cp "$top"/docs/{commands.txt,EXPLAIN.md,defmtl.1,defmtl.completion} docs || exit 2
     printf '%s\n' '# a comment' 'low:' 'left: low std' 'right: low' 'top: left right' 'defmt_run may_wait=9: top' 'defmt_cli: defmt_run' 'low_tests: low' 'aside: low' > crates.txt
     echo 'Handles allowed: none.' > HANDLES
     for it in low left right top defmt_run defmt_cli low_tests aside; do
@@ -129,11 +122,12 @@ call() {
     status=$?
     said=$(< "$work/said")
 }
-# (but for those that ask where the kit is)
-calls() { grep -vc '^$\| doc$' "$kit/calls"; }
+# (but for those that ask where the kit is, and which it is)
+calls() { grep -vc '^$\| doc$\| version$' "$kit/calls"; }
 proofs() { sort "$kit/proved" | tr '\n' ' '; }
 strays() {
     find . ! -type d ! -path './crates/*/src/*' ! -path './crates/defmt_cli/out/rlib/*/stamp' ! -name crates.txt ! -name HANDLES ! -name defmtl \
+        ! -path './docs/*' ! -path './tools/*' \
         ! -name 'defmt_cli*' ! -name launcher.lock
     find . -name rooms -o -name out ! -path './crates/defmt_cli/*'
     find "$TMPDIR" -mindepth 1 -maxdepth 1
@@ -160,7 +154,7 @@ is 'each crate is proved once, test crates and those aside are not' "$(proofs)" 
 has 'the program is the proved one' "$said" 'proved one'
 has 'how far a build is' "$said" 'crate 2 of 6 is done: '
 has 'how long it will take' "$said" 'About '
-has 'how long the first build takes' "$said" 'twelve to twenty-five minutes on four processors, twice that on two'
+has 'how long the first build takes' "$said" 'twelve to forty minutes on four processors, twice that on two'
 is 'a crate that stands alone has four jobs, and the program one' "$(grep -c '^low lib --jobs 4$\|^top lib --jobs 4$\|^defmt_cli run --jobs 1 ' "$kit/calls")" 3
 is 'two side by side share the processors' "$(grep '^left\|^right' "$kit/calls" | grep -o '[0-9]*$' | sort | tr '\n' ' ')" '2 2 '
 is 'each crate has one call' "$(calls)" 6
@@ -187,12 +181,33 @@ on_terminal() {
     script -qec "$line > $work/wrote < /dev/null" /dev/null > "$work/said" < /dev/null
     status=$? wrote=$(< "$work/wrote") said=$(tr -d '\r' < "$work/said")
 }
-mkdir docs && cp "$top"/docs/{EXPLAIN.md,defmtl.1,defmtl.completion} docs
-call --help
-is "the page and the program's own status" "$status" 2
-for name in decode dump run term steer record table print gen; do has "the page names $name" "$said" "defmtl $name"; done
-has 'and then stands what the program says' "$said" 'proved one'
-is 'the page is no output' "$wrote" ''
+for words in --help -h help; do
+    call "$words"
+    is "the page, by '$words'" "$status $said" '0 '
+    for name in decode dump run term steer record table print gen help; do has "the page names $name" "$wrote" "defmtl $name"; done
+done
+for name in decode dump run term steer record table print gen; do
+    call help "$name"
+    is "the page of $name" "$status $said" '0 '
+    has "what $name takes" "${wrote%%$'\n'*}" "defmtl $name"
+    is "the page of $name by --help" "$wrote" "$(./defmtl "$name" --help)"
+done
+call run --only warn -h
+is 'help behind other words' "$status $wrote" "0 $(./defmtl help run)"
+call help frob
+is 'no such command' "$status $wrote" '2 '
+has 'no such command: the line' "$said" 'there is no command frob'
+call
+is 'no words' "$status $wrote" '0 '
+has 'no words: the page, and what the program says' "$said" 'defmtl decode --table FILE'
+has 'no words: and then what the program says' "${said##*$'\n'}" 'proved one'
+call words -- --help
+is 'help behind the end of the options is a word' "$wrote" $'words\n--\n--help'
+for words in --version -V; do
+    call "$words"
+    is "the version, by $words" "$status $said" '0 '
+    has "the kit, by $words" "$wrote" 'proved by the kit'
+done
 if command -v script > /dev/null; then
     on_terminal end 5
     is 'on a terminal: the status' "$status" 5
@@ -201,24 +216,40 @@ if command -v script > /dev/null; then
     on_terminal words a 'b  c'
     is 'on a terminal: the words and the output' "$wrote" $'words\na\nb  c'
     on_terminal say 2 'words'
-    has 'wrong words' "$said" 'no command line is like this: ./defmtl --help shows all commands (docs/EXPLAIN.md)'
+    has 'wrong words' "$said" 'defmtl: there is no command `say` (docs/EXPLAIN.md)'
     on_terminal --help
-    lacks 'the page itself is not explained' "$said" 'no command line is like this'
+    lacks 'the page itself is not explained' "$said" 'there is no command'
     on_terminal say 7 'shelf'
     has 'a table that is not there' "$said" 'the file behind --table is not there'
     on_terminal say 5 'script line 3 cause 8 inner 0'
-    has 'a line of a script' "$said" 'cause 8, inner 0: `reader late` in blocking mode. (docs/EXPLAIN.md)'
+    has 'a line of a script' "$said" 'line 3: `reader late` in blocking mode. (docs/EXPLAIN.md)'
     on_terminal say 5 'script line 1 cause 18 inner 0'
-    has 'a mode that is not steered' "$said" "cause 18, inner 0: With \`steer\` alone: the script isn't in blocking mode"
+    has 'a mode that is not steered' "$said" "line 1: With \`steer\` alone: the script isn't in blocking mode"
     on_terminal say 5 'script line 3 cause 4 inner 3'
-    has 'arguments of a line' "$said" 'cause 4, inner 3: The value is of another kind.'
+    has 'arguments of a line' "$said" 'line 3: The value is of another kind.'
     on_terminal say 6 'table elf cause 6 place 0'
-    has 'a table' "$said" 'cause 6: There is no symbol table'
+    has 'a table' "$said" 'There is no symbol table'
     on_terminal say 6 'table name cause 5 symbol 2'
-    has "a symbol" "$said" 'cause 5: It is a second timestamp.'
+    has "a symbol" "$said" 'It is a second timestamp.'
+    on_terminal say 1 'memory'
+    has 'no memory' "$said" 'defmtl: the system refused memory'
+    on_terminal say 3 'source'
+    has 'an input that failed' "$said" 'defmtl: the standard input could not be read'
+    on_terminal say 4 'sink'
+    has 'an output that failed' "$said" 'defmtl: the standard output could not be written'
+    on_terminal say 8 'too long'
+    has 'an input that is too long' "$said" 'defmtl: an input has more bytes than are read'
+    on_terminal say 9 'events with faults 3'
+    has 'faults' "$said" 'defmtl: so many events are no lines'
     on_terminal say 10 'control cause 4 place 1'
-    has 'an image' "$said" 'cause 4: The offsets or the flags of descriptor P'
+    has 'an image' "$said" 'The offsets or the flags of descriptor P'
     is 'the status of a refusal' "$status" 10
+    script -qec './defmtl say 3 source < .' /dev/null > "$work/said" < /dev/null
+    has 'an input that is a folder' "$(tr -d '\r' < "$work/said")" 'defmtl: the standard input could not be read'
+    # of a script that is a file the line itself is looked at, from where the input began
+    printf 'a first line\nring 64\nring 65537\n' > "$work/script"
+    script -qec "exec < $work/script; read -r line; ./defmtl say 5 'script line 2 cause 6 inner 0'" /dev/null > "$work/said" < /dev/null
+    has 'the word of a line' "$(tr -d '\r' < "$work/said")" 'line 2: `65537` is no size'
     script -qec './defmtl say 3 source <&-' /dev/null > "$work/said" < /dev/null
     is 'on a terminal, with a closed input' "$? $(tr -d '\r' < "$work/said" | tail -n 1)" '3 source'
     script -qec './defmtl say 4 sink >&-' /dev/null > "$work/said" < /dev/null
@@ -228,7 +259,27 @@ if command -v script > /dev/null; then
 fi
 call --install "$work/prefix"
 is 'an installation' "$status $("$work/prefix/bin/defmtl" words a 2> /dev/null | tail -n 1)" '0 a'
-is 'its files' "$(cd "$work/prefix" && find . -type f | sort | tr '\n' ' ')" './bin/defmtl ./share/bash-completion/completions/defmtl ./share/man/man1/defmtl.1 '
+is 'its files' "$(cd "$work/prefix" && find . -type f | sort | tr '\n' ' ')" "./bin/defmtl ./lib/defmtl/defmtl ./lib/defmtl/defmtl.version $(
+    )./share/bash-completion/completions/defmtl ./share/defmtl/EXPLAIN.md ./share/defmtl/command.sh ./share/defmtl/commands.txt ./share/defmtl/explain $(
+    )./share/man/man1/defmtl.1 "
+installed() { wrote=$("$work/prefix/bin/defmtl" "$@" 2> "$work/said"); status=$?; said=$(< "$work/said"); }
+for words in --help 'help run' --version 'run --help'; do
+    installed $words
+    is "the installed command, by '$words'" "$status $said" '0 '
+    is "it says what the launcher says, by '$words'" "$wrote" "$(./defmtl $words)"
+done
+ln -s "$work/prefix/bin/defmtl" "$work/link"
+is 'the installed command by a link' "$("$work/link" words a 2> /dev/null | tail -n 1)" a
+(cd "$work/prefix/bin" && PATH=.:$PATH && is 'the installed command by a relative path' "$(defmtl words a 2> /dev/null | tail -n 1)" a; [ "$failed" -eq 0 ]) && pass
+installed end 9
+is "the installed command's status" "$status" 9
+(ulimit -f 0 && "$work/prefix/bin/defmtl" full > "$work/full" 2> /dev/null)
+is 'the installed command, whose output may grow no more' "$?" 4
+if command -v script > /dev/null; then
+    script -qec "$work/prefix/bin/defmtl say 6 'table elf cause 6 place 0'" /dev/null > "$work/said" < /dev/null
+    is 'the installed command on a terminal: the status' "$?" 6
+    has 'the installed command explains' "$(tr -d '\r' < "$work/said")" "There is no symbol table"
+fi
 call --install /proc/nowhere
 is 'a folder that cannot be written' "$status" 73
 call --install
@@ -245,7 +296,7 @@ is 'nothing was built for these' "$(calls)" 0
     _defmtl
     echo "${COMPREPLY[*]}"
 ) > "$work/said"
-is 'the completion' "$(< "$work/said")" '--table --base --up --old --only'
+is 'the completion' "$(< "$work/said")" '--table --base --up --old --only --help'
 (
     . docs/defmtl.completion
     COMP_WORDS=(defmtl st) COMP_CWORD=1
@@ -253,19 +304,34 @@ is 'the completion' "$(< "$work/said")" '--table --base --up --old --only'
     echo "${COMPREPLY[*]}"
 ) > "$work/said"
 is 'the completion of a command' "$(< "$work/said")" 'steer'
-rm -r docs
-begin 0.1
-for words in '' -h --help help -V --version 'help run' 'run --help' 'gen -h'; do
-    call $words
-    is "the page where nothing was built, by '$words'" "$status $(calls)" '2 0'
-    has "the page itself, by '$words'" "$said" 'defmtl decode --table FILE'
-    is "the answer behind it, by '$words'" "${said##*$'\n'}" 'words'
+completed() { (. docs/defmtl.completion; COMP_WORDS=("$@") COMP_CWORD=$(($# - 1)); _defmtl; echo "${COMPREPLY[*]}"); }
+is 'the completion of a first word' "$(completed defmtl --)" '--help --version'
+is "the completion of the launcher's first word" "$(completed ./defmtl --)" '--help --version --install'
+is 'the completion of help' "$(completed defmtl help d)" 'decode dump'
+is 'the completion of a floor' "$(completed defmtl run --only w)" 'warn'
+is 'the completion of the floor of a package' "$(completed defmtl run --only warn,motor = e)" 'error'
+for name in $(sed -n 's/^== //p' docs/commands.txt); do
+    [ "$name" = defmtl ] || has "the manual names $name" "$(< docs/defmtl.1)" "$name"
 done
+for option in $(grep -o -- '--[a-z]*' docs/commands.txt | sort -u); do has "the manual names $option" "$(sed 's/\\-/-/g' docs/defmtl.1)" "$option"; done
 begin 0.1
-mkdir docs && cp "$top"/docs/{EXPLAIN.md,defmtl.1,defmtl.completion} docs
+for words in --help -h help 'help run' 'run --help' 'gen -h'; do
+    call $words
+    is "the page where nothing was built, by '$words'" "$status $(calls) $said" '0 0 '
+    has "the page itself, by '$words'" "$wrote" 'defmtl '
+done
+call
+is 'no words where nothing was built' "$status $(calls)" '2 0'
+is 'and the answer behind the page' "${said##*$'\n'}" 'words'
+call --version
+is 'the version where nothing was built' "$status $(calls) $wrote" '0 0 defmtl, which is not built yet'
+begin 0.1
 call --install "$work/prefix"
 is 'an installation builds what is not built' "$status $(proofs)" "0 $all_crates"
-rm -r docs
+begin 0.1
+tools/build < /dev/null 2> "$work/said"
+is 'a build without words runs nothing' "$? $(tail -n 1 "$work/said") $(proofs)" "0 defmtl: built $all_crates"
+is 'one crate is as another' "$(grep -c 'is done' "$work/said")" 6
 
 # ---- what is proved when
 
@@ -284,7 +350,7 @@ for crate in left right; do
     long "$crate"
     call run < /dev/null
     is "the longest chain comes first, which is that of $crate" "$(sed -n 's/^begin //p' "$kit/events" | sed -n 2p)" "$crate"
-    is 'on one processor each crate has one job' "$(grep -v ' doc$' "$kit/calls" | grep -vc ' --jobs 1')" 0
+    is 'on one processor each crate has one job' "$(grep -v ' doc$\| version$' "$kit/calls" | grep -vc ' --jobs 1')" 0
     begin 0.1
     echo 3 > "$kit/processors"
     long "$crate"
@@ -295,7 +361,7 @@ done
 begin 0.1
 echo 2 > "$kit/memory"
 call run < /dev/null
-is 'with little memory each crate has one job' "$(grep -v ' doc$' "$kit/calls" | grep -vc ' --jobs 1')" 0
+is 'with little memory each crate has one job' "$(grep -v ' doc$\| version$' "$kit/calls" | grep -vc ' --jobs 1')" 0
 if grep -A 1 '^begin \(left\|right\)' "$kit/events" | tr '\n' ' ' | grep -q '^begin [a-z]* begin'; then fail "with little memory two crates are proved side by side: $(events)"; else pass; fi
 
 for end in 9 247; do
@@ -545,7 +611,7 @@ if as_nobody test -r defmtl; then
     wrote=$(echo hello | as_nobody ./defmtl run 2> "$work/said"); status=$?
     is 'a program that was built, in a folder that is read-only' "$status $wrote" '0 hello'
 else
-    echo 'skipped: a folder that is read-only, since there is no other user to be'
+    skip 'a folder that is read-only, since there is no other user to be'
 fi
 
 # ---- unproved calls
@@ -599,5 +665,4 @@ for signal in TERM KILL; do
     if until_true is_tidy; then pass; else fail "an unproved build that got $signal leaves $(strays)"; fi
 done
 
-echo "$passed passed, $failed failed"
-[ "$failed" -eq 0 ] && [ "$passed" -gt 0 ]
+counts

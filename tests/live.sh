@@ -6,12 +6,9 @@
 #
 # The server listens on 127.0.0.1 alone. It sends a part, and waits until the lines that are due have come: so a line that
 # comes late, or with the next part, is a failure. It needs python3. The last line is 'N passed, M failed'.
-set -u
-[ $# -eq 1 ] || { echo "usage: tests/live.sh PROGRAM"; exit 2; }
-program=$(realpath "$1") && [ -x "$program" ] || { echo "there is no program $1"; exit 2; }
-command -v python3 > /dev/null || { echo "skipped: no python3 on this machine"; echo "0 passed, 0 failed"; exit; }
-work=$(mktemp -d) || exit 2
-trap 'rm -rf "$work"' EXIT
+. "$(dirname "$0")/runner.sh"
+takes_program "$@"
+needs python3
 cd "$work" || exit 2
 printf 's hi defmt_info hello\ns speed defmt_warn speed {=u8:#04x}\nw 0 hi\nw 0 speed 10\nw 0 hi\n' > script
 "$program" table < script > table.elf || exit 2

@@ -5,16 +5,8 @@
 #
 # It needs gcc, GNU ld and readelf; clang, ld.lld, ld.gold and arm-none-eabi's tools are used where they
 # are installed. The last line is 'N passed, M failed'.
-set -u
-[ $# -eq 1 ] || { echo "usage: tests/real-elf.sh PROGRAM"; exit 2; }
-program=$(realpath "$1") && [ -x "$program" ] || { echo "there is no program $1"; exit 2; }
-work=$(mktemp -d) || exit 2
-trap 'rm -rf "$work"' EXIT
-passed=0 failed=0
-
-pass() { passed=$((passed + 1)); echo "ok: $1"; }
-fail() { failed=$((failed + 1)); echo "FAILED: $1"; }
-has() { command -v "$1" > /dev/null || { echo "skipped: no $1 on this machine ($2)"; return 1; }; }
+. "$(dirname "$0")/runner.sh"
+takes_program "$@"
 
 # entries FORM: the interned strings in no order of their levels, each as FORM TAG DATA NUMBER. '@' is
 # written as \u0040, since gold and LLD cut a symbol's name at it.
@@ -140,22 +132,22 @@ linked() {
 }
 
 "$program" decode --table "$0" < /dev/null > /dev/null 2>&1
-if [ $? -eq 6 ]; then knows=true; else knows=false; echo "skipped: $program doesn't know 'decode --table', so files are only linked"; fi
+if [ $? -eq 6 ]; then knows=true; else knows=false; skip "the reading of the files, since $program doesn't know 'decode --table'"; fi
 
 assembly_text > "$work/source.s"
 marked_text > "$work/marked.s"
 c_text > "$work/source.c"
-if has gcc 'an assembler' && has ld 'GNU ld' && has readelf 'readelf'; then
+if can 'files that GNU ld links' gcc ld readelf; then
   for form in 64:elf_x86_64 32:elf_i386; do
     gcc -c -m"${form%:*}" "$work/source.s" -o "$work/object.o" || { fail "gcc -m${form%:*}"; continue; }
     linked "GNU ld, ELF${form%:*}" ld -m "${form#*:}"
     type='(NOLOAD)' places=inside linked "GNU ld, .defmt without bits, ELF${form%:*}" ld -m "${form#*:}"
     type='' places=inside linked "GNU ld, .defmt without a type, ELF${form%:*}" ld -m "${form#*:}"
     places=inside linked "GNU ld, shared with .dynsym in front, ELF${form%:*}" ld -m "${form#*:}" -shared
-    has ld.gold "gold, ELF${form%:*}" && type='' linked "gold, ELF${form%:*}" ld.gold -m "${form#*:}"
-    has ld.lld "LLD, ELF${form%:*}" && linked "LLD, ELF${form%:*}" ld.lld -m "${form#*:}" -e _start
+    can "files that gold links, ELF${form%:*}" ld.gold && type='' linked "gold, ELF${form%:*}" ld.gold -m "${form#*:}"
+    can "files that LLD links, ELF${form%:*}" ld.lld && linked "LLD, ELF${form%:*}" ld.lld -m "${form#*:}" -e _start
     gcc -c -m"${form%:*}" "$work/marked.s" -o "$work/marked.o" && places=none object=marked linked "GNU ld, markers in the object, local and in quotes, ELF${form%:*}" ld -m "${form#*:}"
-    if has clang "clang, ELF${form%:*}"; then
+    if can "objects of clang, ELF${form%:*}" clang; then
       clang -c -fno-pic -fno-asynchronous-unwind-tables -m"${form%:*}" "$work/source.c" -o "$work/object.o" && linked "clang and GNU ld, ELF${form%:*}" ld -m "${form#*:}"
     fi
   done
@@ -168,9 +160,8 @@ if has gcc 'an assembler' && has ld 'GNU ld' && has readelf 'readelf'; then
     markers='"_defmt_version_ = 4" = 1; "_defmt_encoding_ = rzcobs"'
   fi
 fi
-if has arm-none-eabi-gcc 'ELF32 for Arm' && has arm-none-eabi-ld 'ELF32 for Arm'; then
+if can 'files that are linked for Arm' arm-none-eabi-gcc arm-none-eabi-ld; then
   arm-none-eabi-gcc -c "$work/source.s" -o "$work/object.o" && linked 'GNU ld for Arm' arm-none-eabi-ld
 fi
 
-echo "$passed passed, $failed failed"
-[ "$failed" -eq 0 ]
+counts

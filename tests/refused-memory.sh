@@ -13,11 +13,8 @@
 # Where the words themselves find no memory nothing is said; 'memory' is unsaid only where all allocations from one on are refused.
 # Where there is no C compiler, or the library can't be loaded, the script is skipped. The last line is 'N passed, M failed'.
 
-[ $# -eq 1 ] || { echo "usage: tests/refused-memory.sh PROGRAM"; exit 2; }
-program=$1
-[ -x "$program" ] || { echo "there is no program $program"; exit 2; }
-work=$(mktemp -d) || exit 2
-trap 'rm -rf "$work"' EXIT
+. "$(dirname "$0")/runner.sh"
+takes_program "$@"
 
 # The numbers of the first and the last refused allocation stand in the environment, and the number of all is written to the file descriptor 9.
 cat > "$work/refuse.c" <<'SOURCE'
@@ -74,16 +71,12 @@ int posix_memalign(void **place, size_t align, size_t size) {
 }
 SOURCE
 
-passed=0 failed=0
-
-skip() { echo "skipped: $1"; echo "$passed passed, $failed failed"; exit $((failed > 0)); }
-
 compiler=
 for name in gcc clang cc; do
     command -v "$name" > /dev/null && { compiler=$name; break; }
 done
-[ -n "$compiler" ] || skip 'there is no C compiler (gcc, clang or cc)'
-"$compiler" -shared -fPIC -O1 -o "$work/refuse.so" "$work/refuse.c" 2> "$work/errors" || { cat "$work/errors"; skip "$compiler doesn't compile the library"; }
+[ -n "$compiler" ] || needs gcc
+"$compiler" -shared -fPIC -O1 -o "$work/refuse.so" "$work/refuse.c" 2> "$work/errors" || { cat "$work/errors"; skip "all of it, since $compiler doesn't compile the library"; counts; }
 
 # run FROM TO WORD..: a run whose allocations FROM to TO are refused. Leaves its status, what it wrote and said, and how many allocations it asked for.
 run() {
@@ -118,21 +111,21 @@ refuse() {
     run 0 0 "$@"
     due=$written count=$asked
     if [ "$status" -ne "$own" ] || [ "$said" != "$words" ] || [ -z "$due" ]; then
-        failed=$((failed + 1)); echo "FAILED: $name: undisturbed it ends with status $status, $said"
+        fail "$name: undisturbed it ends with status $status, $said"
         return
     fi
-    [ -n "$count" ] || skip "the library isn't loaded into $program"
+    [ -n "$count" ] || { skip "all of it, since the library isn't loaded into $program"; counts; }
     for mode in one all; do
         number=0 row=0 refused=0
         until [ "$row" -ge 64 ] && [ "$number" -gt "$count" ]; do
             number=$((number + 1)) runs=$((runs + 1))
             if [ "$mode" = one ]; then run "$number" "$number" "$@"; else run "$number" 1000000000 "$@"; fi
-            if is_ordered "$own" "$words"; then passed=$((passed + 1)); else
+            if is_ordered "$own" "$words"; then pass; else
                 failed=$((failed + 1)) bad=$((bad + 1))
                 [ "$bad" -gt 5 ] || echo "FAILED: $name: allocation $number refused ($mode): status $status, said '${said%$'\n'}', wrote ${#written} letters"
             fi
             if [ "$status" -eq "$own" ]; then row=$((row + 1)); else row=0 refused=$((refused + 1)); fi
-            [ "$number" -lt 20000 ] || { echo "FAILED: $name: its own status doesn't come again"; failed=$((failed + 1)); break; }
+            [ "$number" -lt 20000 ] || { fail "$name: its own status doesn't come again"; break; }
         done
         [ "$mode" = one ] && ones=$refused || alls=$refused
     done
@@ -156,5 +149,4 @@ printf '%s\n' 's hi defmt_info hello' 'w 0 hi' > "$work/input"
 printf '\x7e\0\0\x01\x7e\0' > "$work/input"
 refuse 'decode, a front that is cut' 9 $'events with faults 1\n' decode --table "$work/table.elf"
 
-echo "$passed passed, $failed failed"
-[ "$failed" -eq 0 ] && [ "$passed" -gt 0 ]
+counts

@@ -22,11 +22,9 @@
 #              bytes and less room
 # No run takes more than five minutes, for which a machine has to be very busy. The last line is 'N passed, M failed'.
 
-[ $# -ge 1 ] || { echo "usage: tests/threads.sh PROGRAM [TIMES]"; exit 2; }
-program=$1 times=${2:-1000}
-[ -x "$program" ] || { echo "there is no program $program"; exit 2; }
-work=$(mktemp -d) || exit 2
-trap 'rm -rf "$work"' EXIT
+. "$(dirname "$0")/runner.sh"
+takes_program "$@"
+times=${2:-1000}
 
 # ---- the scripts; each text begins with its writer
 
@@ -215,7 +213,6 @@ run_all() {
     sort "$work/said" | uniq -c | head -n 5
 }
 
-passed=0 failed=0
 run_all device "$times" apart "$all_told"
 run_all pieces "$times" by_run "$all_told"
 run_all alone $(((times + 9) / 10)) by_run "$all_told" '-s 1000000' '-v 500000'
@@ -228,5 +225,4 @@ run_all steered "$times" by_steer "$all_steered"
 run_all roomy "$times" by_steer "$all_gapped"
 run_all unaided $(((times + 9) / 10)) by_steer "$all_steered" '-s 1000000' '-v 500000'
 run_all skipping "$times" by_run "$told_or_reported"
-echo "$passed passed, $failed failed"
-[ "$failed" -eq 0 ] && [ "$passed" -gt 0 ]
+counts
