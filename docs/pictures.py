@@ -3,8 +3,8 @@
 
     docs/pictures.py [NAME..]     of layers, graph, frame, waiting, term, steer and gate; without names all
 
-layers.svg and the graph in ARCHITECTURE.md are drawn of crates.txt. frame.svg shows bytes that tests/formats.py, a reading of FORMATS.md apart from the crates, makes of a message; gate.svg takes its seconds
-from the table of the gate in PROOFS.md. Each picture has a light ground of its own, so it can be read on a light page and on a dark one.
+layers.svg and the graph in ARCHITECTURE.md are drawn of crates.txt. frame.svg shows bytes that tests/formats.py, a reading of FORMATS.md apart
+from the crates, makes of a message; gate.svg takes its seconds from generated/gate.md. Each picture has a light ground of its own, so it can be read on a light page and on a dark one.
 """
 
 import html
@@ -267,8 +267,8 @@ def steer():
 
 
 def gate():
-    with open(f"{DOCS}/PROOFS.md", encoding="utf-8") as it:
-        text = it.read().partition("<!-- gate -->\n")[2].partition("<!-- /gate -->")[0]
+    with open(f"{DOCS}/generated/gate.md", encoding="utf-8") as it:
+        text = it.read()
     kinds, rows = ("proof", "tests", "before", "edits"), []
     for line in text.split("\n"):
         if found := re.match(r"\| (\w+) \|(.*)\|$", line):
