@@ -1,0 +1,6 @@
+pub mod Bounds
+pub mod Enough
+pub mod LimbLaws
+pub mod Places
+pub mod Products
+pub mod TextLaws

@@ -1,0 +1,4 @@
+pub mod Layout
+pub mod Leading
+pub mod Product
+pub mod Shortest

@@ -1,0 +1,87 @@
+//! What the long division divides by, as limbs of 64 bits, the lowest first.
+
+// 2 ^ 149 * 10 ^ 39
+pub(crate) static DENOMINATOR_32: [u64; 5] = [
+    0,
+    0,
+    0xd000000000000000,
+    0xd2712875988becaa,
+    0x00000000005e0a1f,
+];
+
+// The same over 10 ^ 18.
+pub(crate) static TENTHS_32: [u64; 5] = [0, 0, 0xb8bbd40000000000, 0x0000000006c6b935, 0];
+
+// 2 ^ 1074 * 10 ^ 309
+pub(crate) static DENOMINATOR_64: [u64; 33] = [
+    0,
+    0,
+    0,
+    0,
+    0,
+    0,
+    0,
+    0,
+    0,
+    0,
+    0,
+    0,
+    0,
+    0,
+    0,
+    0,
+    0,
+    0,
+    0,
+    0,
+    0,
+    0xd3883a8000000000,
+    0xe6d1a35b6118cec6,
+    0x12dd3b6377fe3615,
+    0x133ba8c4a2e3fe87,
+    0x4b4b0d346c0484de,
+    0x81569636cb7da9ff,
+    0x611a947f2841e372,
+    0xa6d3062e8dd6981c,
+    0xd51412a7e2ac57a3,
+    0x7b4df74a449f10ec,
+    0xee659a598caa3ca2,
+    0x001640306766bac7,
+];
+
+// The same over 10 ^ 18.
+pub(crate) static TENTHS_64: [u64; 33] = [
+    0,
+    0,
+    0,
+    0,
+    0,
+    0,
+    0,
+    0,
+    0,
+    0,
+    0,
+    0,
+    0,
+    0,
+    0,
+    0,
+    0,
+    0,
+    0,
+    0,
+    0,
+    0xa775c3afbfa00000,
+    0x52334e6d238bd768,
+    0x4883a18a4a0e7134,
+    0x698a6b60da18247d,
+    0x66ba00d772568c64,
+    0xef56decfb804c386,
+    0x9b2516c41e7260c9,
+    0x72ce48b272f8bac8,
+    0xd6edab7ae59b51b5,
+    0xde519c37a5cabe6b,
+    0x019a742461887f64,
+    0,
+];
