@@ -1,0 +1,4 @@
+pub mod AsciiLaws
+pub mod MonthLaws
+pub mod TextLaws
+pub mod YearLaws

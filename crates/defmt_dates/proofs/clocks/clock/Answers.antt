@@ -1,0 +1,6 @@
+use Rattle.std.proofs.Common.{◌∙◌}
+use Rattle.defmt_dates.proofs.TextLaws.{clock_is}
+use Rattle.defmt_dates.proofs.clocks.clock.Goals as goal
+
+pub returns-clause-text : goal.returns-clause-text
+returns-clause-text c = rw (c.whole_days-text.ensures.text, c.time_bytes.ensures, c.from.ensures) at c.put.ensures ∙ clock_is c.args.seconds

@@ -1,0 +1,57 @@
+//! Digits, and the text that they are put into.
+
+ghost use Rattle.std.specs.Prelude.{◌≡◌, ◌+◌, ◌%◌, ◌≤◌, ◌++◌, length, decimal};
+ghost use Rattle.defmt_dates.specs.Texts.{fraction};
+
+use arrayvec::ArrayVec;
+use itoa::Buffer;
+
+/// The text of a date or a clock, in ASCII. The longest has a day of 34 digits, 15 bytes of a time and a `:`.
+pub type TimeText = ArrayVec<u8, 50>;
+
+// Appends bytes.
+pub(crate) fn put(text: &mut TimeText, bytes: &[u8])
+    requires { length text.old.items + length bytes.now ≤ 50 }
+    ensures { text.new.items ≡ text.old.items ++ bytes.now }
+{
+    let _fits = text.try_extend_from_slice(bytes);
+}
+
+// Appends a number in decimal.
+pub(crate) fn put_decimal(text: &mut TimeText, number: u128)
+    requires { length text.old.items + length (decimal number) ≤ 50 }
+    ensures { text.new.items ≡ text.old.items ++ decimal number }
+{
+    let mut buffer = Buffer::new();
+    put(text, buffer.format(number).as_bytes());
+}
+
+// The last digit of a number.
+#[inline(always)]
+pub(crate) fn digit(number: u64) -> u8
+    ensures { result ≡ 48 + number % 10 }
+{
+    b'0' + (number % 10) as u8
+}
+
+// A point and three digits.
+pub(crate) fn thousandths(number: u64) -> [u8; 4]
+    ensures { result ≡ fraction 3 number }
+{
+    [b'.', digit(number / 100), digit(number / 10), digit(number)]
+}
+
+// A point and six digits.
+pub(crate) fn millionths(number: u64) -> [u8; 7]
+    ensures { result ≡ fraction 6 number }
+{
+    [
+        b'.',
+        digit(number / 100_000),
+        digit(number / 10_000),
+        digit(number / 1_000),
+        digit(number / 100),
+        digit(number / 10),
+        digit(number),
+    ]
+}
