@@ -1,6 +1,7 @@
 pub mod BodyLaws
 pub mod NameLaws
 pub mod PieceLaws
+mod FaultLaws
 pub mod Slots
 pub mod Stamps
 pub mod TableLaws

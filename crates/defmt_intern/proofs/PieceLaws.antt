@@ -23,16 +23,16 @@ use Rattle.defmt_intern.specs.Pieces.{with_more, tokens_by, is_size, is_kind, is
 
 -- ---- a text is tokens, or has a first fault
 
-record Broken (mode : Mode) (size next : ℕ) (text : List ℕ) : Type 0 where
-  tokens : List Token
-  after : ℕ
-  rest : List ℕ
-  fault : Fault
-  spelled : SpellsTokens mode size next text tokens after rest
-  has : HasTokenFault mode after rest fault
+pub record Broken (mode : Mode) (size next : ℕ) (text : List ℕ) : Type 0 where
+  pub tokens : List Token
+  pub after : ℕ
+  pub rest : List ℕ
+  pub fault : Fault
+  pub spelled : SpellsTokens mode size next text tokens after rest
+  pub has : HasTokenFault mode after rest fault
 
 -- all of the text is these tokens, or it has a fault
-abbrev TokensAre : Mode → ℕ → ℕ → List ℕ → Option (List Token) → Type 0
+abbrev pub TokensAre : Mode → ℕ → ℕ → List ℕ → Option (List Token) → Type 0
 TokensAre mode size next text (Some ts) = (after : ℕ) × SpellsTokens mode size next text ts after []
 TokensAre mode size next text None = Broken mode size next text
 
@@ -59,7 +59,7 @@ by_step mode size next text more (Ok (hole_step param after, rest)) e some each 
     behind mode size next text (hole at param ∷ []) after rest (more after rest) (after, rest, s, (refl, refl)) (each after rest (token_shorter mode size next text (hole at param) after rest s))
 by_step mode size next text more (Err f) e some each = record { tokens = []; after = next; rest = text; fault = f; spelled = (refl, refl); has = step_fails mode next text f some e }
 
-tokens_are : (most : ℕ) (mode : Mode) (size next : ℕ) (text : List ℕ) → length text ≤ most → TokensAre mode size next text (tokens_by most mode size next text)
+pub tokens_are : (most : ℕ) (mode : Mode) (size next : ℕ) (text : List ℕ) → length text ≤ most → TokensAre mode size next text (tokens_by most mode size next text)
 unfolding tokens_by
 tokens_are most mode size next [] le = (next, (refl, refl))
 tokens_are zero mode size next (c ∷ cs) le = absurd (omega arith)
@@ -115,7 +115,7 @@ together-Decides k l = Decides-or (is_kind k l) (is_bits k && is_bits l) (kind-D
 -- ---- tests on uses
 
 -- kinds that don't go together clash
-apart : (u v : Use) → u.param.position ≡ v.param.position → go_together u.param.kind v.param.kind ≡ false → Clash u v
+pub apart : (u v : Use) → u.param.position ≡ v.param.position → go_together u.param.kind v.param.kind ≡ false → Clash u v
 apart u v position e =
     let d = together-Decides u.param.kind v.param.kind in
     record {
@@ -134,7 +134,7 @@ together_by u v position none = elim (cases_Bool (go_together u.param.kind v.par
   | inr e ↦ absurd (none (apart u v position e))
 ]
 
-agree-Decides : (u v : Use) → Decides (agree u v) (Clash u v → ⊥)
+pub agree-Decides : (u v : Use) → Decides (agree u v) (Clash u v → ⊥)
 agree-Decides u v = elim (cases_eq u.param.position v.param.position) [
   | inl same ↦
       let is : agree u v ≡ go_together u.param.kind v.param.kind =
@@ -182,7 +182,7 @@ occurs_less : (v : Use) (vs : List Use) (position i : ℕ) (u : Use) → slice_g
 occurs_less v vs position zero u there is = inl (ap (λ (w : Use). w.param.position) (same_Some v u there) ∙ is)
 occurs_less v vs position (suc i) u there is = inr (i, u, there, is)
 
-occurs-Decides : (us : List Use) (position : ℕ) → Decides (occurs us position) (Occurs us position)
+pub occurs-Decides : (us : List Use) (position : ℕ) → Decides (occurs us position) (Occurs us position)
 occurs-Decides [] position = (λ e. absurd (true≢false (sym e)), λ o. absurd (omega (arith, slice_get_within [] o.0 o.1 o.2)))
 occurs-Decides (v ∷ vs) position =
     Decides-like (v.param.position == position || occurs vs position) (occurs_more v vs position) (λ o. occurs_less v vs position o.0 o.1 o.2 o.3)
@@ -191,7 +191,7 @@ occurs-Decides (v ∷ vs) position =
 below-Decides : (us : List Use) (limit : ℕ) → Decides (all_occur us limit) (HasBelow us limit)
 below-Decides us limit = Decides-below_and (λ n. occurs us n) (λ n. Occurs us n) (λ n. all_occur us n) (λ n. occurs-Decides us n) refl (λ n. refl) limit
 
-gap-Decides : (us : List Use) → Decides (is_gapless us) (NoGap us)
+pub gap-Decides : (us : List Use) → Decides (is_gapless us) (NoGap us)
 gap-Decides us = each-Decides (λ u. all_occur us u.param.position) (λ u. HasBelow us u.param.position) (λ u. below-Decides us u.param.position) us
 
 uses-Decides : (us : List Use) → Decides (all_agree us && is_gapless us) (NoClash us × NoGap us)

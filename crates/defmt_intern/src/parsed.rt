@@ -1,8 +1,9 @@
 //! What an entry's text stands for.
 
-ghost use Rattle.std.specs.Prelude.{◌≡◌, ◌<◌, ◌^◌, ◌==◌, ℕ, List, [], ◌∷◌, ◌++◌, length, count_by, IfOk, OnOk, OnErr, IfSome, Some};
+ghost use Rattle.std.specs.Prelude.{◌≡◌, ◌⊎◌, ◌<◌, ◌^◌, ◌==◌, ℕ, List, [], ◌∷◌, ◌++◌, length, count_by, IfOk, OnOk, OnErr, IfSome, Some};
 ghost use Rattle.std.specs.Str.{IsUtf8};
-ghost use Rattle.defmt_grammar.specs.Grammar.{Spells};
+ghost use Rattle.defmt_grammar.specs.Grammar.{HasFault, Spells};
+ghost use Rattle.defmt_grammar.specs.declared.fault.Cause.{Cause as AnyCause};
 ghost use Rattle.defmt_grammar.specs.declared.fault.Mode.{Mode as AnyMode};
 ghost use Rattle.defmt_grammar.specs.declared.piece.Piece.{Piece};
 ghost use Rattle.defmt_intern.specs.Body.{variants, forms_of, one_body, cut_body, body_of, StartsWith};
@@ -75,12 +76,14 @@ pub enum Parsed {
     Variants(Forms),
 }
 
-/// A text has pieces exactly where the grammar says that it spells them.
+/// A text has pieces exactly where the grammar says that it spells them. Where it spells none the grammar has a fault for it.
 pub fn pieces_are_spelled()
     ensures found { (mode : AnyMode) (text : List ℕ) (ps : List Piece)
         → pieces_of mode text ≡ Some ps → Spells text mode ps }
     ensures again { (mode : AnyMode) (text : List ℕ) (ps : List Piece)
         → Spells text mode ps → pieces_of mode text ≡ Some ps }
+    ensures judged { (mode : AnyMode) (text : List ℕ) → ((ps : List Piece) × Spells text mode ps)
+        ⊎ ((cause : AnyCause) × (at : ℕ) × HasFault text mode cause at) }
 {}
 
 // The pieces of a text, `None` where it is refused.

@@ -6,7 +6,7 @@ pub(crate) const COUNT: u8 = 2;
 // The value is of another kind than its slot.
 pub(crate) const KIND: u8 = 3;
 
-// The value is outside of what its slot takes.
+// The value is outside of what its slot takes, a list has another length, or a variant isn't there, is missing or is given to no enum.
 pub(crate) const RANGE: u8 = 4;
 
 // An index isn't in the table, or its entry isn't one that may stand there.
