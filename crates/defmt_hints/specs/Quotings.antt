@@ -1,4 +1,5 @@
--- Texts between quotes, in one for the three of them: characters, texts and bytes.
+-- Texts between quotes, in one for the three of them: characters, texts and bytes. Clauses of private functions alone cite these
+-- definitions; public ones cite quoted_text and byte_text.
 use Rattle.std.specs.Prelude.{ℕ, codes, List, [], ◌∷◌, ◌++◌, Option, unwrap_or}
 use Rattle.std.specs.List.{flat_map}
 use Rattle.defmt_hints.specs.Escapes.{escape_of, byte_escape_of}

@@ -217,7 +217,8 @@ fn put_shown(out: &mut [u8], at: usize, number: u64, size: IntSize) -> Option<us
 }
 
 /// Writes, as `put_int` does, the signed number whose two's complement in the size this is: a number below 2 to the power of the
-/// size's bits, as messages carry it. `None` exactly where the text doesn't fit.
+/// size's bits, as messages carry it. Each such number is the two's complement of one signed number, so the clause says what is
+/// written of all. `None` exactly where the text doesn't fit.
 pub fn put_complement(
     out: &mut [u8],
     at: usize,

@@ -10,9 +10,9 @@ ghost use Rattle.defmt_hints.specs.declared.quoted.Quoting.{Quoting as AnyQuotin
 use crate::radix::glyph;
 use crate::texts::{put, put_text};
 
-/// What stands in quotes, which says what is escaped.
+// What stands in quotes, which says what is escaped.
 #[derive(Clone, Copy)]
-pub enum Quoting {
+pub(crate) enum Quoting {
     Character,
     Text,
     Bytes,
