@@ -20,3 +20,4 @@ pub mod ReadsBack
 pub mod Signed
 pub mod Stamps
 pub mod Uses
+pub mod Zeros

@@ -8,3 +8,4 @@ pub mod Out
 pub mod Placed
 pub mod Read
 pub mod Reads
+pub mod Unheard

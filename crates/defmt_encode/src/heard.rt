@@ -4,18 +4,18 @@ ghost use Rattle.defmt_values.specs.Entries.{look};
 ghost use Rattle.defmt_values.specs.Plain.{Vals};
 ghost use Rattle.defmt_encode.specs.Heard.{IsHeard};
 ghost use Rattle.defmt_encode.specs.Met.{IsMet};
-ghost use Rattle.defmt_encode.specs.Read.{one_in, logged_of, stamp_form, stamp_at, place_at, all_zero, is_padding, message_at};
-ghost use Rattle.defmt_encode.specs.Reads.{now_of, pair_now, ReadsStamp, ReadsMessage, Answers, GivesOnly, RefusesOnly, answered, told, with_stamp};
-ghost use Rattle.defmt_encode.specs.declared.heard.Heard.{Heard as AnyHeard};
+ghost use Rattle.defmt_encode.specs.Read.{one_in, logged_of, stamp_form, stamp_at, place_at, message_at};
+ghost use Rattle.defmt_encode.specs.Reads.{now_of, pair_now, ReadsStamp, ReadsMessage, Answers, GivesOnly, RefusesOnly, told, with_stamp};
 ghost use Rattle.defmt_intern.specs.Stamp.{stamp_of};
 
 use crate::arguments::read_own;
 use crate::cause::{Cause, Fault};
 use crate::field::index;
 use crate::forms::suited;
+use crate::padding::is_padding;
 use defmt_grammar::Pieces;
 use defmt_intern::{Parsed, Profile, Table};
-use defmt_values::{Args, Statement, cut, is_logged, look_up};
+use defmt_values::{Args, Statement, is_logged, look_up};
 use std::alloc::Global;
 
 /// What a message says.
@@ -122,21 +122,6 @@ fn read_stamp<'b>(
     }
 }
 
-fn all_zero(bytes: &[u8]) -> bool
-    ensures { result ≡ all_zero bytes.now }
-{
-    match cut(bytes) {
-        None => true,
-        Some((b, rest)) => *b == 0 && all_zero(rest),
-    }
-}
-
-fn is_padding(bytes: &[u8]) -> bool
-    ensures { result ≡ is_padding bytes.now }
-{
-    bytes.len() <= 6 && all_zero(bytes)
-}
-
 fn read_whole(alloc: Global, table: &Table, bytes: &[u8], heard: &mut Heard) -> Result<(), Fault>
     ensures { ReadsMessage (told heard.new result) (message_at table.now bytes.now) }
 {
@@ -153,20 +138,11 @@ fn read_whole(alloc: Global, table: &Table, bytes: &[u8], heard: &mut Heard) -> 
     Ok(())
 }
 
-// The answer, with the cause by its number.
-fn answered(read: Result<(), Fault>) -> Result<(), ReadCause>
-    ensures { (heard : AnyHeard) → told heard result ≡ answered (told heard read) }
-{
-    match read {
-        Ok(()) => Ok(()),
-        Err(fault) => Err(ReadCause::from(fault)),
-    }
-}
-
 impl Heard {
-    ghost use Rattle.std.specs.Prelude.{◌≡◌, ℕ, Option, None};
+    ghost use Rattle.std.specs.Prelude.{◌≡◌, ℕ, Option, None, OnErr};
     ghost use Rattle.defmt_values.specs.Plain.{Vals, no_vals};
     ghost use Rattle.defmt_encode.specs.Heard.{IsHeard};
+    ghost use Rattle.defmt_encode.specs.Unheard.{IsUnheard};
     ghost use Rattle.defmt_encode.specs.Met.{IsMet};
     ghost use Rattle.defmt_encode.specs.Reads.{Answers, GivesOnly, RefusesOnly, told};
 
@@ -191,7 +167,7 @@ impl Heard {
     /// keep the room that they had, so that one `Heard` for many messages takes less memory than one for each.
     ///
     /// # Errors
-    /// Those of `read_message`. What is heard then is of no use.
+    /// Those of `read_message`. It is as a new one then: nothing is heard.
     #[inline(never)]
     pub fn hear(&mut self, alloc: Global, table: &Table, bytes: &[u8]) -> Result<(), ReadCause>
         // A statement is answered only where it is heard, and a cause only where it is met.
@@ -202,8 +178,26 @@ impl Heard {
             → GivesOnly (told self.new result) place stamp index vs }
         ensures met { (number : ℕ) → IsMet table.now bytes.now number
             → RefusesOnly (told self.new result) number }
+        // At an error nothing is heard.
+        ensures err { OnErr result (IsUnheard self.new) }
     {
-        answered(read_whole(alloc, table, bytes, self))
+        match read_whole(alloc, table, bytes, self) {
+            Ok(()) => Ok(()),
+            Err(fault) => {
+                self.clear();
+                Err(ReadCause::from(fault))
+            }
+        }
+    }
+
+    // Takes out what was heard.
+    fn clear(&mut self)
+        ensures { IsUnheard self.new }
+    {
+        self.place = None;
+        self.stamp.clear();
+        self.stm.index = 0;
+        self.stm.args.clear();
     }
 }
 

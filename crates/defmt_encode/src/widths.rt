@@ -6,6 +6,7 @@ use defmt_grammar::{IntSize, Kind, Slot};
 use defmt_values::power;
 
 /// How many bytes an integer of a size has. Native integers have four. Takes no memory.
+#[inline(always)]
 pub fn size_bytes(size: IntSize) -> u8
     ensures value { result ≡ size_bytes size }
     ensures small { result ≤ 16 }
