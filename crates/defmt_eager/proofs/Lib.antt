@@ -1,5 +1,6 @@
 pub mod Appends
 pub mod Bounds
+pub mod Fronts
 pub mod Parts
 mod PieceBounds
 mod RoomSizes

@@ -1,10 +1,11 @@
 -- What the calls answer.
 use Rattle.std.specs.Prelude.{◌≡◌, ◌≤◌, ◌<◌, ◌⊎◌, ℕ, ◌+◌, List, [], ◌++◌, Bool, codes, length, Option, Some, None, Result, Ok, Err, if◌then◌else◌}
 use Rattle.std.specs.Str.{IsUtf8}
-use Rattle.defmt_eager.specs.Line.{printed_limit, stamp_text, front_text, eager_line, IsLong, IsWide}
+use Rattle.defmt_eager.specs.Line.{printed_limit, stamp_text, front_text, front_sizes, sizes_at, eager_line, IsLong, IsWide}
 use Rattle.defmt_eager.specs.Show.{eager_text}
 use Rattle.defmt_eager.specs.declared.eager.EagerFault.{EagerFault}
 use Rattle.defmt_eager.specs.declared.eager.EagerFault.TheVariants.{Wide, Memory}
+use Rattle.defmt_eager.specs.declared.front.Front.{Front}
 use Rattle.defmt_grammar.specs.declared.hint.Hint.{Hint}
 use Rattle.defmt_grammar.specs.declared.hint.Hint.TheVariants as hints
 use Rattle.defmt_grammar.specs.declared.text.Text.{Text}
@@ -24,6 +25,12 @@ GivesLine (Ok out) t stamp index vs =
     (out ≡ eager_line t stamp index vs) × (IsWide t stamp index vs → ⊥)
 GivesLine (Err Wide) t stamp index vs = IsWide t stamp index vs
 GivesLine (Err Memory) t stamp index vs = Unit {0}
+
+-- the same, with what stands in front of the statement's text
+abbrev pub GivesParted : Result (Front × Text) EagerFault → Map → Vals → ℕ → Vals → Type 0
+GivesParted (Ok told) t stamp index vs =
+    (told.0 ≡ front_sizes t stamp index) × GivesLine (Ok told.1) t stamp index vs
+GivesParted (Err fault) t stamp index vs = GivesLine (Err fault) t stamp index vs
 
 -- ---- texts at a place of a buffer
 
@@ -57,6 +64,12 @@ PutsNarrow wide None old at new text = Unplaced wide old at new text
 abbrev pub PutsLine : Option ℕ → Map → Vals → ℕ → Vals → List ℕ → ℕ → List ℕ → Type 0
 PutsLine end t stamp index vs old at new =
     PutsNarrow (IsWide t stamp index vs) end old at new (eager_line t stamp index vs)
+
+-- the same, with what stands in front of the statement's text
+abbrev pub PutsParted : Option (Front × ℕ) → Map → Vals → ℕ → Vals → List ℕ → ℕ → List ℕ → Type 0
+PutsParted (Some told) t stamp index vs old at new =
+    (told.0 ≡ front_sizes t stamp index) × PutsLine (Some told.1) t stamp index vs old at new
+PutsParted None t stamp index vs old at new = PutsLine None t stamp index vs old at new
 
 -- ---- parts
 

@@ -1,6 +1,7 @@
 -- The printed line of a statement: its stamp, its level and its text (defmt book, the display of log frames).
 use Rattle.std.specs.Prelude.{◌<◌, ◌⊎◌, ℕ, codes, List, [], ◌++◌, length, Option, None, Some}
 use Rattle.std.specs.Option.{option_and_then}
+use Rattle.defmt_eager.specs.declared.front.Front.{Front}
 use Rattle.defmt_eager.specs.Show.{eager_text}
 use Rattle.defmt_intern.specs.Stamp.{stamp_of}
 use Rattle.defmt_intern.specs.Table.{Map}
@@ -41,6 +42,21 @@ abbrev pub front_text : Map → Option ℕ → Vals → Option (List ℕ) → Li
 front_text t at stamp None = []
 front_text t at stamp (Some level) =
     (stamp_text t at stamp ++ stamp_space at) ++ (level ++ codes " ")
+
+-- the stamp's text where the line of a statement of this level has it, so where there is a level
+abbrev pub shown_stamp : Map → Option ℕ → Vals → Option (List ℕ) → List ℕ
+shown_stamp t at stamp None = []
+shown_stamp t at stamp (Some level) = stamp_text t at stamp
+
+-- how many bytes these have
+abbrev pub sizes_at : Map → Option ℕ → Vals → Option (List ℕ) → Front
+sizes_at t at stamp level = record {
+  stamp = length (shown_stamp t at stamp level);
+  size = length (front_text t at stamp level);
+}
+
+abbrev pub front_sizes : Map → Vals → ℕ → Front
+front_sizes t stamp index = sizes_at t (stamp_of t) stamp (level_at t index)
 
 -- the line of a statement, without a newline at its end
 abbrev pub eager_line : Map → Vals → ℕ → Vals → List ℕ

@@ -7,6 +7,7 @@
 #![tactic(auto)]
 
 mod eager;
+mod front;
 mod leaves;
 mod pieces;
 mod placed;
@@ -17,7 +18,8 @@ mod values;
 mod wide;
 
 pub use eager::{EagerFault, PRINTED_LIMIT, text_of};
-pub use pieces::{acting, comma, interned_text, node_pieces, own_pieces, pieces_of};
-pub use placed::put_line;
-pub use printed::{level_text, line};
+pub use front::Front;
+pub use pieces::{acting, comma};
+pub use placed::{put_line, put_parted_line};
+pub use printed::{level_text, line, parted_line};
 pub use wide::is_wide;

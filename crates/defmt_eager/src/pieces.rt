@@ -10,8 +10,8 @@ use defmt_grammar::{Hint, Piece};
 use defmt_intern::{Parsed, Table};
 use defmt_values::{form_of, look_up, pick};
 
-/// The text of an interned string, none where there is none.
-pub fn interned_text(table: &Table, index: u16) -> &str
+// The text of an interned string, none where there is none.
+pub(crate) fn interned_text(table: &Table, index: u16) -> &str
     ensures text { result.now ≡ interned_text (look table.now.entries index) }
     ensures utf8 { IsUtf8 result.now }
 {
@@ -21,8 +21,8 @@ pub fn interned_text(table: &Table, index: u16) -> &str
     }
 }
 
-/// The pieces of the text of a Format value: those of its entry or of its variant, none where none fit.
-pub fn node_pieces(table: &Table, index: u16, variant: Option<u8>) -> &[Piece]
+// The pieces of the text of a Format value: those of its entry or of its variant, none where none fit.
+pub(crate) fn node_pieces(table: &Table, index: u16, variant: Option<u8>) -> &[Piece]
     ensures { result.now ≡ node_pieces table.now.entries index variant }
 {
     match form_of(table, index) {
@@ -34,8 +34,8 @@ pub fn node_pieces(table: &Table, index: u16, variant: Option<u8>) -> &[Piece]
     }
 }
 
-/// The pieces of what a statement's entry stands for.
-pub fn pieces_of(body: &Parsed) -> &[Piece]
+// The pieces of what a statement's entry stands for.
+pub(crate) fn pieces_of(body: &Parsed) -> &[Piece]
     ensures { result.now ≡ pieces_in (own_in body.now) }
 {
     match body {
@@ -44,8 +44,8 @@ pub fn pieces_of(body: &Parsed) -> &[Piece]
     }
 }
 
-/// The pieces of the text of a statement.
-pub fn own_pieces(table: &Table, index: u16) -> &[Piece]
+// The pieces of the text of a statement.
+pub(crate) fn own_pieces(table: &Table, index: u16) -> &[Piece]
     ensures { result.now ≡ own_pieces table.now.entries index }
 {
     match look_up(table, index) {

@@ -1,13 +1,14 @@
 //! The printed line of a statement.
 ghost use Rattle.std.specs.Prelude.{◌≡◌, ◌++◌, [], codes, length, IfOk, IfSome, OnOk};
 ghost use Rattle.std.specs.Option.{option_map};
-ghost use Rattle.defmt_eager.specs.Answers.{Shows, GivesFront, GivesLine};
+ghost use Rattle.defmt_eager.specs.Answers.{Shows, GivesFront, GivesLine, GivesParted};
 ghost use Rattle.defmt_eager.specs.Line.{level_text, level_at, stamp_text, stamp_space};
 ghost use Rattle.defmt_eager.specs.Show.{own_pieces};
 ghost use Rattle.defmt_intern.specs.Stamp.{stamp_of};
 ghost use Rattle.defmt_values.specs.Fits.{Fits, FitsStamp, IsLogged};
 
 use crate::eager::EagerFault;
+use crate::front::{Front, front_of};
 use crate::pieces::{own_pieces, pieces_of};
 use crate::rooms::push_pieces;
 use defmt_grammar::{Memory, Piece, Text};
@@ -85,7 +86,7 @@ fn roomy(alloc: Global) -> Result<Text, Memory>
 }
 
 // What stands in front of the text of a statement of this level.
-fn front_of(
+fn text_in_front(
     alloc: Global,
     table: &Table,
     at: Option<u16>,
@@ -120,8 +121,25 @@ pub fn line(alloc: Global, table: &Table, stamp: &Args, stm: &Statement) -> Resu
     requires logged { IsLogged table.now.entries stm.now.index }
     ensures { GivesLine result table.now.entries stamp.now stm.now.index stm.now.args }
 {
+    let (_, text) = parted_line(alloc, table, stamp, stm)?;
+    Ok(text)
+}
+
+/// Does what `line` does, and answers how many bytes the line has in front of the statement's own text too.
+pub fn parted_line(
+    alloc: Global,
+    table: &Table,
+    stamp: &Args,
+    stm: &Statement,
+) -> Result<(Front, Text), EagerFault>
+    requires stamp { FitsStamp table.now.entries (stamp_of table.now.entries) stamp.now }
+    requires fits { Fits table.now.entries stm.now.index stm.now.args }
+    requires logged { IsLogged table.now.entries stm.now.index }
+    ensures { GivesParted result table.now.entries stamp.now stm.now.index stm.now.args }
+{
     let (level, pieces) = parts_at(table, stm.index);
-    let mut out = front_of(alloc, table, table.stamp(), stamp, level)?;
+    let mut out = text_in_front(alloc, table, table.stamp(), stamp, level)?;
+    let front = front_of(table, level, out.len());
     push_pieces(table, &mut out, pieces, &stm.args)?;
-    Ok(out)
+    Ok((front, out))
 }

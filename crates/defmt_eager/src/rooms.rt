@@ -34,8 +34,8 @@ fn append(out: &mut Text, room: &[u8], end: usize) -> Result<(), Memory>
     }
 }
 
-/// Appends the text of pieces with these arguments.
-pub fn push_pieces(
+// Appends the text of pieces with these arguments.
+pub(crate) fn push_pieces(
     table: &Table,
     out: &mut Text,
     pieces: &[Piece],

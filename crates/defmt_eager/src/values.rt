@@ -86,9 +86,9 @@ fn put_piece(
     }
 }
 
-/// Writes the text of pieces with these arguments, under the hint that acts round them. `None` exactly where the buffer ends before it.
+// Writes the text of pieces with these arguments, under the hint that acts round them. `None` exactly where the buffer ends before it.
 #[cycle(show)]
-pub fn put_pieces(
+pub(crate) fn put_pieces(
     table: &Table,
     out: &mut [u8],
     at: usize,

@@ -30,6 +30,18 @@ pub(crate) fn most_bytes(hint: Hint) -> usize
     }
 }
 
+// The same under any hint.
+const NUMBER_MOST: usize = 555;
+
+// No fewer bytes than a number, a truth value or a character has under a hint, the same for each of them.
+#[inline(always)]
+fn number_bound(hint: Hint) -> usize
+    ensures { most_bytes hint ≤ result }
+{
+    let _most = most_bytes(hint);
+    NUMBER_MOST
+}
+
 // The bytes of so many parts, and three around them. Sums stay at the greatest number: a bound above the limit says
 // nothing.
 fn bytes_of(parts: usize, most: usize) -> usize
@@ -63,9 +75,9 @@ fn value_bound(table: &Table, hint: Hint, value: &Value) -> usize
     match value {
         Value::Uint(n) | Value::Bits(n) => {
             let _number = *n;
-            most_bytes(hint)
+            number_bound(hint)
         }
-        Value::Int(_) | Value::Bool(_) | Value::Char(_) => most_bytes(hint),
+        Value::Int(_) | Value::Bool(_) | Value::Char(_) => number_bound(hint),
         Value::Str(text) => bytes_of(text.len(), 2),
         Value::Bytes(bytes) => bytes_bound(bytes.as_slice(), hint),
         Value::Istr(index) => interned_bound(table, *index),

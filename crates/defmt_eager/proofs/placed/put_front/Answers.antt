@@ -10,4 +10,4 @@ returns c =
     let t = c.args.table.now.entries in
     let stamp = stamp_text t (stamp_of t) (stamp_args c.args.stamp) in
     rw c.in-Some.is (narrow_two (IsLong stamp) c.put_level.result c.put_level.new.out (stamp ++ stamp_space (stamp_of t)) (c.in-Some.level.now ++ codes " ")
-    c.requires c.in_ok-stamped.ensures c.put_level.ensures)
+    c.requires.place c.in_ok-stamped.ensures c.put_level.ensures)
