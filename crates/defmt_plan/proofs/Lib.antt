@@ -7,7 +7,7 @@ pub mod Fronting
 pub mod Insides
 pub mod Leading
 pub mod Onward
-pub mod Padding
+pub mod Parting
 pub mod Places
 pub mod Placing
 pub mod Planning

@@ -29,11 +29,13 @@ use Rattle.defmt_plan.proofs.Leading.{PassedLed, passed_led}
 use Rattle.defmt_plan.specs.Carried.{Carried}
 use Rattle.defmt_plan.specs.Plans.{AreStepsOf, IsPlanIn, AreStampSteps, lead_text}
 use Rattle.defmt_plan.specs.Steps.{AreSteps}
-use Rattle.defmt_plan.specs.Told.{ArgumentsPassed, PassesArguments, Fronts, IsHead, StampPassed, StampPasses, IsTold, Lined}
+use Rattle.defmt_plan.proofs.Parting.{level_is}
+use Rattle.defmt_plan.specs.Told.{ArgumentsPassed, PassesArguments, Fronts, IsHead, StampPassed, StampPasses, IsTold, Lined, parts_of}
 use Rattle.defmt_eager.specs.Answers.{Placed}
 use Rattle.defmt_eager.proofs.Parts.{placed_none}
 use Rattle.defmt_plan.specs.declared.leaves.Progress.{Progress}
 use Rattle.defmt_plan.specs.declared.message.Head.{Head}
+use Rattle.defmt_plan.specs.declared.message.Parts.{Parts}
 use Rattle.defmt_plan.specs.declared.plan.Plan.{Plan}
 use Rattle.defmt_plan.specs.declared.steps.Step.{Step}
 
@@ -124,14 +126,11 @@ narrow_by : (t : Map) (stamp : Vals) (index : ℕ) (vs : Vals) → length (stamp
 narrow_by t stamp index vs h k (inl long) = omega (arith, h, long)
 narrow_by t stamp index vs h k (inr long) = omega (arith, k, long)
 
-level_is : (t : Map) (index : ℕ) (e : Entry) → look t index ≡ Some e → level_at t index ≡ level_text e.tag
-level_is t index e there = rw there refl
-
-told_at : (t : Catalog) (plan : Plan) (head : Head) (bytes padding : List ℕ) (middle to : ℕ) (old mid begun new : List ℕ) (at m k end : ℕ) → at ≤ length old → length old ≤ 65536
-    → plan.index ≡ head.index → (is : IsPlanIn t.entries plan) → IsHead t.profile bytes head → StampPassed t.entries bytes head.read middle old at mid m → Fronts plan.front (Some k) mid m at begun
+told_at : (t : Catalog) (plan : Plan) (head : Head) (bytes : List ℕ) (size : ℕ) (parts : Parts) (padding : List ℕ) (middle to : ℕ) (old mid begun new : List ℕ) (at m k end : ℕ) → at ≤ length old → length old ≤ 65536
+    → plan.index ≡ head.index → (is : IsPlanIn t.entries plan) → IsHead t.profile bytes head → (s : StampPassed t.entries bytes head.read middle old at mid m) → parts ≡ parts_of t.entries size s.stamp plan.index → Fronts plan.front (Some k) mid m at begun
     → OwnLed t.entries plan.index is.own.lead bytes middle to begun k new end
-    → padding ≡ take (length bytes - to) (drop to bytes) → (length padding ≤ 6) × (all_zero padding ≡ true) → IsTold t bytes head.place plan.index old at new end
-told_at t plan head bytes padding middle to old mid begun new at m k end le room same is h s f o pad p =
+    → padding ≡ take (length bytes - to) (drop to bytes) → (length padding ≤ 6) × (all_zero padding ≡ true) → IsTold t bytes size (record { index = plan.index; place = head.place; parts = parts }) old at new end
+told_at t plan head bytes size parts padding middle to old mid begun new at m k end le room same is h s are f o pad p =
     let es : Map = t.entries in
     let index : List ℕ = little_bytes 2 plan.index in
     let place : List ℕ = place_bytes head.place in
@@ -148,7 +147,7 @@ told_at t plan head bytes padding middle to old mid begun new at m k end le room
     let lead : List ℕ = lead_text is.own.lead in
     let rest_ends : end ≡ k + length o.rest = written_end begun new k end o.rest started.within o.written.written in
     let lead_ends : length lead ≤ k = lead_within es (level_text is.entry.tag) is.own.lead plan.front mid begun at m k (omega (arith, s.written.written.within, s.written.written.long)) is.own.front_is f in
-    let size : length text ≡ length lead + length o.rest = ap length o.text_is ∙ length-append lead o.rest in
+    let count : length text ≡ length lead + length o.rest = ap length o.text_is ∙ length-append lead o.rest in
     let line = line_written es (level_text is.entry.tag) is.own.lead plan.front s.stamp o.rest old mid begun new at m k end le is.own.front_is s.written f o.written in
     record {
       stamp = s.stamp;
@@ -166,17 +165,18 @@ told_at t plan head bytes padding middle to old mid begun new at m k end le room
         zeros = p.1;
         message = all.parts ∙ ap (λ (x : List ℕ). (x ++ body) ++ drop to bytes) (append_assoc index place first) ∙ ap (λ (x : List ℕ). ((index ++ (place ++ first)) ++ body) ++ x) rest;
       };
-      narrow = narrow_by es s.stamp plan.index o.args (omega (arith, stamp_ends, s.written.written.within)) (omega (arith, size, lead_ends, rest_ends, o.written.written.within, started.kept.long));
+      parts = are;
+      narrow = narrow_by es s.stamp plan.index o.args (omega (arith, stamp_ends, s.written.written.within)) (omega (arith, count, lead_ends, rest_ends, o.written.written.within, started.kept.long));
       written = subst (λ (l : Option (List ℕ)). Lined old at new end (front_text es (stamp_of es) s.stamp l ++ text)) (sym (level_is es plan.index is.entry is.there))
           (subst (λ (x : List ℕ). Lined old at new end (front_text es (stamp_of es) s.stamp (level_text is.entry.tag) ++ x)) (sym o.text_is) line);
     }
 
-pub told_all : (t : Catalog) (plan : Plan) (head : Head) (bytes padding : List ℕ) (middle to : ℕ) (old mid begun new : List ℕ) (at m k end : ℕ) → at ≤ length old → length old ≤ 65536
-    → plan.index ≡ head.index → (is : IsPlanIn t.entries plan) → IsHead t.profile bytes head → StampPassed t.entries bytes head.read middle old at mid m → Fronts plan.front (Some k) mid m at begun
+pub told_all : (t : Catalog) (plan : Plan) (head : Head) (bytes : List ℕ) (size : ℕ) (parts : Parts) (padding : List ℕ) (middle to : ℕ) (old mid begun new : List ℕ) (at m k end : ℕ) → at ≤ length old → length old ≤ 65536
+    → plan.index ≡ head.index → (is : IsPlanIn t.entries plan) → IsHead t.profile bytes head → (s : StampPassed t.entries bytes head.read middle old at mid m) → parts ≡ parts_of t.entries size s.stamp plan.index → Fronts plan.front (Some k) mid m at begun
     → ArgumentsPassed t.entries is.pieces is.rest bytes middle to begun k new end
-    → padding ≡ take (length bytes - to) (drop to bytes) → (length padding ≤ 6) × (all_zero padding ≡ true) → IsTold t bytes head.place head.index old at new end
-told_all t plan head bytes padding middle to old mid begun new at m k end le room same is h s f o pad p =
-    subst (λ (i : ℕ). IsTold t bytes head.place i old at new end) same
-    (told_at t plan head bytes padding middle to old mid begun new at m k end le room same is h s f
+    → padding ≡ take (length bytes - to) (drop to bytes) → (length padding ≤ 6) × (all_zero padding ≡ true) → IsTold t bytes size (record { index = head.index; place = head.place; parts = parts }) old at new end
+told_all t plan head bytes size parts padding middle to old mid begun new at m k end le room same is h s are f o pad p =
+    subst (λ (i : ℕ). IsTold t bytes size (record { index = i; place = head.place; parts = parts }) old at new end) same
+    (told_at t plan head bytes size parts padding middle to old mid begun new at m k end le room same is h s are f
     (own_led t.entries plan.index is.entry is.own.lead is.pieces bytes middle to begun k new end is.there is.body
     (passed_led t.entries is.own.lead is.pieces is.rest bytes middle to begun k new end is.own.pieces_are o)) pad p)

@@ -1,5 +1,5 @@
 -- What the plans of a table's strings say.
-use Rattle.std.specs.Prelude.{◌≡◌, ℕ, codes, Bool, true, false, List, [], ◌∷◌, ◌++◌, Option, Some, None}
+use Rattle.std.specs.Prelude.{◌≡◌, ℕ, codes, Bool, true, false, List, [], ◌∷◌, ◌++◌, length, Option, Some, None}
 use Rattle.defmt_grammar.specs.declared.piece.Piece.{Piece}
 use Rattle.defmt_grammar.specs.declared.piece.Piece.TheVariants.{Literal}
 use Rattle.defmt_intern.specs.Body.{body_of}
@@ -56,6 +56,11 @@ pub record HasFront (t : Map) (level : Option (List ℕ)) (pieces : List Piece)
   pub pieces_are : pieces ≡ led lead rest
   pub front_is : IsFront t level lead front
 
+-- how many bytes a level has in a line, with the spaces round it
+abbrev pub level_size : Option ℕ → Option (List ℕ) → ℕ
+level_size at None = 0
+level_size at (Some level) = length (stamp_space at ++ (level ++ codes " "))
+
 -- a statement of a level or of println: what stands in front of the rest of its text, and the pieces of that
 pub record IsPlanIn (t : Map) (plan : Plan) : Type 0 where
   pub entry : Entry
@@ -65,6 +70,7 @@ pub record IsPlanIn (t : Map) (plan : Plan) : Type 0 where
   pub logged : is_logged entry.tag ≡ true
   pub rest : List Piece
   pub own : HasFront t (level_text entry.tag) pieces plan.front rest
+  pub named : plan.named ≡ level_size (stamp_of t) (level_text entry.tag)
   pub steps_are : AreSteps pieces rest plan.steps.items
 
 abbrev pub ArePlansIn : Map → List Plan → Type 0

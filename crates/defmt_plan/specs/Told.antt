@@ -17,13 +17,14 @@ use Rattle.defmt_encode.specs.Heard.{IsHeard}
 use Rattle.defmt_encode.specs.Lengths.{LengthsFit}
 use Rattle.defmt_encode.specs.Placed.{HasPlace}
 use Rattle.defmt_eager.specs.Answers.{Placed, Puts}
-use Rattle.defmt_eager.specs.Line.{eager_line, stamp_text, IsWide}
+use Rattle.defmt_eager.specs.Line.{eager_line, front_text, level_at, shown_stamp, stamp_text, IsWide}
 use Rattle.defmt_eager.specs.Show.{pieces_text, shows}
 use Rattle.defmt_plan.specs.Carried.{Carried}
 use Rattle.defmt_hints.specs.Written.{Kept}
 use Rattle.defmt_plan.specs.declared.leaves.Progress.{Progress}
 use Rattle.defmt_plan.specs.declared.message.Head.{Head}
 use Rattle.defmt_plan.specs.declared.message.Origin.{Origin}
+use Rattle.defmt_plan.specs.declared.message.Parts.{Parts}
 
 -- the index and the place that a message begins with: its head without a stamp
 pub record IsHead (profile : Profile) (bytes : List ℕ) (head : Head) : Type 0 where
@@ -70,18 +71,27 @@ pub record Lined (old : List ℕ) (at : ℕ) (new : List ℕ) (end : ℕ) (line 
   pub written : take end new ≡ take at old ++ line
   pub utf8 : IsUtf8 line
 
+-- the parts of a line, whose piece has so many bytes
+abbrev pub parts_of : Map → ℕ → Vals → ℕ → Parts
+parts_of t bytes stamp index = record {
+  bytes = bytes;
+  stamp = length (shown_stamp t (stamp_of t) stamp (level_at t index));
+  front = length (front_text t (stamp_of t) stamp (level_at t index));
+}
+
 -- a message that is heard, with its line behind a place
-pub record IsTold (t : Catalog) (bytes : List ℕ) (place : Option ℕ) (index : ℕ) (old : List ℕ)
+pub record IsTold (t : Catalog) (bytes : List ℕ) (size : ℕ) (origin : Origin) (old : List ℕ)
     (at : ℕ) (new : List ℕ) (end : ℕ) : Type 0 where
   pub stamp : Vals
   pub args : Vals
-  pub heard : IsHeard t bytes place stamp index args
-  pub narrow : IsWide t.entries stamp index args → ⊥
-  pub written : Lined old at new end (eager_line t.entries stamp index args)
+  pub heard : IsHeard t bytes origin.place stamp origin.index args
+  pub narrow : IsWide t.entries stamp origin.index args → ⊥
+  pub parts : origin.parts ≡ parts_of t.entries size stamp origin.index
+  pub written : Lined old at new end (eager_line t.entries stamp origin.index args)
 
-abbrev pub Tells : Option (Origin × ℕ) → Catalog → List ℕ → List ℕ → ℕ → List ℕ → Type 0
-Tells None t bytes old at new = Kept old at new
-Tells (Some told) t bytes old at new = IsTold t bytes told.0.place told.0.index old at new told.1
+abbrev pub Tells : Option (Origin × ℕ) → Catalog → List ℕ → ℕ → List ℕ → ℕ → List ℕ → Type 0
+Tells None t bytes size old at new = Kept old at new
+Tells (Some told) t bytes size old at new = IsTold t bytes size told.0 old at new told.1
 
 -- What stands in front of a text is written behind the stamp's, where there is something; else the text begins at the place
 -- where the stamp's did.

@@ -5,7 +5,7 @@ ghost use Rattle.defmt_intern.specs.Table.{Map};
 ghost use Rattle.defmt_intern.specs.declared.parsed.Parsed.TheVariants as parsed;
 ghost use Rattle.defmt_plan.specs.Forms.{AreFormsIn, AreVariants, IsBody, IsFormIn};
 
-use crate::numbers::{number_at, numbers_of};
+use crate::numbers::{Indexed, number_at, numbers_of};
 use crate::steps::{Step, steps_of};
 use defmt_grammar::{Memory, Pieces};
 use defmt_intern::{Parsed, Table};
@@ -24,6 +24,12 @@ pub(crate) enum Body {
 pub(crate) struct Form {
     pub index: u16,
     pub body: Body,
+}
+
+impl Indexed for Form {
+    fn index(&self) -> u16 {
+        self.index
+    }
 }
 
 // The plans of the strings of Format values, in the order of their indexes.
@@ -108,22 +114,12 @@ fn forms_in(alloc: Global, table: &Table) -> Result<Vec<Form>, Memory>
     Ok(forms)
 }
 
-// The indexes of plans.
-fn indexes_of(alloc: Global, forms: &[Form]) -> Result<Vec<u16>, Memory> {
-    let mut indexes = Vec::with_capacity(alloc, forms.len())?;
-    for form in forms {
-        indexes.push(form.index)?;
-    }
-    Ok(indexes)
-}
-
 // The plans of a table's strings that Format values may have.
 pub(crate) fn forms_of(alloc: Global, table: &Table) -> Result<Forms, Memory>
     ensures { IfOk result (λ forms. AreFormsIn table.now.entries forms.items.items) }
 {
     let items = forms_in(alloc, table)?;
-    let indexes = indexes_of(alloc, &items)?;
-    let numbers = numbers_of(alloc, &indexes)?;
+    let numbers = numbers_of(alloc, &items)?;
     Ok(Forms { items, numbers })
 }
 

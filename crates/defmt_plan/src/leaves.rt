@@ -6,7 +6,8 @@ ghost use Rattle.defmt_grammar.specs.declared.kind.Kind.TheVariants as kinds;
 ghost use Rattle.defmt_intern.specs.Table.{Map};
 ghost use Rattle.defmt_plan.specs.Passed.{PassesOne};
 
-use crate::take::{take_bool, take_char, take_chunk, take_sized, take_str, take_uint, width_of};
+use crate::take::{take_bool, take_char, take_chunk, take_sized, take_str, take_uint};
+use defmt_encode::size_bytes;
 use defmt_grammar::{Hint, IntSize, Kind};
 use defmt_hints::{put_bool, put_bytes, put_char, put_complement, put_str, put_uint};
 
@@ -31,10 +32,11 @@ pub(crate) fn pass_uint(
     ensures { (t : Map) → PassesOne result t (kinds.Uint size) hint bytes.now before
         out.old out.new }
 {
+    let width = usize::from(size_bytes(size));
     let number = take_sized(bytes, before.read, size)?;
     let written = put_uint(out, before.written, number, hint)?;
     Some(Progress {
-        read: before.read + width_of(size),
+        read: before.read + width,
         written,
     })
 }
@@ -81,10 +83,11 @@ fn pass_int(
     ensures { (t : Map) → PassesOne result t (kinds.Int size) hint bytes.now before
         out.old out.new }
 {
+    let width = usize::from(size_bytes(size));
     let number = take_sized(bytes, before.read, size)?;
     let written = put_complement(out, before.written, number, size, hint)?;
     Some(Progress {
-        read: before.read + width_of(size),
+        read: before.read + width,
         written,
     })
 }

@@ -23,5 +23,5 @@ mod run;
 mod steps;
 mod take;
 
-pub use message::Origin;
+pub use message::{Origin, Parts};
 pub use planned::PlannedTable;

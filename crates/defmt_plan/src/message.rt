@@ -1,7 +1,6 @@
-//! What stands in a message round its values.
+//! What stands in a message in front of its values, and what its line comes from.
 
-ghost use Rattle.std.specs.Prelude.{◌≡◌, ◌≤◌, true, length, sum, IfSome};
-ghost use Rattle.defmt_encode.specs.Read.{all_zero};
+ghost use Rattle.std.specs.Prelude.{IfSome};
 ghost use Rattle.defmt_plan.specs.Told.{IsHead};
 
 use crate::take::take_uint;
@@ -22,6 +21,19 @@ pub struct Origin {
     pub index: u16,
     /// The place of its frame: there is one exactly in profile Two.
     pub place: Option<u16>,
+    /// What it consists of.
+    pub parts: Parts,
+}
+
+/// The parts of a line.
+#[derive(Clone, Copy)]
+pub struct Parts {
+    /// How many bytes its piece has, between the two zeros.
+    pub bytes: u32,
+    /// How many bytes the stamp's text has; 0 where the line is printed without one.
+    pub stamp: u32,
+    /// Where the statement's own text begins, behind stamp and level.
+    pub front: u32,
 }
 
 // The front of a message in a profile.
@@ -45,37 +57,4 @@ pub(crate) fn read_head(profile: Profile, bytes: &[u8]) -> Option<Head>
             })
         }
     }
-}
-
-// A byte as a part of a sum.
-fn part(byte: &u8) -> u32
-    ensures value { result ≡ byte.now }
-    ensures small { result ≤ 255 }
-{
-    u32::from(*byte)
-}
-
-// The sum of at most six bytes. Where they are more it isn't 0.
-#[inline(always)]
-fn few_sum(bytes: &[u8]) -> u32
-    ensures { result ≡ 0 → (length bytes.now ≤ 6) × (sum bytes.now ≡ 0) }
-{
-    match bytes {
-        [] => 0,
-        [a] => part(a),
-        [a, b] => part(a) + part(b),
-        [a, b, c] => part(a) + part(b) + part(c),
-        [a, b, c, d] => part(a) + part(b) + part(c) + part(d),
-        [a, b, c, d, e] => part(a) + part(b) + part(c) + part(d) + part(e),
-        [a, b, c, d, e, f] => part(a) + part(b) + part(c) + part(d) + part(e) + part(f),
-        _ => 1,
-    }
-}
-
-// Whether bytes are at most six zeros, by their sum.
-#[inline(always)]
-pub(crate) fn is_padding(bytes: &[u8]) -> bool
-    ensures { result ≡ true → (length bytes.now ≤ 6) × (all_zero bytes.now ≡ true) }
-{
-    few_sum(bytes) == 0
 }

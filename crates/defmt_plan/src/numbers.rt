@@ -3,15 +3,20 @@
 use defmt_grammar::Memory;
 use std::alloc::Global;
 
+// What has the index of a string.
+pub(crate) trait Indexed {
+    fn index(&self) -> u16;
+}
+
 // At each index up to the greatest of these, which grow, the number of its plan.
-pub(crate) fn numbers_of(alloc: Global, indexes: &[u16]) -> Result<Vec<u16>, Memory> {
-    let Some(last) = indexes.last() else {
+pub(crate) fn numbers_of<I: Indexed>(alloc: Global, plans: &[I]) -> Result<Vec<u16>, Memory> {
+    let Some(last) = plans.last() else {
         return Ok(Vec::new(alloc));
     };
-    let size = usize::from(*last).saturating_add(1);
+    let size = usize::from(last.index()).saturating_add(1);
     let mut numbers = vec![in alloc; 0u16; size]?;
-    for (number, index) in indexes.iter().enumerate() {
-        if let Some(place) = numbers.get_mut(usize::from(*index)) {
+    for (number, plan) in plans.iter().enumerate() {
+        if let Some(place) = numbers.get_mut(usize::from(plan.index())) {
             *place = number.min(65535) as u16;
         }
     }

@@ -2,8 +2,10 @@
 
 ghost use Rattle.std.specs.Prelude.{◌≡◌, ◌++◌, codes, IfSome, IfOk};
 ghost use Rattle.defmt_eager.specs.Line.{level_text};
-ghost use Rattle.defmt_plan.specs.Plans.{AreStepsOf, ArePlansIn, HasFront, IsPlanIn, Leads, SaysStamp, space_if};
+ghost use Rattle.defmt_intern.specs.Stamp.{stamp_of};
+ghost use Rattle.defmt_plan.specs.Plans.{AreStepsOf, ArePlansIn, HasFront, IsPlanIn, Leads, SaysStamp, level_size, space_if};
 
+use crate::numbers::Indexed;
 use crate::steps::{Step, are_nested, steps_of};
 use defmt_eager::level_text;
 use defmt_grammar::{Memory, Piece, Text};
@@ -18,9 +20,17 @@ pub(crate) struct Plan {
     /// What stands between the stamp's text and the steps: the level, and the literal that its own text begins with. Of println
     /// neither stands in front of the steps, which have that literal.
     pub front: Option<Text>,
+    /// How many bytes stand between the stamp's text and the statement's own: those of the level and the spaces. Of println none.
+    pub named: u8,
     pub steps: Vec<Step>,
     /// Whether values may stand inside others. Nothing is said of it: both ways hold.
     pub nested: bool,
+}
+
+impl Indexed for Plan {
+    fn index(&self) -> u16 {
+        self.index
+    }
 }
 
 // The plan of a table's stamp.
@@ -107,6 +117,16 @@ fn front_of<'a>(
     Ok((Some(front), rest))
 }
 
+// How many bytes a level has in a line with the space behind it, and with the one in front of it where there is a stamp.
+fn level_size(table: &Table, tag: &Tag) -> u8
+    ensures { result ≡ level_size (stamp_of table.now.entries) (level_text tag.now) }
+{
+    let Some(_level) = level_text(tag) else {
+        return 0;
+    };
+    if table.stamp().is_some() { 7 } else { 6 }
+}
+
 // The plan of the string at an index, where it is of a level or of println, and usual.
 fn plan_of(alloc: Global, table: &Table, index: u16) -> Result<Option<Plan>, Memory>
     ensures { IfOk result (λ r. IfSome r (λ plan. IsPlanIn table.now.entries plan)) }
@@ -121,6 +141,7 @@ fn plan_of(alloc: Global, table: &Table, index: u16) -> Result<Option<Plan>, Mem
         return Ok(None);
     };
     let (front, rest) = front_of(alloc, table, &entry.tag, pieces.as_slice())?;
+    let named = level_size(table, &entry.tag);
     let Some(steps) = steps_of(alloc, rest, pieces)? else {
         return Ok(None);
     };
@@ -128,6 +149,7 @@ fn plan_of(alloc: Global, table: &Table, index: u16) -> Result<Option<Plan>, Mem
     Ok(Some(Plan {
         index,
         front,
+        named,
         steps,
         nested,
     }))

@@ -2,29 +2,31 @@
 
 ghost use Rattle.std.specs.Prelude.{◌≡◌, ◌≤◌, List, length, IfOk, IfSome};
 ghost use Rattle.defmt_grammar.specs.declared.piece.Piece.{Piece as AnyPiece};
+ghost use Rattle.defmt_eager.specs.Line.{stamp_text};
+ghost use Rattle.defmt_intern.specs.Stamp.{stamp_of};
 ghost use Rattle.defmt_intern.specs.Table.{Map};
+ghost use Rattle.defmt_values.specs.Plain.{Vals};
 ghost use Rattle.defmt_plan.specs.Forms.{AreFormsIn, ArePlanned};
 ghost use Rattle.defmt_plan.specs.Plans.{IsPlanIn};
 ghost use Rattle.defmt_plan.specs.Steps.{AreSteps};
-ghost use Rattle.defmt_plan.specs.Told.{Fronts, PassesArguments, StampPasses, Tells};
+ghost use Rattle.defmt_plan.specs.Told.{Fronts, PassesArguments, StampPasses, Tells, parts_of};
 
 use crate::forms::{Forms, forms_of};
 use crate::inside::pass_steps;
 use crate::leaves::Progress;
-use crate::message::{Origin, is_padding, read_head};
+use crate::message::{Origin, Parts, read_head};
 use crate::numbers::numbers_of;
 use crate::plan::{Plan, StampPlan, plans_of, stamp_plan};
 use crate::reach::Reach;
 use crate::run::run;
+use defmt_eager::PRINTED_LIMIT;
+use defmt_encode::is_padding;
 use defmt_grammar::{Hint, Memory as OutOfMemory, Text};
 use defmt_hints::put;
 use defmt_intern::Table;
 use dl_io::Memory;
 use std::alloc::Global;
 use std::marker::Model;
-
-// The most bytes of a text that isn't too wide.
-const LONGEST: usize = 65536;
 
 // The most levels of Format values.
 const LEVELS: u8 = 16;
@@ -60,15 +62,6 @@ impl Model for PlannedTable {
         × AreFormsIn p.table.entries p.forms.items.items };
 }
 
-// The indexes of plans.
-fn indexes_of(alloc: Global, plans: &[Plan]) -> Result<Vec<u16>, OutOfMemory> {
-    let mut indexes = Vec::with_capacity(alloc, plans.len())?;
-    for plan in plans {
-        indexes.push(plan.index)?;
-    }
-    Ok(indexes)
-}
-
 // Writes what stands between the stamp's text and the statement's, and answers where the latter begins.
 #[inline(always)]
 fn put_front(front: &Option<Text>, out: &mut [u8], stamped: usize, at: usize) -> Option<usize>
@@ -78,6 +71,29 @@ fn put_front(front: &Option<Text>, out: &mut [u8], stamped: usize, at: usize) ->
     match front {
         Some(front) => put(out, stamped, front.as_str().as_bytes()),
         None => Some(at),
+    }
+}
+
+// The parts of a line of a plan, whose piece has so many bytes and whose stamp's text so many.
+#[inline(always)]
+fn parts_of(plan: &Plan, size: u32, stamped: usize) -> Parts
+    requires { stamped ≤ 65536 }
+    ensures { (t : Map) (stamp : Vals) → IsPlanIn t plan.now
+        → stamped ≡ length (stamp_text t (stamp_of t) stamp)
+        → result ≡ parts_of t size stamp plan.now.index }
+{
+    if plan.named == 0 {
+        return Parts {
+            bytes: size,
+            stamp: 0,
+            front: 0,
+        };
+    }
+    let stamp = stamped as u32;
+    Parts {
+        bytes: size,
+        stamp,
+        front: stamp + u32::from(plan.named),
     }
 }
 
@@ -116,8 +132,7 @@ fn with_plans(alloc: Global, table: Table) -> Result<PlannedTable, OutOfMemory>
 {
     let stamp = stamp_plan(alloc, &table)?;
     let plans = plans_of(alloc, &table)?;
-    let indexes = indexes_of(alloc, &plans)?;
-    let numbers = numbers_of(alloc, &indexes)?;
+    let numbers = numbers_of(alloc, &plans)?;
     let forms = forms_of(alloc, &table)?;
     Ok(PlannedTable {
         table,
@@ -203,13 +218,23 @@ impl PlannedTable {
 
     /// The line of a message whose plan there is, written behind a place of the buffer. Where it is answered, the message is
     /// heard, neither its stamp's text nor its own is too wide, and the line is UTF-8 and ends at the place that comes with its
-    /// origin. What stands in front of the place is as before in any case. Takes no memory.
+    /// origin, which has the size of the message's piece as it is given. What stands in front of the place is as before in any
+    /// case. Takes no memory.
+    ///
+    /// `None` where no plan prints the message: it is refused, something in it isn't usual, or its line doesn't fit. No clause says
+    /// when that is, so the caller reads such a message another way.
     #[inline(always)]
-    pub fn message(&self, bytes: &[u8], out: &mut [u8], at: usize) -> Option<(Origin, usize)>
+    pub fn message(
+        &self,
+        bytes: &[u8],
+        size: u32,
+        out: &mut [u8],
+        at: usize,
+    ) -> Option<(Origin, usize)>
         requires { at ≤ length out.old }
-        ensures { Tells result self.now bytes.now out.old at out.new }
+        ensures { Tells result self.now bytes.now size out.old at out.new }
     {
-        if out.len() > LONGEST {
+        if out.len() > PRINTED_LIMIT {
             return None;
         }
         let head = read_head(self.table.profile(), bytes)?;
@@ -223,6 +248,7 @@ impl PlannedTable {
         let origin = Origin {
             index: head.index,
             place: head.place,
+            parts: parts_of(plan, size, stamped.written - at),
         };
         Some((origin, said.written))
     }

@@ -33,20 +33,6 @@ pub(crate) fn take_uint(bytes: &[u8], at: usize, width: usize) -> Option<u64>
     }
 }
 
-// The number of bytes of an integer.
-#[inline(always)]
-pub(crate) fn width_of(size: IntSize) -> usize
-    ensures { result ≡ size_bytes size }
-{
-    match size {
-        IntSize::W8 => 1,
-        IntSize::W16 => 2,
-        IntSize::W32 | IntSize::Native => 4,
-        IntSize::W64 => 8,
-        IntSize::W128 => 16,
-    }
-}
-
 // The number of a size of up to 64 bits in the bytes behind a place.
 #[inline(always)]
 pub(crate) fn take_sized(bytes: &[u8], at: usize, size: IntSize) -> Option<u64>

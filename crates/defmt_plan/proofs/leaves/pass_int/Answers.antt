@@ -1,3 +1,4 @@
+use Rattle.std.proofs.Common.{◌∙◌}
 use Rattle.byteorder.specs.Endian.{twos_complement}
 use Rattle.defmt_encode.specs.Carry.{size_bytes}
 use Rattle.defmt_plan.proofs.Complements.{complement_is, small_bits}
@@ -16,4 +17,5 @@ returns-in_err-written c = λ t.
 pub returns : goal.returns
 returns c = λ t.
     let n = c.in_ok-number in
-    passed_int t c.args.hint c.args.bytes.now c.args.before.read c.args.out.now c.args.before.written c.put_complement.new.out c.in_ok-written.written c.args.size c.width_of.result n.number c.width_of.ensures n.ensures.small (rw c.width_of.ensures n.ensures.carried) c.in_ok-written.ensures
+    let is = c.from-width.ensures ∙ c.size_bytes.ensures.value in
+    passed_int t c.args.hint c.args.bytes.now c.args.before.read c.args.out.now c.args.before.written c.put_complement.new.out c.in_ok-written.written c.args.size c.from-width.result n.number is n.ensures.small (rw is n.ensures.carried) c.in_ok-written.ensures

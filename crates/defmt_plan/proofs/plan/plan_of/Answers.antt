@@ -16,5 +16,6 @@ returns c =
         pieces_are = sym c.as_slice.ensures.pieces ∙ h.pieces_are;
         front_is = h.front_is;
       };
+      named = c.level_size-named.ensures;
       steps_are = rw c.in-Some-2.is at c.in_ok-steps.ensures;
     }
