@@ -18,6 +18,7 @@ use Rattle.defmt_encode.proofs.Numbers.{AreBytes}
 use Rattle.defmt_encode.proofs.Laws.{heard_found, heard_again, met_found, met_again}
 use Rattle.defmt_decode.proofs.Bytes.{are_bytes, blocks_bytes}
 use Rattle.defmt_decode.specs.Event.{IsEventOf, too_long, no_code, line_told, too_wide, not_heard, is_wide, of_heard, read_of, of_read, of_code, tells, event_of, PlaceSuits}
+use Rattle.defmt_plan.specs.Told.{parts_of}
 use Rattle.defmt_decode.specs.declared.event.Event.{Event}
 use Rattle.defmt_decode.specs.declared.event.Event.TheVariants.{Line, Bad}
 use Rattle.defmt_decode.specs.declared.reader.Refusal.TheVariants.{Cobs, Long, Wide}
@@ -41,39 +42,39 @@ narrow_test t stamp index vs narrow = elim (cases_Bool (is_wide t stamp index vs
   | inr e ↦ e
 ]
 
-pub heard_wide : (t : Catalog) (place : Option ℕ) (stamp : Vals) (index : ℕ) (vs : Vals) → IsWide t.entries stamp index vs → of_heard t place stamp index vs ≡ refused Wide
-heard_wide t place stamp index vs wide = ap (λ (b : Bool). cond b (refused Wide) (Line index place (eager_line t.entries stamp index vs))) (wide_test t.entries stamp index vs wide)
+pub heard_wide : (t : Catalog) (size : ℕ) (place : Option ℕ) (stamp : Vals) (index : ℕ) (vs : Vals) → IsWide t.entries stamp index vs → of_heard t size place stamp index vs ≡ refused Wide
+heard_wide t size place stamp index vs wide = ap (λ (b : Bool). cond b (refused Wide) (Line index place (parts_of t.entries size stamp index) (eager_line t.entries stamp index vs))) (wide_test t.entries stamp index vs wide)
 
-pub heard_narrow : (t : Catalog) (place : Option ℕ) (stamp : Vals) (index : ℕ) (vs : Vals) → (IsWide t.entries stamp index vs → ⊥)
-    → of_heard t place stamp index vs ≡ Line index place (eager_line t.entries stamp index vs)
-heard_narrow t place stamp index vs narrow = ap (λ (b : Bool). cond b (refused Wide) (Line index place (eager_line t.entries stamp index vs))) (narrow_test t.entries stamp index vs narrow)
+pub heard_narrow : (t : Catalog) (size : ℕ) (place : Option ℕ) (stamp : Vals) (index : ℕ) (vs : Vals) → (IsWide t.entries stamp index vs → ⊥)
+    → of_heard t size place stamp index vs ≡ Line index place (parts_of t.entries size stamp index) (eager_line t.entries stamp index vs)
+heard_narrow t size place stamp index vs narrow = ap (λ (b : Bool). cond b (refused Wide) (Line index place (parts_of t.entries size stamp index) (eager_line t.entries stamp index vs))) (narrow_test t.entries stamp index vs narrow)
 
 -- ---- read
 
-pub heard_read : (t : Catalog) (bytes : List ℕ) (place : Option ℕ) (stamp : Vals) (index : ℕ) (vs : Vals) → IsHeard t bytes place stamp index vs
-    → of_read t (read_of t bytes) ≡ of_heard t place stamp index vs
+pub heard_read : (t : Catalog) (bytes : List ℕ) (size : ℕ) (place : Option ℕ) (stamp : Vals) (index : ℕ) (vs : Vals) → IsHeard t bytes place stamp index vs
+    → of_read t size (read_of t bytes) ≡ of_heard t size place stamp index vs
 unfolding read_of
-heard_read t bytes place stamp index vs heard = ap (of_read t) (heard_again t bytes place stamp index vs heard)
+heard_read t bytes size place stamp index vs heard = ap (of_read t size) (heard_again t bytes place stamp index vs heard)
 
-pub met_read : (t : Catalog) (bytes : List ℕ) (cause : ℕ) → IsMet t bytes cause → of_read t (read_of t bytes) ≡ Bad cause
+pub met_read : (t : Catalog) (bytes : List ℕ) (size cause : ℕ) → IsMet t bytes cause → of_read t size (read_of t bytes) ≡ Bad cause
 unfolding read_of
-met_read t bytes cause (c, number, meets) = ap (of_read t) (met_again t bytes c meets) ∙ ap (λ (n : ℕ). Bad n) (sym number)
+met_read t bytes size cause (c, number, meets) = ap (of_read t size) (met_again t bytes c meets) ∙ ap (λ (n : ℕ). Bad n) (sym number)
 
 -- ---- by the length and the code
 
 long_is : (t : Catalog) (piece : List ℕ) → 65536 < length piece → event_of t piece ≡ refused Long
 unfolding of_piece tells
-long_is t piece long = ap (λ (b : Bool). cond b (of_code t (decoded piece)) (refused Long)) (lt-leb (length piece) 65536 long)
+long_is t piece long = ap (λ (b : Bool). cond b (of_code t (length piece) (decoded piece)) (refused Long)) (lt-leb (length piece) 65536 long)
 
-short_is : (t : Catalog) (piece : List ℕ) → length piece ≤ 65536 → event_of t piece ≡ of_code t (decoded piece)
+short_is : (t : Catalog) (piece : List ℕ) → length piece ≤ 65536 → event_of t piece ≡ of_code t (length piece) (decoded piece)
 unfolding of_piece tells
-short_is t piece short = ap (λ (b : Bool). cond b (of_code t (decoded piece)) (refused Long)) (le-leb (length piece) 65536 short)
+short_is t piece short = ap (λ (b : Bool). cond b (of_code t (length piece) (decoded piece)) (refused Long)) (le-leb (length piece) 65536 short)
 
-read_is : (t : Catalog) (piece bytes : List ℕ) → length piece ≤ 65536 → Blocks piece bytes → event_of t piece ≡ of_read t (read_of t bytes)
-read_is t piece bytes short blocks = short_is t piece short ∙ ap (of_code t) (decoded_found piece bytes blocks)
+read_is : (t : Catalog) (piece bytes : List ℕ) → length piece ≤ 65536 → Blocks piece bytes → event_of t piece ≡ of_read t (length piece) (read_of t bytes)
+read_is t piece bytes short blocks = short_is t piece short ∙ ap (of_code t (length piece)) (decoded_found piece bytes blocks)
 
 none_is : (t : Catalog) (piece : List ℕ) → length piece ≤ 65536 → IsNoCode piece → event_of t piece ≡ refused Cobs
-none_is t piece short none = short_is t piece short ∙ ap (of_code t) (decoded_none piece none)
+none_is t piece short none = short_is t piece short ∙ ap (of_code t (length piece)) (decoded_none piece none)
 
 -- ---- what the relation says is answered
 
@@ -81,26 +82,26 @@ pub only : (t : Catalog) (piece : List ℕ) (event : Event) → IsEventOf t piec
 only t piece _ (too_long long) = long_is t piece long
 only t piece _ (no_code short none) = none_is t piece short none
 only t piece _ (line_told bytes place stamp index vs short blocks heard narrow) =
-    read_is t piece bytes short blocks ∙ heard_read t bytes place stamp index vs heard ∙ heard_narrow t place stamp index vs narrow
+    read_is t piece bytes short blocks ∙ heard_read t bytes (length piece) place stamp index vs heard ∙ heard_narrow t (length piece) place stamp index vs narrow
 only t piece _ (too_wide bytes place stamp index vs short blocks heard wide) =
-    read_is t piece bytes short blocks ∙ heard_read t bytes place stamp index vs heard ∙ heard_wide t place stamp index vs wide
-only t piece _ (not_heard bytes cause short blocks met) = read_is t piece bytes short blocks ∙ met_read t bytes cause met
+    read_is t piece bytes short blocks ∙ heard_read t bytes (length piece) place stamp index vs heard ∙ heard_wide t (length piece) place stamp index vs wide
+only t piece _ (not_heard bytes cause short blocks met) = read_is t piece bytes short blocks ∙ met_read t bytes (length piece) cause met
 
 -- ---- what is answered the relation says
 
 by_width : (t : Catalog) (piece bytes : List ℕ) (place : Option ℕ) (stamp : Vals) (index : ℕ) (vs : Vals) → length piece ≤ 65536 → Blocks piece bytes
-    → IsHeard t bytes place stamp index vs → IsEventOf t piece (of_heard t place stamp index vs)
+    → IsHeard t bytes place stamp index vs → IsEventOf t piece (of_heard t (length piece) place stamp index vs)
 by_width t piece bytes place stamp index vs short blocks heard = elim (cases_Bool (is_wide t.entries stamp index vs)) [
   | inl e ↦
       let wide = wide_so t.entries stamp index vs e in
-      subst (IsEventOf t piece) (sym (heard_wide t place stamp index vs wide)) (too_wide bytes place stamp index vs short blocks heard wide)
+      subst (IsEventOf t piece) (sym (heard_wide t (length piece) place stamp index vs wide)) (too_wide bytes place stamp index vs short blocks heard wide)
   | inr e ↦
       let narrow = narrow_so t.entries stamp index vs e in
-      subst (IsEventOf t piece) (sym (heard_narrow t place stamp index vs narrow)) (line_told bytes place stamp index vs short blocks heard narrow)
+      subst (IsEventOf t piece) (sym (heard_narrow t (length piece) place stamp index vs narrow)) (line_told bytes place stamp index vs short blocks heard narrow)
 ]
 
 by_read : (t : Catalog) (piece bytes : List ℕ) (r : Read (Option ℕ × Vals × ℕ × Vals)) → AreBytes bytes → read_of t bytes ≡ r → length piece ≤ 65536
-    → Blocks piece bytes → IsEventOf t piece (of_read t r)
+    → Blocks piece bytes → IsEventOf t piece (of_read t (length piece) r)
 unfolding read_of
 by_read t piece bytes (Ok (place, stamp, index, vs)) all e short blocks = by_width t piece bytes place stamp index vs short blocks (heard_found t bytes place stamp index vs all e)
 by_read t piece bytes (Err cause) all e short blocks = not_heard bytes (cause_number cause) short blocks (cause, refl, met_found t bytes cause all e)

@@ -21,6 +21,7 @@ use Rattle.defmt_encode.proofs.Laws.{reads_back}
 use Rattle.defmt_encode.proofs.Lengths.{message_lengths}
 use Rattle.defmt_decode.specs.Event.{IsEventOf, line_told, tells, event_of, events_of}
 use Rattle.defmt_decode.specs.Sent.{Sent, IsSent, AreSent, code_of, line_of, stream_of, sent_from, sent_by, front_event, tail_event}
+use Rattle.defmt_plan.specs.Told.{parts_of}
 use Rattle.defmt_decode.specs.declared.event.Event.{Event}
 use Rattle.defmt_decode.specs.declared.event.Event.TheVariants.{Line}
 use Rattle.defmt_decode.proofs.Bytes.{blocks_few}
@@ -137,7 +138,7 @@ code_there t (c ∷ code) bytes place stamp index vs blocks heard = omega arith
 
 pub heard_intact : (t : Catalog) (p c q bytes : List ℕ) (place : Option ℕ) (stamp : Vals) (index : ℕ) (vs : Vals) → length c ≤ 65536 → Blocks c bytes
     → IsHeard t bytes place stamp index vs → (IsWide t.entries stamp index vs → ⊥)
-    → events_of t (p ++ (0 ∷ (c ++ (0 ∷ q)))) ≡ events_of t (p ++ 0 ∷ []) ++ (Line index place (eager_line t.entries stamp index vs) ∷ events_of t (0 ∷ q))
+    → events_of t (p ++ (0 ∷ (c ++ (0 ∷ q)))) ≡ events_of t (p ++ 0 ∷ []) ++ (Line index place (parts_of t.entries (length c) stamp index) (eager_line t.entries stamp index vs) ∷ events_of t (0 ∷ q))
 heard_intact t p c q bytes place stamp index vs short blocks heard narrow =
     event_intact t p c q _ (no_zero c (NoZero-blocks c bytes blocks)) (code_there t c bytes place stamp index vs blocks heard)
     (line_told bytes place stamp index vs short blocks heard narrow)

@@ -23,6 +23,7 @@ use Rattle.defmt_decode.specs.declared.reader.Refusal.TheVariants.{Cobs, Long, W
 use Rattle.defmt_decode.specs.Refusal.{refused}
 use Rattle.defmt_framing.specs.declared.notice.Notice.{Notice}
 use Rattle.defmt_framing.specs.declared.notice.Notice.TheVariants as notices
+use Rattle.defmt_plan.specs.Told.{parts_of}
 use Rattle.defmt_plan.specs.declared.message.Origin.{Origin}
 
 -- ---- the event of a piece
@@ -34,7 +35,7 @@ pub data IsEventOf (t : Catalog) (piece : List ℕ) : Event → Type 0 where
   no_code : length piece ≤ 65536 → IsNoCode piece → IsEventOf t piece (refused Cobs)
   line_told : (bytes : List ℕ) (place : Option ℕ) (stamp : Vals) (index : ℕ) (vs : Vals) → length piece ≤ 65536
       → Blocks piece bytes → IsHeard t bytes place stamp index vs → (IsWide t.entries stamp index vs → ⊥)
-      → IsEventOf t piece (Line index place (eager_line t.entries stamp index vs))
+      → IsEventOf t piece (Line index place (parts_of t.entries (length piece) stamp index) (eager_line t.entries stamp index vs))
   too_wide : (bytes : List ℕ) (place : Option ℕ) (stamp : Vals) (index : ℕ) (vs : Vals) → length piece ≤ 65536
       → Blocks piece bytes → IsHeard t bytes place stamp index vs → IsWide t.entries stamp index vs
       → IsEventOf t piece (refused Wide)
@@ -43,7 +44,7 @@ pub data IsEventOf (t : Catalog) (piece : List ℕ) : Event → Type 0 where
 
 -- a line has a place exactly in the second profile
 abbrev pub PlaceSuits : Profile → Event → Type 0
-PlaceSuits p (Line index place text) = HasPlace p place
+PlaceSuits p (Line index place parts text) = HasPlace p place
 PlaceSuits p (Bad cause) = Unit {0}
 PlaceSuits p (CutFront bytes) = Unit {0}
 PlaceSuits p (CutTail bytes) = Unit {0}
@@ -55,29 +56,30 @@ abbrev pub is_wide : Map → Vals → ℕ → Vals → Bool
 is_wide t stamp index vs =
     nat_lt 65536 (length (stamp_text t (stamp_of t) stamp)) || nat_lt 65536 (length (eager_text t index vs))
 
--- what is told of a place, a stamp and a statement that are heard
-abbrev pub of_heard : Catalog → Option ℕ → Vals → ℕ → Vals → Event
-of_heard t place stamp index vs =
-    if is_wide t.entries stamp index vs then refused Wide else Line index place (eager_line t.entries stamp index vs)
+-- what is told of a place, a stamp and a statement that are heard in a piece of so many bytes
+abbrev pub of_heard : Catalog → ℕ → Option ℕ → Vals → ℕ → Vals → Event
+of_heard t size place stamp index vs =
+    if is_wide t.entries stamp index vs then refused Wide
+    else Line index place (parts_of t.entries size stamp index) (eager_line t.entries stamp index vs)
 
 -- the place, the stamp, the index and the arguments that are heard in bytes, or the cause that is met
 unfoldable pub read_of : Catalog → List ℕ → Read (Option ℕ × Vals × ℕ × Vals)
 read_of t bytes = message_at t bytes
 
 -- what is told of a message that was read, or refused
-abbrev pub of_read : Catalog → Read (Option ℕ × Vals × ℕ × Vals) → Event
-of_read t (Ok heard) = of_heard t heard.0 heard.1 heard.2 heard.3
-of_read t (Err cause) = Bad (cause_number cause)
+abbrev pub of_read : Catalog → ℕ → Read (Option ℕ × Vals × ℕ × Vals) → Event
+of_read t size (Ok heard) = of_heard t size heard.0 heard.1 heard.2 heard.3
+of_read t size (Err cause) = Bad (cause_number cause)
 
 -- what is told of the bytes that a piece stands for as a code, where it is one
-abbrev pub of_code : Catalog → Option (List ℕ) → Event
-of_code t None = refused Cobs
-of_code t (Some bytes) = of_read t (read_of t bytes)
+abbrev pub of_code : Catalog → ℕ → Option (List ℕ) → Event
+of_code t size None = refused Cobs
+of_code t size (Some bytes) = of_read t size (read_of t bytes)
 
 -- what each part of a stream tells
 unfoldable pub tells : Catalog → Tells Event
 tells t = record {
-  piece = λ piece. of_code t (decoded piece);
+  piece = λ piece. of_code t (length piece) (decoded piece);
   long = refused Long;
   cut_front = λ n. CutFront n;
   cut_tail = λ n. CutTail n;
@@ -88,7 +90,7 @@ event_of t piece = of_piece (tells t) piece
 
 -- the line with this text
 abbrev pub line_with : Origin → List ℕ → Event
-line_with origin text = Line origin.index origin.place text
+line_with origin text = Line origin.index origin.place origin.parts text
 
 -- the text of a line at the front of a buffer is UTF-8
 abbrev pub IsPrinted : List ℕ → Notice Event Origin → Type 0

@@ -11,6 +11,7 @@ use Rattle.defmt_encode.specs.Carry.{message_of}
 use Rattle.defmt_encode.specs.Placed.{HasPlace}
 use Rattle.defmt_values.specs.Sound.{AreSound}
 use Rattle.defmt_intern.specs.Stamp.{stamp_of}
+use Rattle.defmt_plan.specs.Told.{parts_of}
 use Rattle.defmt_decode.specs.declared.event.Event.{Event}
 use Rattle.defmt_decode.specs.declared.event.Event.TheVariants.{Line, CutFront, CutTail}
 
@@ -27,7 +28,9 @@ code_of t s = canon (message_of t.entries s.place s.stamp s.index s.args)
 
 -- its line
 abbrev pub line_of : Catalog → Sent → Event
-line_of t s = Line s.index s.place (eager_line t.entries s.stamp s.index s.args)
+line_of t s =
+    Line s.index s.place (parts_of t.entries (length (code_of t s)) s.stamp s.index)
+    (eager_line t.entries s.stamp s.index s.args)
 
 -- There is a place exactly in the second profile, the stamp and the statement fit, the statement is logged, their texts aren't
 -- too wide, and the code has at most 65,536 bytes.

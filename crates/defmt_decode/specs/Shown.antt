@@ -28,5 +28,5 @@ shows_line rules t index = shows_found rules (look t index)
 
 -- every event that is no line is shown
 abbrev pub shows : Rules → Map → Event → Bool
-shows rules t (Line index place text) = shows_line rules t index
+shows rules t (Line index place parts text) = shows_line rules t index
 shows rules t event = true

@@ -3,6 +3,7 @@
 ghost use Rattle.std.specs.Prelude.{◌≡◌, [], ◌∷◌, ◌++◌, OnOk, OnErr};
 
 use defmt_grammar::Text;
+use defmt_plan::Parts;
 use dl_io::Memory;
 use std::alloc::Global;
 use std::marker::Model;
@@ -16,6 +17,8 @@ pub enum Event {
         index: u16,
         /// The place of its frame, the number of its mark modulo 65,536: there is one exactly in profile Two.
         place: Option<u16>,
+        /// The parts of its line.
+        parts: Parts,
         /// Its printed line, without a newline.
         text: Text,
     },

@@ -10,6 +10,7 @@ ghost use Rattle.defmt_eager.specs.Line.{eager_line, IsWide};
 ghost use Rattle.defmt_encode.specs.Carry.{message_of};
 ghost use Rattle.defmt_encode.specs.Heard.{IsHeard};
 ghost use Rattle.defmt_values.specs.Plain.{Vals};
+ghost use Rattle.defmt_plan.specs.Told.{parts_of};
 ghost use Rattle.defmt_decode.specs.declared.event.Event.TheVariants.{Line};
 ghost use Rattle.defmt_decode.specs.Event.{IsEventOf, PlaceSuits, event_of, events_of, begun_of, tells};
 ghost use Rattle.defmt_decode.specs.Sent.{Sent, IsSent, AreSent, code_of, line_of, stream_of, sent_from, sent_by, front_event, tail_event};
@@ -66,7 +67,8 @@ pub fn intact_frames()
         → (IsWide t.entries stamp index vs → ⊥)
         → events_of t (p ++ (0 ∷ (c ++ (0 ∷ q))))
         ≡ events_of t (p ++ 0 ∷ [])
-        ++ (Line index place (eager_line t.entries stamp index vs) ∷ events_of t (0 ∷ q)) }
+        ++ (Line index place (parts_of t.entries (length c) stamp index)
+        (eager_line t.entries stamp index vs) ∷ events_of t (0 ∷ q)) }
     ensures sent { (t : Catalog) (p q : List ℕ) (s : Sent) → IsSent t s
         → events_of t (p ++ (0 ∷ (code_of t s ++ (0 ∷ q))))
         ≡ events_of t (p ++ 0 ∷ []) ++ (line_of t s ∷ events_of t (0 ∷ q)) }

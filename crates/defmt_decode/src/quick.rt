@@ -1,13 +1,12 @@
 //! The line of a message that is heard, written into a buffer.
 
 ghost use Rattle.std.specs.Prelude.{◌≡◌, IfSome};
-ghost use Rattle.defmt_eager.specs.Answers.{PlacedNarrow};
-ghost use Rattle.defmt_eager.specs.Line.{eager_line, IsWide};
+ghost use Rattle.defmt_eager.specs.Answers.{PutsParted};
 ghost use Rattle.defmt_encode.specs.Carry.{stamp_args};
 ghost use Rattle.defmt_values.specs.Plain.{uint};
 ghost use Rattle.defmt_values.specs.View.{plain};
 
-use defmt_eager::put_line;
+use defmt_eager::{Front, put_parted_line};
 use defmt_encode::Heard;
 use defmt_intern::Table;
 use defmt_values::{Args, Value};
@@ -40,12 +39,10 @@ fn lone_stamp(stamp: &Args) -> Option<Option<u64>>
 
 // Writes the line of a message that is heard to the front of a buffer, where its stamp is one number or none, neither text is too
 // wide, and there is room. `None` says nothing of the message.
-pub(crate) fn put_heard(table: &Table, heard: &Heard, out: &mut [u8]) -> Option<usize>
-    ensures { IfSome result (λ end. PlacedNarrow
-        (IsWide table.now.entries heard.now.stamp heard.now.stm.index heard.now.stm.args)
-        out.old 0 out.new end
-        (eager_line table.now.entries heard.now.stamp heard.now.stm.index heard.now.stm.args)) }
+pub(crate) fn put_heard(table: &Table, heard: &Heard, out: &mut [u8]) -> Option<(Front, usize)>
+    ensures { IfSome result (λ told. PutsParted (Some told) table.now.entries heard.now.stamp
+        heard.now.stm.index heard.now.stm.args out.old 0 out.new) }
 {
     let stamp = lone_stamp(&heard.stamp)?;
-    put_line(table, stamp, &heard.stm, out, 0)
+    put_parted_line(table, stamp, &heard.stm, out, 0)
 }

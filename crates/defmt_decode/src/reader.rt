@@ -12,9 +12,9 @@ ghost use Rattle.defmt_framing.specs.Told.{Tells};
 ghost use Rattle.defmt_framing.specs.Wholes.{IsWhole};
 
 use crate::event::Event;
-use crate::notices::{line_behind, notice_behind, notice_in_front};
+use crate::notices::{line_behind, notice_behind, notice_in_front, origin_of};
 use crate::room::{line_room, make_room, room_behind};
-use defmt_eager::{EagerFault, line};
+use defmt_eager::{EagerFault, parted_line};
 use defmt_encode::{COBS, Heard, LONG, WIDE};
 use defmt_framing::{Framer, Notice, Teller, decode_piece, decode_zeroless_piece};
 use defmt_grammar::Text;
@@ -129,13 +129,23 @@ impl Reader {
             return Ok((start + size + 1, Notice::Event(Refusal::Cobs.event())));
         };
         let code = &self.buffer[begin..];
-        let end = room_behind(text, at, code.len())?;
-        if let Some((origin, count)) = line_behind(&self.table, code, text, at, end) {
+        let end = room_behind(text, at)?;
+        let whole = piece.len() as u32;
+        if let Some((origin, count)) = line_behind(&self.table, code, whole, text, at, end) {
             framer.pass_piece::<Event>(bytes, start, size);
             return Ok((start + size + 1, Notice::Line(origin, count)));
         }
         let table = self.table.table();
-        let notice = notice_behind(self.alloc, table, code, text, at, end, &mut self.heard)?;
+        let notice = notice_behind(
+            self.alloc,
+            table,
+            code,
+            whole,
+            text,
+            at,
+            end,
+            &mut self.heard,
+        )?;
         framer.pass_piece::<Event>(bytes, start, size);
         Ok((start + size + 1, notice))
     }
@@ -158,6 +168,7 @@ impl Teller for Reader {
                     self.alloc,
                     &self.table,
                     bytes,
+                    piece.len() as u32,
                     line,
                     &mut self.heard,
                 )?;
@@ -195,6 +206,18 @@ fn text_of(alloc: Global, bytes: &[u8]) -> Result<Text, Memory>
     }
 }
 
+// The event of a line with this text.
+fn event_of_line(origin: Origin, text: Text) -> Event
+    ensures { result ≡ line_with origin text }
+{
+    Event::Line {
+        index: origin.index,
+        place: origin.place,
+        parts: origin.parts,
+        text,
+    }
+}
+
 // The event that a notice tells, with the text of a line as its own.
 fn event_of_notice(
     alloc: Global,
@@ -209,11 +232,7 @@ fn event_of_notice(
     match notice {
         Notice::Nothing => unreachable!(),
         Notice::Event(event) => Ok(event),
-        Notice::Line(origin, size) => Ok(Event::Line {
-            index: origin.index,
-            place: origin.place,
-            text: text_of(alloc, &line[..size])?,
-        }),
+        Notice::Line(origin, size) => { Ok(event_of_line(origin, text_of(alloc, &line[..size])?)) }
     }
 }
 
@@ -222,19 +241,16 @@ pub(crate) fn event_of_heard(
     alloc: Global,
     table: &Table,
     bytes: &[u8],
+    size: u32,
     heard: &Heard,
 ) -> Result<Event, Memory>
     requires { IsHeard table.now bytes.now heard.now.place heard.now.stamp heard.now.stm.index
         heard.now.stm.args }
-    ensures { IfOk result (λ event. event ≡ of_heard table.now heard.now.place heard.now.stamp
+    ensures { IfOk result (λ event. event ≡ of_heard table.now size heard.now.place heard.now.stamp
         heard.now.stm.index heard.now.stm.args) }
 {
-    match line(alloc, table, &heard.stamp, &heard.stm) {
-        Ok(text) => Ok(Event::Line {
-            index: heard.stm.index,
-            place: heard.place,
-            text,
-        }),
+    match parted_line(alloc, table, &heard.stamp, &heard.stm) {
+        Ok((front, text)) => Ok(event_of_line(origin_of(heard, size, front), text)),
         Err(EagerFault::Wide) => Ok(Refusal::Wide.event()),
         Err(EagerFault::Memory) => Err(Memory),
     }

@@ -2,20 +2,18 @@
 
 ghost use Rattle.std.specs.Prelude.{◌≡◌, ◌≤◌, length, take, IfOk, OnOk};
 
+use defmt_eager::PRINTED_LIMIT;
 use dl_io::Memory;
 
-// The most bytes of a line that is written into a buffer.
-pub(crate) const LONGEST_LINE: usize = 65536;
-
-// The room for a line: this many bytes, and so many for each of the first bytes of its message.
+// The room for a line of its own: this many bytes, and so many for each of the first bytes of its message, up to the limit of texts.
 const LEAST_ROOM: usize = 4096;
 
 const GROWTH: usize = 8;
 
-const ENLARGED: usize = (LONGEST_LINE - LEAST_ROOM) / GROWTH;
+const ENLARGED: usize = (PRINTED_LIMIT - LEAST_ROOM) / GROWTH;
 
 // The least room for lines that stand one behind another.
-const ROOM_FOR_MANY: usize = LONGEST_LINE + LEAST_ROOM;
+const ROOM_FOR_MANY: usize = 2 * PRINTED_LIMIT;
 
 // Makes a buffer as large as it has to be.
 pub(crate) fn make_room(buffer: &mut Vec<u8>, least: usize) -> Result<(), Memory>
@@ -34,14 +32,14 @@ pub(crate) fn line_room(count: usize) -> usize
     count.min(ENLARGED) * GROWTH + LEAST_ROOM
 }
 
-// Makes room behind a place for the line of a message with so many bytes, and answers where that room ends. What stands in front
-// of the place stays.
-pub(crate) fn room_behind(text: &mut Vec<u8>, at: usize, count: usize) -> Result<usize, Memory>
+// Makes room behind a place for any line whose texts aren't long, and answers where that room ends. What stands in front of the place
+// stays.
+pub(crate) fn room_behind(text: &mut Vec<u8>, at: usize) -> Result<usize, Memory>
     requires { at ≤ length text.old.items }
     ensures room { IfOk result (λ end. (at ≤ end) × (end ≤ length text.new.items)) }
     ensures front { take at text.new.items ≡ take at text.old.items }
 {
-    let end = at + line_room(count);
+    let end = at + PRINTED_LIMIT;
     if text.len() < end {
         // Lines follow, so it has room for many.
         text.resize(end.max(ROOM_FOR_MANY), 0)?;

@@ -3,11 +3,11 @@ ghost use Rattle.std.specs.Prelude.{OnOk};
 ghost use Rattle.defmt_values.specs.Fits.{IsLogged};
 
 use crate::reading::{put_cause, put_place};
-use defmt_eager::{EagerFault, line};
+use defmt_eager::{EagerFault, Front, parted_line};
 use defmt_encode::{Heard, read_message};
 use defmt_grammar::Text;
 use defmt_intern::Table;
-use defmt_plan::PlannedTable;
+use defmt_plan::{Origin, PlannedTable};
 use defmt_values::{Args, Statement, check, is_logged, look_up};
 use std::alloc::Global;
 use std::fmt::Write;
@@ -19,8 +19,12 @@ use test_rows::{PLACE, put_str, put_told, room_of, told_of};
 struct Due {
     index: u16,
     place: Option<u16>,
+    front: Front,
     line: Text,
 }
+
+// How many bytes the piece of each message is said to have.
+const PIECE: u32 = 77;
 
 fn logged(table: &Table, index: u16) -> Result<(), &'static str>
     ensures { OnOk result (IsLogged table.now.entries index) }
@@ -31,35 +35,51 @@ fn logged(table: &Table, index: u16) -> Result<(), &'static str>
     }
 }
 
-fn text_of(line: Result<Text, EagerFault>) -> Result<Text, Fail> {
+fn told_line(line: Result<(Front, Text), EagerFault>) -> Result<(Front, Text), Fail> {
     match line {
-        Ok(text) => Ok(text),
+        Ok(told) => Ok(told),
         Err(_) => Err(Fail::new("no line")),
     }
 }
 
 // The line of a statement with a stamp.
-fn line_of(alloc: Global, table: &Table, stamp: Args, stm: &Statement) -> Result<Text, Fail> {
+fn line_of(
+    alloc: Global,
+    table: &Table,
+    stamp: Args,
+    stm: &Statement,
+) -> Result<(Front, Text), Fail> {
     check(table, stm)?;
     logged(table, stm.index)?;
     match table.stamp() {
-        None => text_of(line(alloc, table, &Args::new(alloc), stm)),
+        None => told_line(parted_line(alloc, table, &Args::new(alloc), stm)),
         Some(index) => {
             let stamp = Statement { index, args: stamp };
             check(table, &stamp)?;
-            text_of(line(alloc, table, &stamp.args, stm))
+            told_line(parted_line(alloc, table, &stamp.args, stm))
         }
     }
 }
 
 fn due_of(alloc: Global, table: &Table, heard: Heard) -> Result<Due, Fail> {
     let Heard { place, stamp, stm } = heard;
-    let line = line_of(alloc, table, stamp, &stm)?;
+    let (front, line) = line_of(alloc, table, stamp, &stm)?;
     Ok(Due {
         index: stm.index,
         place,
+        front,
         line,
     })
+}
+
+// Whether a line comes from where it is due.
+fn is_due(origin: Origin, due: &Due) -> bool {
+    let parts = origin.parts;
+    origin.index == due.index
+        && origin.place == due.place
+        && parts.bytes == PIECE
+        && parts.stamp == due.front.stamp
+        && parts.front == due.front.size
 }
 
 // What the plans make of a message in a room of a size, where this is read of it.
@@ -74,9 +94,9 @@ fn told_in(
     if room.len() < PLACE {
         return Err(Fail::new("no place"));
     }
-    let end = match planned.message(bytes, &mut room, PLACE) {
+    let end = match planned.message(bytes, PIECE, &mut room, PLACE) {
         None => None,
-        Some((origin, end)) if origin.index == due.index && origin.place == due.place => Some(end),
+        Some((origin, end)) if is_due(origin, due) => Some(end),
         Some(_) => return Ok("another message"),
     };
     Ok(told_of(&room, end, due.line.as_str()))
@@ -118,7 +138,7 @@ fn put_refused(
     if room.len() < PLACE {
         return Err(Fail::new("no place"));
     }
-    let told = planned.message(bytes, &mut room, PLACE);
+    let told = planned.message(bytes, PIECE, &mut room, PLACE);
     let end = told.map(|told| told.1);
     put_str(out, told_of(&room, end, ""))?;
     out.push(' ')?;

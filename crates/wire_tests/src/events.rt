@@ -125,7 +125,12 @@ fn put_line(out: &mut String, index: u16, place: Option<u16>, line: &Text) -> Re
 
 fn put_event(out: &mut String, event: &Event) -> Result<(), Fail> {
     match event {
-        Event::Line { index, place, text } => put_line(out, *index, *place, text),
+        Event::Line {
+            index,
+            place,
+            text,
+            ..
+        } => put_line(out, *index, *place, text),
         Event::Bad { cause } => Ok(write!(out, "E{cause}")?),
         Event::CutFront { bytes } => Ok(write!(out, "front {bytes}")?),
         Event::CutTail { bytes } => Ok(write!(out, "tail {bytes}")?),

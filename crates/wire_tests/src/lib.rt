@@ -14,6 +14,8 @@ mod gaps;
 #[cfg(test)]
 mod hearing;
 #[cfg(test)]
+mod line_parts;
+#[cfg(test)]
 mod messages;
 #[cfg(test)]
 mod parts;

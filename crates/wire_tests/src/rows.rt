@@ -1,5 +1,5 @@
 //! The rows of the tests, by what is asked of their inputs.
-use crate::{codes, events, gaps, hearing, messages, parts, plans, reading, screens};
+use crate::{codes, events, gaps, hearing, line_parts, messages, parts, plans, reading, screens};
 use std::alloc::Global;
 use std::test::Fail;
 use test_rows::Question;
@@ -16,6 +16,7 @@ pub enum Kind {
     EventCallsOf,
     ToldByScript,
     ToldByTable,
+    LineParts,
     GapOf,
     Shown,
     Sent,
@@ -45,6 +46,7 @@ impl Question for Kind {
             Self::EventCallsOf => events::put_calls_of(alloc, input, out),
             Self::ToldByScript => events::put_told_by_script(alloc, input, out),
             Self::ToldByTable => events::put_told_by_table(alloc, input, out),
+            Self::LineParts => line_parts::put_line_parts(alloc, input, out),
             Self::GapOf => gaps::put_gap_of(input, out),
             Self::Shown => screens::put_shown_of(alloc, input, out),
             Self::Sent => messages::put_sent(alloc, input, out),

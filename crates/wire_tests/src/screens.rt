@@ -5,7 +5,7 @@ ghost use Rattle.defmt_hooks.specs.Kept.{keeps};
 
 use crate::rows::Kind;
 use crate::strings::table_of;
-use defmt_decode::{Event, Events, Host, Screen};
+use defmt_decode::{Event, Events, Host, Parts, Screen};
 use defmt_grammar::Text;
 use defmt_hooks::{Hook, Judge, Level, Rules, Watch, keeps, read_rules};
 use defmt_intern::Table;
@@ -34,6 +34,11 @@ fn events_of(alloc: Global) -> Result<Events, Fail> {
         events.push(Event::Line {
             index,
             place: None,
+            parts: Parts {
+                bytes: 2,
+                stamp: 0,
+                front: 0,
+            },
             text,
         })?;
     }

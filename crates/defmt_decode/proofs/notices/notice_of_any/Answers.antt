@@ -7,10 +7,10 @@ pub returns-in-Err-Bad : goal.returns-in-Err-Bad
 returns-in-Err-Bad c = record {
   told = ap (λ (e : Event). Some e)
       (rw c.in-Err-Bad.cause-is
-      (sym (met_read c.args.table.now c.args.bytes.now c.in-Err-Bad.cause (rw c.in-Err-Bad.field-0-is at c.in-Err-Bad.ensures.answer))));
+      (sym (met_read c.args.table.now c.args.bytes.now c.args.size c.in-Err-Bad.cause (rw c.in-Err-Bad.field-0-is at c.in-Err-Bad.ensures.answer))));
   text = tt;
   utf8 = tt;
 }
 
 pub returns-in-Ok : goal.returns-in-Ok
-returns-in-Ok c = rw (heard_read c.args.table.now c.args.bytes.now _ _ _ _ c.in-Ok.ensures.answer) c.notice_of_heard.ensures
+returns-in-Ok c = rw (heard_read c.args.table.now c.args.bytes.now c.args.size _ _ _ _ c.in-Ok.ensures.answer) c.notice_of_heard.ensures
