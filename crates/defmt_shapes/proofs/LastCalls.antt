@@ -1,5 +1,6 @@
 -- A call without a variant that goes up to the end of a text.
 use Rattle.std.proofs.Common.{◌≡◌, ℕ, true, false, List, [], ◌∷◌, ◌++◌, refl, sym, ap, subst, ◌∙◌, Option, Some, None}
+use Rattle.std.specs.List.{list_all}
 use Rattle.std.proofs.lemmas.Bool.{both_ways}
 use Rattle.std.proofs.lemmas.List.{append-nil}
 use Rattle.defmt_grammar.specs.Cut.{behind, before}
@@ -7,7 +8,7 @@ use Rattle.defmt_grammar.proofs.Cuts.{behind_again, behind_found, before_again, 
 use Rattle.defmt_shapes.specs.declared.parts.Class.TheVariants.{Word}
 use Rattle.defmt_shapes.specs.Runs.{in_class, run}
 use Rattle.defmt_shapes.specs.Shape.{HeadShape, Shapes, SpellsShapes, call, is_name}
-use Rattle.defmt_shapes.specs.Spelling.{IsLastCall}
+use Rattle.defmt_shapes.specs.Spelling.{IsLastCall, closes_at_once}
 use Rattle.defmt_shapes.proofs.LeadForms.{name_words}
 use Rattle.defmt_shapes.proofs.RunLaws.{run_again, run_found}
 
@@ -36,12 +37,25 @@ no_closing text name inside values p e opens none h =
     let same : values ≡ inside ++ 41 ∷ [] = cc in
     is_none (before 41 values) inside none (ap (before 41) same ∙ before_again 41 inside)
 
-pub call_found : (text values inside : List ℕ) (p : List ℕ × List ℕ) → p ≡ run (in_class Word) text → is_name p.0 ≡ true → Some values ≡ behind 40 p.1 → Some inside ≡ before 41 values → IsLastCall text p.0 inside
-call_found text values inside p e is opens closes = record {
+-- more than closing brackets stand behind the first one
+pub closes_early : (text name inside values own : List ℕ) (p : List ℕ × List ℕ) → p ≡ run (in_class Word) text → Some values ≡ behind 40 p.1 → Some own ≡ before 41 values → closes_at_once own ≡ false → IsLastCall text name inside → ⊥
+closes_early text name inside values own p e opens closes not h =
+    let both : Some values ≡ Some (inside ++ 41 ∷ []) = opens ∙ ap (behind 40) (call_parts text name inside p e h).1 ∙ behind_again 40 (inside ++ 41 ∷ []) in
+    let same : values ≡ inside ++ 41 ∷ [] = cc in
+    let found : Some own ≡ Some inside = closes ∙ ap (before 41) same ∙ before_again 41 inside in
+    let is : own ≡ inside = cc in
+    both_ways (closes_at_once own) not (ap closes_at_once is ∙ h.at_once)
+
+pub call_found : (text values inside : List ℕ) (p : List ℕ × List ℕ) → p ≡ run (in_class Word) text → is_name p.0 ≡ true → Some values ≡ behind 40 p.1 → Some inside ≡ before 41 values → closes_at_once inside ≡ true → IsLastCall text p.0 inside
+call_found text values inside p e is opens closes once = record {
+  at_once = once;
   name_is = is;
   text_is = subst (λ (q : List ℕ × List ℕ). text ≡ q.0 ++ q.1) (sym e) (run_found (in_class Word) text).text_is
       ∙ ap (λ (t : List ℕ). p.0 ++ t) (behind_found 40 p.1 values (sym opens) ∙ ap (λ (t : List ℕ). 40 ∷ t) (before_found 41 values inside (sym closes)));
 }
+
+pub words_in : (text : List ℕ) (p : List ℕ × List ℕ) → p ≡ run (in_class Word) text → list_all (in_class Word) p.0 ≡ true
+words_in text p e = rw e (run_found (in_class Word) text).passes
 
 -- where the inside spells values, the text is the call of these
 pub call_there : (text name inside : List ℕ) (ss : Shapes) → IsLastCall text name inside → SpellsShapes inside ss → HeadShape text (call name None ss) []

@@ -1,6 +1,7 @@
 -- What the code tells of a value.
-use Rattle.std.specs.Prelude.{◌≡◌, ◌<◌, ◌≤◌, ◌^◌, ℕ, Bool, ◌==◌, ◌||◌, is_some, List, [], ◌∷◌, ◌++◌, length, Option, Some, None, Result, Ok, Err}
+use Rattle.std.specs.Prelude.{◌≡◌, ◌<◌, ◌≤◌, ◌^◌, ℕ, Bool, true, ◌==◌, ◌||◌, if◌then◌else◌, is_some, List, [], ◌∷◌, ◌++◌, length, Option, Some, None, Result, Ok, Err}
 use Rattle.std.specs.Borrow.{Bor}
+use Rattle.std.specs.List.{list_all}
 use Rattle.defmt_grammar.specs.Cut.{behind, skip_spaces}
 use Rattle.dl_io.specs.declared.fault.Memory.{Memory}
 use Rattle.defmt_shapes.specs.declared.number.Number.{Number}
@@ -71,10 +72,19 @@ abbrev pub FindsItem : List ℕ → Result (Option (Item × Bor (List ℕ))) Mem
 FindsItem text (Ok o) = IsItem text o
 FindsItem text (Err e) = Unit {0}
 
--- the text is this name, `(`, this inside and `)`
+abbrev pub is_closing : ℕ → Bool
+is_closing c = c == 41
+
+-- nothing but `)` stands behind the first `)`
+abbrev pub closes_at_once : List ℕ → Bool
+closes_at_once [] = true
+closes_at_once (c ∷ cs) = if is_closing c then list_all is_closing cs else closes_at_once cs
+
+-- the text is this name, `(`, this inside and `)`, and no bracket closes before the last ones
 pub record IsLastCall (text name inside : List ℕ) : Type 0 where
   pub name_is : IsName name
   pub text_is : text ≡ name ++ 40 ∷ (inside ++ 41 ∷ [])
+  pub at_once : closes_at_once inside ≡ true
 
 -- the two, or that the text is no such
 abbrev pub FindsLastCall : List ℕ → Option (Bor (List ℕ) × Bor (List ℕ)) → Type 0

@@ -3,6 +3,7 @@
 //! So `0x1F` spells the number 31, and `true x` begins with a truth value, behind which two bytes stand (script_tests, `shapes`).
 #![tactic(auto)]
 
+mod calls;
 mod digits;
 mod escape;
 mod head;
@@ -14,11 +15,10 @@ mod quick;
 mod scan;
 mod spelling;
 
+pub use calls::last_call;
 pub use laws::{element_by_element, one_head, one_shape, value_by_value};
 pub use meaning::{bytes_of, unescape};
 pub use number::Number;
 pub use parts::{is_name, skip_spaces};
-pub use quick::{
-    quick_bytes, quick_decimal, quick_flag, quick_last_call, quick_negative, quick_quoted,
-};
+pub use quick::{quick_bytes, quick_decimal, quick_flag, quick_negative, quick_quoted};
 pub use spelling::{Item, Spelling, first_item, first_value};

@@ -1,12 +1,10 @@
 //! Quick readers of the values that scripts mostly have. What they leave is asked of the general reader, `first_value`.
 
-mod calls;
 mod numbers;
 mod pairs;
 mod quotes;
 mod words;
 
-pub use calls::quick_last_call;
 pub use numbers::{quick_decimal, quick_negative};
 pub use pairs::quick_bytes;
 pub use quotes::quick_quoted;

@@ -24,7 +24,7 @@ fn read_whole(
     ensures { Reads names.now table.now.entries index text.now result }
 {
     let pieces = own_form(table, index)?;
-    let (args, _) = read_values(alloc, names, table, pieces, 16, 1, 0, true, text)?;
+    let (args, _) = read_values(alloc, names, table, pieces, 16, 1, 0, text)?;
     Ok(args)
 }
 

@@ -28,7 +28,6 @@ pub fn read_value(
     left: u8,
     weight: usize,
     sum: usize,
-    quick: bool,
     spelling: Spelling<'_>,
 ) -> Result<(Value, usize), ArgFault>
     requires sum { sum ≤ 8192 }
@@ -45,10 +44,10 @@ pub fn read_value(
             variant,
             inside,
         } => read_node(
-            alloc, names, table, slot, left, weight, sum, quick, name, variant, inside,
+            alloc, names, table, slot, left, weight, sum, name, variant, inside,
         ),
         Spelling::Sequence { name, inside } => read_list(
-            alloc, names, table, slot, left, weight, sum, quick, name, inside,
+            alloc, names, table, slot, left, weight, sum, name, inside,
         ),
         leaf => read_leaf(alloc, names, table, slot, sum, leaf),
     }
@@ -64,7 +63,6 @@ pub fn read_node(
     left: u8,
     weight: usize,
     sum: usize,
-    quick: bool,
     name: &str,
     variant: Option<Number>,
     inside: &str,
@@ -88,7 +86,6 @@ pub fn read_node(
         left - 1,
         weight,
         sum,
-        quick,
         variant,
         inside,
     )?;
@@ -113,7 +110,6 @@ fn read_list(
     left: u8,
     weight: usize,
     sum: usize,
-    quick: bool,
     name: &str,
     inside: &str,
 ) -> Result<(Value, usize), ArgFault>
@@ -126,17 +122,7 @@ fn read_list(
 {
     check_list(slot)?;
     let (index, form) = find_form(names, table, left, name)?;
-    let (items, sum) = read_items(
-        alloc,
-        names,
-        table,
-        form,
-        left - 1,
-        weight,
-        sum,
-        quick,
-        inside,
-    )?;
+    let (items, sum) = read_items(alloc, names, table, form, left - 1, weight, sum, inside)?;
     check_count(slot, items.len())?;
     Ok((
         Value::Seq(Seq {
@@ -157,7 +143,6 @@ fn read_items(
     left: u8,
     weight: usize,
     sum: usize,
-    quick: bool,
     text: &str,
 ) -> Result<(Items, usize), ArgFault>
     requires sum { sum ≤ 8192 }
@@ -180,7 +165,6 @@ fn read_items(
             left,
             weight,
             total,
-            quick,
             told.variant,
             told.inside,
         )?;
@@ -201,7 +185,6 @@ fn read_item(
     left: u8,
     weight: usize,
     sum: usize,
-    quick: bool,
     variant: Option<Number>,
     inside: &str,
 ) -> Result<(Item, usize), ArgFault>
@@ -216,8 +199,6 @@ fn read_item(
 {
     let sum = add(weight, sum)?;
     let (pieces, variant) = find_pieces(form, variant)?;
-    let (args, sum) = read_values(
-        alloc, names, table, pieces, left, weight, sum, quick, inside,
-    )?;
+    let (args, sum) = read_values(alloc, names, table, pieces, left, weight, sum, inside)?;
     Ok((Item { variant, args }, sum))
 }

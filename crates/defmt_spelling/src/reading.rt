@@ -1,8 +1,9 @@
 //! Reading the values of a text, one after another.
-ghost use Rattle.std.specs.Prelude.{◌≤◌, IfOk};
+ghost use Rattle.std.specs.Prelude.{◌≤◌, Ok, IfOk};
+ghost use Rattle.std.specs.Bool.{OnTrue};
 ghost use Rattle.std.specs.Str.{IsUtf8};
 ghost use Rattle.defmt_grammar.specs.Slots.{IsSound};
-ghost use Rattle.defmt_spelling.specs.Reading.{ReadsValues, ReadsFront, SmallValue, SmallFront};
+ghost use Rattle.defmt_spelling.specs.Reading.{ReadsValues, ReadsFront, SmallValue, SmallFront, SpellsSome};
 ghost use Rattle.defmt_values.specs.Entries.{places_of};
 
 use crate::fault::{ArgFault, Cause};
@@ -11,12 +12,12 @@ use crate::nested::{read_node, read_value};
 use crate::quick::push_quick;
 use defmt_grammar::{Kind, Pieces, Slot};
 use defmt_intern::Table;
-use defmt_shapes::{first_value, quick_last_call, skip_spaces};
+use defmt_shapes::{first_value, last_call, skip_spaces};
 use defmt_values::{Args, Value, cut};
+use dl_io::Memory;
 use std::alloc::Global;
 
-/// The values of a text, in a text that has this weight. The value is the same with `quick` and without; with it the
-/// last Format value of a text is tried without a search for its closing bracket.
+/// The values of a text, in a text that has this weight.
 #[cycle(read)]
 pub fn read_values(
     alloc: Global,
@@ -26,7 +27,6 @@ pub fn read_values(
     left: u8,
     weight: usize,
     sum: usize,
-    quick: bool,
     text: &str,
 ) -> Result<(Args, usize), ArgFault>
     requires sum { sum ≤ 8192 }
@@ -56,7 +56,6 @@ pub fn read_values(
             left,
             weight_there,
             total,
-            quick,
             last,
             rest,
         )?;
@@ -83,7 +82,6 @@ fn read_front<'a>(
     left: u8,
     weight: usize,
     sum: usize,
-    quick: bool,
     text: &'a str,
 ) -> Result<(Value, usize, &'a str), ArgFault>
     requires sum { sum ≤ 8192 }
@@ -99,15 +97,23 @@ fn read_front<'a>(
     let Some((spelling, rest)) = first_value(alloc, text)? else {
         return Err(Cause::Syntax.into());
     };
-    let (value, sum) = read_value(
-        alloc, names, table, slot, left, weight, sum, quick, spelling,
-    )?;
+    let (value, sum) = read_value(alloc, names, table, slot, left, weight, sum, spelling)?;
     Ok((value, sum, rest))
 }
 
+// Whether a text spells values, of any kinds.
+fn are_values(alloc: Global, text: &str) -> Result<bool, Memory>
+    ensures { IfOk result (λ are. OnTrue are (SpellsSome text.now)) }
+{
+    let mut rest = text;
+    'each: while let Some((_, more)) = first_value(alloc, skip_spaces(rest))? {
+        rest = more;
+    }
+    Ok(skip_spaces(rest).is_empty())
+}
+
 // The first value of a text, which may be its last, and what follows it. A last Format value that goes up to the text's end is read
-// without a search for its closing bracket. Where it can't be read so, the way of all values reads it or finds the cause, and looks for
-// every bracket inside: a second try at each level would double the readings from level to level.
+// without a search for its closing bracket. Where it can't be read so, and its inside spells no values, it ends elsewhere or nowhere.
 #[cycle(read)]
 fn read_next<'a>(
     alloc: Global,
@@ -117,7 +123,6 @@ fn read_next<'a>(
     left: u8,
     weight: usize,
     sum: usize,
-    quick: bool,
     last: bool,
     text: &'a str,
 ) -> Result<(Value, usize, &'a str), ArgFault>
@@ -127,18 +132,24 @@ fn read_next<'a>(
     ensures small { SmallFront result }
     ensures utf8 { IfOk result (λ r. IsUtf8 r.2.now) }
 {
-    if quick
-        && last
+    if last
         && let Slot::One(Kind::Format) = slot
-        && let Some((name, inside)) = quick_last_call(skip_spaces(text))
+        && let Some((name, inside)) = last_call(skip_spaces(text))
     {
-        if let Ok((value, sum)) = read_node(
-            alloc, names, table, slot, left, weight, sum, true, name, None, inside,
+        match read_node(
+            alloc, names, table, slot, left, weight, sum, name, None, inside,
         ) {
-            let (_, rest) = text.split_at(text.len());
-            return Ok((value, sum, rest));
+            Ok((value, sum)) => {
+                let (_, rest) = text.split_at(text.len());
+                return Ok((value, sum, rest));
+            }
+            Err(fault) => {
+                let spelled = are_values(alloc, inside)?;
+                if spelled {
+                    return Err(fault);
+                }
+            }
         }
-        return read_front(alloc, names, table, slot, left, weight, sum, false, text);
     }
-    read_front(alloc, names, table, slot, left, weight, sum, quick, text)
+    read_front(alloc, names, table, slot, left, weight, sum, text)
 }

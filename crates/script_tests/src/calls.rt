@@ -4,7 +4,7 @@ use crate::readers::put_both;
 use crate::rows::Kind;
 use crate::texts::{inside_of, script_of};
 use defmt_intern::Table;
-use defmt_shapes::{quick_decimal, quick_last_call, skip_spaces};
+use defmt_shapes::{last_call, quick_decimal, skip_spaces};
 use defmt_spelling::Names;
 use std::alloc::Global;
 use std::test::Fail;
@@ -32,9 +32,9 @@ const CALLS: &str = r#"<z(!)!> = quick <z()>
 <n(n(n(n(n(n(n(n(n(n(n(n(n(n(n(n(z(!)!)!)!)!)!)!)!)!)!)!)!)!)!)!)!)!)!> = quick cause 6
 <n(opt:1(num(7!)!)!)!> = quick <n(opt:1(num(7)))>
 <opt:0(!)!> = left <opt:0()>
-<pair(")" z(!)!)!> = quick <pair(")" z())>
+<pair(")" z(!)!)!> = left <pair(")" z())>
 <pair("(" pair("a\"" z(!)!)!)!> = quick <pair("(" pair("a\"" z()))>
-<list(z[() ()]!)!> = quick <list(z[() ()])>
+<list(z[() ()]!)!> = left <list(z[() ()])>
 <list([]!)!> = quick <list([])>
 <a_1(!)!> = quick <a_1()>
 <a234567890123456789012345678901_(!)!> = quick <a234567890123456789012345678901_()>
@@ -43,12 +43,14 @@ const CALLS: &str = r#"<z(!)!> = quick <z()>
 <num(true!)!> = quick cause 3
 <num(!)!> = quick cause 2
 <z(1!)!> = quick cause 2
-<n(num(1!)! z(!)!)!> = quick cause 2
-<num(1!) num(2!)!> = quick cause 2
-<num(1!)) num(2!)!> = quick cause 1
+<n(num(1!)! z(!)!)!> = left cause 2
+<num(1!) num(2!)!> = left cause 2
+<num(1!)) num(2!)!> = left cause 1
 <num(1!)! 2> = left cause 2
 <num(1!> = left cause 1
 <num 1)> = left cause 1
+<num(x!)!> = quick cause 1
+<n(num(256 x!)!)!> = quick cause 1
 <nobody(!)!> = quick cause 5
 <word(!)!> = quick cause 5
 <_z(!)!> = left cause 1
@@ -101,7 +103,7 @@ fn put_read_both(
 
 // Whether the value of a row is a call up to the row's end.
 fn is_last_call(row: &str) -> Result<bool, Fail> {
-    Ok(quick_last_call(skip_spaces(inside_of(row)?)).is_some())
+    Ok(last_call(skip_spaces(inside_of(row)?)).is_some())
 }
 
 /// Puts what a Format value is read as that ends its text, and one that doesn't.
@@ -145,7 +147,7 @@ pub fn put_quick_number(alloc: Global, row: &str, out: &mut String) -> Result<()
 
 #[test]
 fn calls_up_to_the_end_are_read_as_others(rt: HostRuntime) -> Result<(), Fail> {
-    each_line(rt.alloc(), CALLS, 33, &Kind::QuickCall)
+    each_line(rt.alloc(), CALLS, 35, &Kind::QuickCall)
 }
 
 #[test]

@@ -1,4 +1,5 @@
 use Rattle.std.proofs.Common.{◌∙◌, sym}
+use Rattle.std.proofs.lemmas.Bool.{OnTrue_at}
 use Rattle.std.proofs.lemmas.Result.{err_from_is_err_and}
 use Rattle.defmt_spelling.proofs.Arms as arms
 use Rattle.defmt_spelling.proofs.Calls as calls
@@ -174,3 +175,9 @@ nested::read_item-returns-clause-spelled t c =
 
 pub nested::read_node-returns-clause-spelled : goal.nested::read_node-returns-clause-spelled
 nested::read_node-returns-clause-spelled t c = c.in_ok-item.ensures.spelled
+
+pub reading::read_next-returns-then-spelled-clause-value : goal.reading::read_next-returns-then-spelled-clause-value
+reading::read_next-returns-then-spelled-clause-value t c =
+    let s = OnTrue_at c.if-spelled.true c.in_ok-spelled-in-Err.ensures in
+    calls.call_exit c.args.names.now c.args.table.now.entries c.args.left c.args.slot c.args.weight c.args.sum c.args.text.now c.skip_spaces.result.now c.in-Some.name.now c.in-Some.inside.now c.in-Err.fault s c.skip_spaces.ensures.rest c.in-Some.ensures.parts
+    (c.in-Err.ensures.value None s.shapes tt s.spelled)
