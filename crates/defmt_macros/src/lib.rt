@@ -8,7 +8,9 @@
 //! So each macro puts the number 7 for `{=u8}` at index 1 as `01 00 07` (device_tests, `macros`).
 #![tactic(auto)]
 
+mod callers;
 mod frame;
+mod laws;
 mod logging;
 mod macros;
 mod putting;
@@ -18,6 +20,7 @@ mod slots;
 pub use defmt_grammar::IntSize;
 pub use defmt_intern::Tag;
 pub use frame::Frame;
+pub use laws::value_by_value;
 pub use logging::{log, put_message};
 pub use site::{Site, SiteFault, stamp_suits};
 pub use slots::Slots;

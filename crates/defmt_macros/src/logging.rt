@@ -1,4 +1,4 @@
-//! A statement that is logged by the macro of its tag.
+//! A statement that is logged with all its values at once.
 ghost use Rattle.std.specs.Prelude.{◌≡◌, ◌≤◌, length, take, drop};
 ghost use Rattle.defmt_encode.specs.Carry.{message_of, stamp_args};
 ghost use Rattle.defmt_encode.specs.Placed.{HasPlace};
@@ -9,8 +9,7 @@ ghost use Rattle.defmt_macros.specs.Stamps.{StampSuits};
 
 use crate::frame::Frame;
 use crate::site::Site;
-use crate::{debug, error, info, println_, trace, warn};
-use defmt_intern::{Table, Tag};
+use defmt_intern::Table;
 use defmt_values::Args;
 
 /// Puts a whole message with the values of all slots, which the form `all args` of the macros expands to. Answers its
@@ -38,37 +37,7 @@ pub fn put_message(
     frame.end()
 }
 
-// As `log`, of any values that fit the site's slots.
-fn by_tag(
-    buf: &mut [u8],
-    table: &Table,
-    site: &Site,
-    place: Option<u16>,
-    stamp: Option<u64>,
-    args: &Args,
-) -> usize
-    requires room { 2000 ≤ length buf.old }
-    requires site { IsSite table.now.entries site.now.index site.now.tag site.now.slots }
-    requires place { HasPlace table.now.profile place }
-    requires stamp { StampSuits table.now.entries stamp }
-    requires fits { FitSlots table.now.entries site.now.slots args.now }
-    requires short { length (whole_of table.now.entries site.now place stamp args.now) ≤ 2000 }
-    ensures count { result ≡ length (whole_of table.now.entries site.now place stamp args.now) }
-    ensures message { take result buf.new ≡ whole_of table.now.entries site.now place stamp args.now }
-    ensures behind { drop result buf.new ≡ drop result buf.old }
-{
-    match site.tag() {
-        Tag::Trace => trace!(buf, table, site, place, stamp; all args),
-        Tag::Debug => debug!(buf, table, site, place, stamp; all args),
-        Tag::Info => info!(buf, table, site, place, stamp; all args),
-        Tag::Warn => warn!(buf, table, site, place, stamp; all args),
-        Tag::Error => error!(buf, table, site, place, stamp; all args),
-        Tag::Println => println_!(buf, table, site, place, stamp; all args),
-        _ => unreachable!(),
-    }
-}
-
-/// Logs the values of all slots by the macro of the site's tag. Answers the length of the message, which stands at the
+/// Logs the values of all slots, as the macro of the site's tag does. Answers the length of the message, which stands at the
 /// buffer's front. What lies behind it is as before.
 ///
 /// The site is of an entry of the table, the values fit it, the place and the stamp suit the table, and the message has at
@@ -94,5 +63,5 @@ pub fn log(
         (stamp_args stamp) site.now.index args.now }
     ensures behind { drop result buf.new ≡ drop result buf.old }
 {
-    by_tag(buf, table, site, place, stamp, args)
+    put_message(buf, table, site, place, stamp, args)
 }
