@@ -3,7 +3,9 @@
 //! The formula stands in docs/FORMATS.md, "The generated script"; the text of ten statements stands in script_tests, `generated`.
 #![tactic(auto)]
 
+mod laws;
 mod script;
 mod statement;
 
-pub use script::{generate, scripts_are_short};
+pub use laws::{generated_lines, generated_reads, scripts_are_short};
+pub use script::generate;

@@ -1,5 +1,5 @@
 //! The text of a generated script.
-ghost use Rattle.std.specs.Prelude.{◌≡◌, ◌≤◌, ℕ, IfOk, length};
+ghost use Rattle.std.specs.Prelude.{◌≡◌, ◌≤◌, IfOk};
 ghost use Rattle.defmt_generate.specs.Generated.{generated};
 
 use crate::statement::push_statement;
@@ -34,8 +34,3 @@ pub fn generate(alloc: Global, n: u32) -> Result<Bytes, Memory>
     }
     Ok(Bytes::from_vec(text.into_bytes()))
 }
-
-/// A generated script is no longer than a script may be, 4,194,304 bytes.
-pub fn scripts_are_short()
-    ensures { (count : ℕ) → count ≤ 4096 → length (generated count) ≤ 4194304 }
-{}

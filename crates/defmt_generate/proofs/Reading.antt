@@ -7,13 +7,13 @@ use Rattle.defmt_eager.specs.Line.{printed_limit}
 use Rattle.defmt_eager.specs.Show.{eager_text}
 use Rattle.defmt_encode.specs.Out.{message_limit}
 use Rattle.defmt_generate.specs.Generated.{drawn, generated}
-use Rattle.defmt_generated.proofs.CallParts.{Call}
-use Rattle.defmt_generated.proofs.Calls.{called}
-use Rattle.defmt_generated.proofs.Fields.{statement_said}
-use Rattle.defmt_generated.proofs.Head.{head_read}
-use Rattle.defmt_generated.proofs.States.{all_counted, all_names, all_settings, full_table, ready}
-use Rattle.defmt_generated.proofs.Lines.{generated_lines, statement_printable}
-use Rattle.defmt_generated.specs.Lines.{head_lines, statement_line, statement_lines}
+use Rattle.defmt_generate.proofs.CallParts.{Call}
+use Rattle.defmt_generate.proofs.Calls.{called}
+use Rattle.defmt_generate.proofs.Fields.{statement_said}
+use Rattle.defmt_generate.proofs.Head.{head_read}
+use Rattle.defmt_generate.proofs.States.{all_counted, all_names, all_settings, full_table, ready}
+use Rattle.defmt_generate.proofs.Lines.{generated_lines, statement_printable}
+use Rattle.defmt_generate.specs.Lines.{head_lines, statement_line, statement_lines}
 use Rattle.defmt_intern.specs.Table.{Map}
 use Rattle.defmt_lines.specs.Form.{in_order}
 use Rattle.defmt_lines.specs.Line.{Line, Says, act}

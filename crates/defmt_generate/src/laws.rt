@@ -1,13 +1,15 @@
-//! Laws of generated scripts (docs/FORMATS.md, "The generated script"): each text reads as a script. The command `gen 10`
-//! of program_tests runs one.
-#![tactic(auto)]
-
-ghost use Rattle.std.specs.Prelude.{◌≡◌, ◌≤◌, ◌++◌, ℕ, Ok};
+//! Laws of generated scripts.
+ghost use Rattle.std.specs.Prelude.{◌≡◌, ◌≤◌, ◌++◌, ℕ, Ok, length};
 ghost use Rattle.std.specs.Str.Lines.{lines};
 ghost use Rattle.defmt_generate.specs.Generated.{generated};
-ghost use Rattle.defmt_generated.specs.Lines.{head_lines, statement_lines};
+ghost use Rattle.defmt_generate.specs.Lines.{head_lines, statement_lines};
 ghost use Rattle.defmt_script.specs.Reads.{Reads};
 ghost use Rattle.defmt_script.specs.Script.{Script, count_all};
+
+/// A generated script is no longer than a script may be, 4,194,304 bytes.
+pub fn scripts_are_short()
+    ensures { (count : ℕ) → count ≤ 4096 → length (generated count) ≤ 4194304 }
+{}
 
 /// The lines of a generated text are the nine that set it up and one for each statement.
 pub fn generated_lines()

@@ -9,7 +9,7 @@ use Rattle.defmt_encode.proofs.Most.{none_most}
 use Rattle.defmt_encode.specs.Carry.{bytes_val, bytes_vals}
 use Rattle.defmt_encode.specs.Out.{HasAtMost, HaveAtMost, message_limit}
 use Rattle.defmt_generate.specs.Generated.{call}
-use Rattle.defmt_generated.proofs.States.{all_names, all_settings, full_table}
+use Rattle.defmt_generate.proofs.States.{all_names, all_settings, full_table}
 use Rattle.defmt_grammar.specs.declared.hint.Hint.TheVariants as hints
 use Rattle.defmt_grammar.specs.declared.kind.Kind.{Kind}
 use Rattle.defmt_grammar.specs.declared.piece.Piece.{Piece}

@@ -11,8 +11,8 @@ use Rattle.defmt_eager.specs.Line.{printed_limit}
 use Rattle.defmt_eager.specs.Show.{int_text, pieces_text, show_val, shows}
 use Rattle.defmt_encode.proofs.Most.{bytes_most as carried_bytes, flag_most, int_most, message_short, str_most}
 use Rattle.defmt_generate.specs.Generated.{call, hex, less_thousand, link, temp}
-use Rattle.defmt_generated.proofs.States.{all_names, entry_there, full_table, name_there}
-use Rattle.defmt_generated.proofs.Words.{link_pieces, link_spells, temp_pieces, temp_spells}
+use Rattle.defmt_generate.proofs.States.{all_names, entry_there, full_table, name_there}
+use Rattle.defmt_generate.proofs.Words.{link_pieces, link_spells, temp_pieces, temp_spells}
 use Rattle.defmt_grammar.specs.Cut.{cut}
 use Rattle.defmt_grammar.specs.Sizes.{IsSigned}
 use Rattle.defmt_grammar.specs.Slots.{kinds_at, positions, slot_of, slots_of}
@@ -34,7 +34,7 @@ use Rattle.defmt_shapes.specs.Shape.{Shape, SpellsBytes, SpellsCharacters, Spell
 use Rattle.defmt_spelling.specs.Meaning.{meant_val, meant_vals, negated}
 use Rattle.defmt_values.specs.Entries.{places_of}
 use Rattle.defmt_values.specs.Plain.{Val, Vals, bytes, flag, int, no_vals, str, val}
-use Rattle.defmt_generated.proofs.CallParts.{Call, Known, is_known, more_most, narrow_known, number, one_most, place, reads_known, two_spelled}
+use Rattle.defmt_generate.proofs.CallParts.{Call, Known, is_known, more_most, narrow_known, number, one_most, place, reads_known, two_spelled}
 
 -- ---- a signed number and three bytes
 

@@ -9,8 +9,8 @@ use Rattle.std.proofs.lemmas.List.Splits.{length-slice_split, slice_split_at}
 use Rattle.std.proofs.lemmas.Bool.{ne_eqb}
 use Rattle.std.proofs.lemmas.Bool.Decides.{nat_tests}
 use Rattle.defmt_generate.specs.Generated.{call, drawn, generated, head, statement, statements}
-use Rattle.defmt_generated.proofs.Texts.{ArePrintable, Printable, are_printable, both, printable-append, printable_call, printable_decimal, tested}
-use Rattle.defmt_generated.specs.Lines.{head_lines, statement_line, statement_lines}
+use Rattle.defmt_generate.proofs.Texts.{ArePrintable, Printable, are_printable, both, printable-append, printable_call, printable_decimal, tested}
+use Rattle.defmt_generate.specs.Lines.{head_lines, statement_line, statement_lines}
 
 -- ---- one line
 

@@ -3,10 +3,10 @@ use Rattle.std.proofs.Common.{◌≡◌, ◌<◌, ◌+◌, ℕ, Bool, true, fals
 use Rattle.std.specs.Prelude.{codes, if◌then◌else◌, is_some, nat_lt, not}
 use Rattle.std.specs.FinMap as map
 use Rattle.std.proofs.lemmas.Bool.Decides.{nat_tests}
-use Rattle.defmt_generated.proofs.Fields.{said}
-use Rattle.defmt_generated.proofs.Texts.{tested}
-use Rattle.defmt_generated.proofs.Words.{boot_pieces, boot_spells, fail_pieces, fail_spells, link_pieces, link_spells, temp_pieces, temp_spells, tick_pieces, tick_spells}
-use Rattle.defmt_generated.specs.Lines.{head_lines}
+use Rattle.defmt_generate.proofs.Fields.{said}
+use Rattle.defmt_generate.proofs.Texts.{tested}
+use Rattle.defmt_generate.proofs.Words.{boot_pieces, boot_spells, fail_pieces, fail_spells, link_pieces, link_spells, temp_pieces, temp_spells, tick_pieces, tick_spells}
+use Rattle.defmt_generate.specs.Lines.{head_lines}
 use Rattle.defmt_grammar.specs.Cut.{cut}
 use Rattle.defmt_grammar.specs.declared.fault.Mode.TheVariants.{Strict}
 use Rattle.defmt_intern.specs.declared.entry.Tag.{Tag}
@@ -26,7 +26,7 @@ use Rattle.defmt_script.specs.Reads.{ReadsLines, Takes, TakesString, admits_stri
 use Rattle.defmt_script.specs.Script.{Script, count_strings}
 use Rattle.defmt_script.specs.Script.{Refusal, Script, count_strings}
 use Rattle.defmt_script.specs.State.{State, no_lines, strings_limit}
-use Rattle.defmt_generated.proofs.States.{four_names, four_strings, four_yet, new_name, no_strings, none_yet, one_name, one_string, one_yet, ready, settled, three_names, three_strings, three_yet, two_names, two_strings, two_yet}
+use Rattle.defmt_generate.proofs.States.{four_names, four_strings, four_yet, new_name, no_strings, none_yet, one_name, one_string, one_yet, ready, settled, three_names, three_strings, three_yet, two_names, two_strings, two_yet}
 
 abbrev Answer : Type 0
 Answer = Result Script Refusal

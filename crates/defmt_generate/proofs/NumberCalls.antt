@@ -8,8 +8,8 @@ use Rattle.defmt_eager.specs.Show.{pieces_text, show_val, shows}
 use Rattle.defmt_encode.proofs.Most.{message_short, uint_most}
 use Rattle.defmt_encode.specs.Out.{message_limit}
 use Rattle.defmt_generate.specs.Generated.{boot, call, fail, tick}
-use Rattle.defmt_generated.proofs.States.{all_names, all_settings, entry_there, full_table, name_there}
-use Rattle.defmt_generated.proofs.Words.{boot_pieces, boot_spells, fail_pieces, fail_spells, tick_pieces, tick_spells}
+use Rattle.defmt_generate.proofs.States.{all_names, all_settings, entry_there, full_table, name_there}
+use Rattle.defmt_generate.proofs.Words.{boot_pieces, boot_spells, fail_pieces, fail_spells, tick_pieces, tick_spells}
 use Rattle.defmt_grammar.specs.Cut.{cut}
 use Rattle.defmt_grammar.specs.Sizes.{size_bits}
 use Rattle.defmt_grammar.specs.Slots.{kinds_at, positions, slot_of, slots_of}
@@ -33,7 +33,7 @@ use Rattle.defmt_spelling.specs.Meaning.{meant_val, meant_vals}
 use Rattle.defmt_spelling.specs.Spelling.{ReadsArguments}
 use Rattle.defmt_values.specs.Entries.{places_of}
 use Rattle.defmt_values.specs.Plain.{no_vals, uint, val}
-use Rattle.defmt_generated.proofs.CallParts.{Call, Known, is_known, last_spelled, narrow_known, number, one_most, place, reads_known}
+use Rattle.defmt_generate.proofs.CallParts.{Call, Known, is_known, last_spelled, narrow_known, number, one_most, place, reads_known}
 
 module _ (index : ℕ) (size : IntSize) (ps : List Piece) (known : Known index ps) (are : places_of ps ≡ place (kinds.Uint size) ∷ []) where
   number_reads : (n : ℕ) → n < 2 ^ 64 → n < 2 ^ size_bits size → ReadsArguments all_names full_table index (decimal n) (Ok (val (uint n) no_vals))

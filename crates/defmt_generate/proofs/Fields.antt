@@ -4,8 +4,8 @@ use Rattle.std.specs.Prelude.{codes, if◌then◌else◌}
 use Rattle.std.specs.Fmt.{decimal, digits}
 use Rattle.std.specs.Str.{is_utf8}
 use Rattle.defmt_generate.specs.Generated.{call, drawn}
-use Rattle.defmt_generated.proofs.Texts.{ArePrintable, printable_utf8}
-use Rattle.defmt_generated.specs.Lines.{statement_line}
+use Rattle.defmt_generate.proofs.Texts.{ArePrintable, printable_utf8}
+use Rattle.defmt_generate.specs.Lines.{statement_line}
 use Rattle.defmt_grammar.specs.Cut.{cut}
 use Rattle.defmt_lines.proofs.LineLaws.{line_found}
 use Rattle.defmt_lines.specs.Line.{Line, Says, act, act_of, field_and_rest, line_of, line_of_known, line_of_text, line_by_word}
