@@ -3,7 +3,7 @@
 /// What is told of the steps of a run, by each of its threads.
 ///
 /// A gate may hold a call as long as it wants. The run goes on once the call has returned. Nothing but a call shows that a gate
-/// was asked or told: a body that leaves a call out has nothing to show.
+/// was asked or told: a body that leaves a call out, or asks another gate, has nothing to show.
 pub trait Gate {
     ghost use Rattle.std.specs.Prelude.{ℕ};
 

@@ -1,4 +1,4 @@
-//! The writers' threads.
+//! What the writers log.
 ghost use Rattle.std.specs.Prelude.{◌≡◌, ◌≤◌, ◌<◌, ◌+◌, false};
 ghost use Rattle.writer_threads.specs.Passing.{PassedAll};
 
@@ -9,7 +9,6 @@ use std::sync::Wait;
 use std::sync::atomic::{AtomicU64, Ordering};
 use std::sync::ledger::Ledger;
 use std::thread;
-use std::thread::{Scope, Threads};
 
 // How many writers there are.
 const WRITERS: u64 = 8;
@@ -26,7 +25,8 @@ impl Relief for Yields {
     }
 }
 
-/// Asks the gate, and then does the pen's next step, of which there is one.
+/// Asks the gate, and then does the pen's next step, of which there is one. That the gate was asked at this place is a clause, that
+/// it was asked before the step isn't; so it is of all that log here.
 pub fn log_next<
     B: Books,
     Q: Quota,
@@ -90,81 +90,6 @@ pub fn log_until<
     }
 }
 
-// One writer's thread.
-fn run_one<B: Books, Q: Quota, T: Work<Q>, S: HasBook<B, L>, L: Ledger, G: Gate, W: Wait>(
-    rt: &W,
-    shared: &Shared<B, Q, T>,
-    pen: &mut Pen<S, L, Q>,
-    gate: &G,
-    ended: &AtomicU64,
-)
-    ensures asked { PassedAll (G.passed gate.now S.NUMBER) pen.old.place pen.new.place }
-{
-    log_all(rt, shared, pen, gate, &mut Yields);
-    ended.fetch_add(1, Ordering::SeqCst);
-}
-
-// Starts a writer's thread, which borrows the writer's pen. A writer that has no steps has ended, and so has one whose thread
-// can't be started.
-fn start<
-    's,
-    E,
-    B: Books + Send,
-    Q: Quota + Send,
-    T: Work<Q> + Send,
-    S: HasBook<B, L> + Send,
-    L: Ledger + Send,
-    G: Gate + Sync,
-    W: Wait + Sync,
->(
-    scope: &Scope<'s, E>,
-    rt: &'s W,
-    shared: &'s Shared<B, Q, T>,
-    pen: &'s mut Pen<S, L, Q>,
-    gate: &'s G,
-    ended: &'s AtomicU64,
-) {
-    let has_ended = pen.total() == 0
-        || scope
-            .spawn(
-                move ||
-                    requires { Unit {0} }
-                { run_one(rt, shared, pen, gate, ended) },
-            )
-            .is_err();
-    if has_ended {
-        ended.fetch_add(1, Ordering::SeqCst);
-    }
-}
-
-// Starts the threads of all writers, and lends each its pen.
-fn start_all<
-    's,
-    E,
-    N: Names + Send,
-    Q: Quota + Send,
-    T: Work<Q> + Send,
-    G: Gate + Sync,
-    W: Wait + Sync,
->(
-    scope: &Scope<'s, E>,
-    rt: &'s W,
-    shared: &'s Shared<Eight<N>, Q, T>,
-    pens: &'s mut Pens<N, Q>,
-    gate: &'s G,
-    ended: &'s AtomicU64,
-) {
-    let pens!(p0, p1, p2, p3, p4, p5, p6, p7) = pens;
-    start(scope, rt, shared, p0, gate, ended);
-    start(scope, rt, shared, p1, gate, ended);
-    start(scope, rt, shared, p2, gate, ended);
-    start(scope, rt, shared, p3, gate, ended);
-    start(scope, rt, shared, p4, gate, ended);
-    start(scope, rt, shared, p5, gate, ended);
-    start(scope, rt, shared, p6, gate, ended);
-    start(scope, rt, shared, p7, gate, ended);
-}
-
 /// Does the steps that the pens have left, and asks the gate before each.
 pub fn finish<E: Names, Q: Quota, T: Work<Q>, G: Gate, R: Relief, W: Wait>(
     rt: &W,
@@ -217,41 +142,4 @@ pub fn ease_on<R: Relief, W: Wait>(rt: &W, ended: &AtomicU64, eases: bool, mut r
         thread::yield_now();
     }
     relief
-}
-
-/// Starts a thread for each writer that has steps, lends it its pen, and waits until all have ended. Meanwhile it eases again and
-/// again, or sleeps where it isn't to ease: then the relief comes back as it was.
-pub fn run_threads<
-    E: Names + Send,
-    Q: Quota + Send,
-    T: Work<Q> + Send,
-    G: Gate + Sync,
-    R: Relief + Drop,
-    W: Threads + Wait + Sync,
->(
-    rt: &W,
-    shared: &Shared<Eight<E>, Q, T>,
-    pens: &mut Pens<E, Q>,
-    gate: &G,
-    eases: bool,
-    relief: R,
-) -> R
-    requires { R.kept relief }
-    ensures kept { R.kept result }
-    ensures same { eases ≡ false → result ≡ relief }
-{
-    let count = AtomicU64::new(0);
-    let ended = &count;
-    thread::scope(
-        thread::scope_env(),
-        rt,
-        move |scope| -> R
-            requires { R.kept relief }
-            ensures kept { R.kept result }
-            ensures same { eases ≡ false → result ≡ relief }
-        {
-            start_all(scope, rt, shared, pens, gate, ended);
-            ease_on(rt, ended, eases, relief)
-        },
-    )
 }
