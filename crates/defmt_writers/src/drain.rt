@@ -1,8 +1,9 @@
 //! The reader of a run.
-ghost use Rattle.std.specs.Prelude.{◌≡◌, ◌⊎◌, ◌+◌, true, false, [], length};
+ghost use Rattle.std.specs.Prelude.{◌≡◌, ◌⊎◌, ℕ, ◌+◌, true, false, [], length};
 ghost use Rattle.defmt_writers.specs.Runs.{HoldsTapes};
 ghost use Rattle.defmt_writers.specs.Takes.{Takes};
 ghost use Rattle.rtt_ring.specs.Views.{UpKept};
+ghost use Rattle.writer_threads.specs.Passing.{Means, WasPassed, WasTold};
 
 use crate::reader::{FromSplit, Reader};
 use defmt_logger::Naming;
@@ -12,7 +13,7 @@ use rtt_ring::{DownEnd, UpEnd};
 use shared_work::{Eight, Names, Pens, Quota, Shared, Work};
 use std::marker::PhantomData;
 use std::sync::Wait;
-use writer_threads::{Gate, Yields, finish};
+use writer_threads::Gate;
 
 /// A reader that is late where the script says so, and then takes nothing. It has room for what the script's statements send.
 #[derive(Drop)]
@@ -34,6 +35,8 @@ impl<'g, N: FromSplit, K: Naming, D: DownEnd, G: Gate> Drain<'g, N, K, D, G> {
         requires split { (D.view down).split ≡ N.split }
         requires got { ((D.view down).got ≡ []) × (captured.items ≡ []) }
         requires room { HoldsTapes K.script captured.room }
+        requires lets { (writer : ℕ) → Means (G.passed gate.now writer) (N.passed writer) }
+        requires means { Means (G.told gate.now) N.told }
         ensures late { result.late ≡ late }
         ensures down { result.reader.down ≡ down }
         ensures captured { result.reader.captured ≡ captured }
@@ -51,7 +54,7 @@ impl<'g, N: FromSplit, K: Naming, D: DownEnd, G: Gate> Drain<'g, N, K, D, G> {
         }
     }
 
-    /// Does the steps that the pens have left, on the calling thread. A reader that isn't late takes while a step waits, and all that
+    /// Does the steps that the pens have left, on the calling thread, and asks the gate before each. A reader that isn't late takes while a step waits, and all that
     /// is there behind each pen's last. A late one takes nothing.
     pub fn serve<E: Names, Q: Quota, T: Work<Q>, W: Wait>(
         &mut self,
@@ -70,9 +73,18 @@ impl<'g, N: FromSplit, K: Naming, D: DownEnd, G: Gate> Drain<'g, N, K, D, G> {
         ensures p5 { pens.new.p5.place ≡ pens.new.p5.total }
         ensures p6 { pens.new.p6.place ≡ pens.new.p6.total }
         ensures p7 { pens.new.p7.place ≡ pens.new.p7.total }
+        ensures asked0 { WasPassed (N.passed 0) pens.old.p0.place pens.new.p0.place }
+        ensures asked1 { WasPassed (N.passed 1) pens.old.p1.place pens.new.p1.place }
+        ensures asked2 { WasPassed (N.passed 2) pens.old.p2.place pens.new.p2.place }
+        ensures asked3 { WasPassed (N.passed 3) pens.old.p3.place pens.new.p3.place }
+        ensures asked4 { WasPassed (N.passed 4) pens.old.p4.place pens.new.p4.place }
+        ensures asked5 { WasPassed (N.passed 5) pens.old.p5.place pens.new.p5.place }
+        ensures asked6 { WasPassed (N.passed 6) pens.old.p6.place pens.new.p6.place }
+        ensures asked7 { WasPassed (N.passed 7) pens.old.p7.place pens.new.p7.place }
+        ensures told { WasTold N.told 0 (length self.new.reader.captured.items) }
     {
         if self.late {
-            finish(rt, shared, pens, self.reader.gate, &mut Yields);
+            self.reader.finish(rt, shared, pens);
         } else {
             self.reader.serve(rt, shared, pens);
         }
@@ -90,6 +102,7 @@ impl<'g, N: FromSplit, K: Naming, D: DownEnd, G: Gate> Drain<'g, N, K, D, G> {
         ensures taken { self.old.late ≡ false → (U.view up.old).tells ≡ true
             → ((U.view up.new).freed ≡ length (U.view up.new).sent)
             ⊎ (self.new.reader.captured.room ≡ 0) }
+        ensures told { WasTold N.told 0 (length self.new.reader.captured.items) }
     {
         if !self.late {
             self.reader.take_rest(rt, up);

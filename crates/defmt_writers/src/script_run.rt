@@ -1,5 +1,5 @@
 //! How a run goes.
-ghost use Rattle.std.specs.Prelude.{◌≡◌, ◌<◌, ℕ, true, false, [], IfOk};
+ghost use Rattle.std.specs.Prelude.{◌≡◌, ◌<◌, ℕ, true, false, [], IfOk, length};
 ghost use Rattle.defmt_frames.specs.Frames.{count as count_of, pace_of};
 ghost use Rattle.defmt_logger.specs.Kept.{IsKept, TellsIn};
 ghost use Rattle.defmt_logger.specs.Tape.{marks_of};
@@ -8,6 +8,7 @@ ghost use Rattle.std.specs.Io.{StartsWith};
 ghost use Rattle.rtt_ring.specs.Account.{capped};
 ghost use Rattle.rtt_ring.specs.Views.{new_down, new_up};
 ghost use Rattle.shared_work.specs.Names.{AreNamed};
+ghost use Rattle.writer_threads.specs.Passing.{Means, WasPassed, WasTold};
 
 use crate::drain::Drain;
 use crate::reader::FromSplit;
@@ -69,6 +70,8 @@ fn run_named<
     requires room { HoldsTapes script ends.captured.room }
     requires names { (K.script ≡ script) × (K.split ≡ (H.Up.view ends.up).split)
         × (K.tells ≡ (H.Up.view ends.up).tells) × (N.split ≡ (H.Up.view ends.up).split) }
+    requires lets { (writer : ℕ) → Means (G.passed gate.now writer) (N.passed writer) }
+    requires means { Means (G.told gate.now) N.told }
     requires ledgers { AreNamed blanks E.names }
     ensures script { IfOk result (λ r. r.script ≡ K.script) }
     ensures run { IfOk result (λ r.
@@ -76,14 +79,17 @@ fn run_named<
     ensures ring { IfOk result (λ r. r.settled.ring ≡ H.KIND) }
     ensures taken { IfOk result (λ r. K.tells ≡ true → K.script.settings.late ≡ false
         → r.settled.got ≡ r.settled.sent) }
+    ensures asked { IfOk result (λ _.
+        (w : ℕ) → w < 8 → WasPassed (N.passed w) 0 (count_of K.script w)) }
+    ensures told { IfOk result (λ r. WasTold N.told 0 (length r.captured.items)) }
 {
     let RingEnds { up, down, captured } = ends;
     let late = script.late();
     let drain = Drain::<N, K, H::Down, G>::new(late, down, captured, gate);
-    let (logger, mut pens) = Logger::<Eight<E>, EachStatement<K>, Logging<K, H::Up, C>>::start(
+    let (logger, pens) = Logger::<Eight<E>, EachStatement<K>, Logging<K, H::Up, C>>::start(
         alloc, blanks, script, stamp, up,
     )?;
-    let mut drain = run_threads(rt, logger.shared(), &mut pens, gate, !late, drain);
+    let (mut pens, mut drain) = run_threads(rt, logger.shared(), pens, gate, !late, drain);
     drain.serve(rt, logger.shared(), &mut pens);
     let (tape, up, script) = logger.close(pens);
     settle_run::<H, N, K, G, R>(rt, alloc, tape, up, script, drain)
@@ -120,6 +126,7 @@ pub fn settle_run<H: Channel, N: FromSplit, K: Naming, G: Gate, W: Wait>(
     ensures taken { IfOk result (λ r. (H.Up.view up).tells ≡ true
         → K.script.settings.late ≡ false → r.settled.got ≡ r.settled.sent) }
     ensures looks { IfOk result (λ r. r.looks ≡ capped (H.Up.view up).looks) }
+    ensures told { IfOk result (λ r. WasTold N.told 0 (length r.captured.items)) }
 {
     let looks = up.looks();
     let mut up = up;
@@ -141,9 +148,10 @@ pub fn settle_run<H: Channel, N: FromSplit, K: Naming, G: Gate, W: Wait>(
 /// Runs a script over a ring of its own: a thread for each writer that has statements logs them, and the calling thread reads.
 ///
 /// The stamp counts as the script's stamps do, and by 0 and 0 without them. In skip and trim mode the ring tells how many bytes
-/// were released. The gate is asked before each statement is logged, and told of each take that took something. A late reader
-/// takes nothing; another has taken all that was sent at the end, as far as the ring tells what was released. A writer whose thread
-/// couldn't be started is run by the calling thread, which reads where a frame waits for room. The call waits for its threads.
+/// were released. The gate is asked before each statement is logged, and told the total of each take that took something; that it
+/// was asked at each place is a clause, that it was asked before the statement isn't. A late reader takes nothing; another has taken
+/// all that was sent at the end, as far as the ring tells what was released. A writer whose thread couldn't be started is run by the
+/// calling thread, which reads where a frame waits for room. The call waits for its threads.
 ///
 /// # Errors
 /// `Memory` where there is none.
@@ -162,6 +170,9 @@ pub fn run_script<H: Channel, C: Clock + Send + Drop, G: Gate + Sync, R: Threads
     ensures ring { IfOk result (λ r. r.settled.ring ≡ H.KIND) }
     ensures taken { IfOk result (λ r. H.tells ≡ true → script.settings.late ≡ false
         → r.settled.got ≡ r.settled.sent) }
+    ensures asked { IfOk result (λ _.
+        (w : ℕ) → w < 8 → WasPassed (G.passed gate.now w) 0 (count_of script w)) }
+    ensures told { IfOk result (λ r. WasTold (G.told gate.now) 0 (length r.captured.items)) }
 {
     let ends = prepare::<H>(alloc, &script)?;
     run_named::<H, Brand, Brand, Brand, C, G, R>(

@@ -1,9 +1,9 @@
 //! A reader that reads while its own thread logs.
-ghost use Rattle.std.specs.Prelude.{◌≡◌, ℕ, []};
+ghost use Rattle.std.specs.Prelude.{◌≡◌, ℕ, [], length};
 ghost use Rattle.dl_io.specs.Buffer.{Buffer};
 ghost use Rattle.defmt_writers.specs.Takes.{Takes};
 ghost use Rattle.rtt_ring.specs.Views.{Down, new_down};
-ghost use Rattle.writer_threads.specs.Passing.{PassedAll};
+ghost use Rattle.writer_threads.specs.Passing.{Means, PassedAll, ToldAll, WasTold};
 
 use crate::reader::{take, take_all};
 use defmt_logger::Logger;
@@ -16,7 +16,7 @@ use std::sync::Wait;
 use std::sync::ledger::Ledger;
 use writer_threads::{Gate, log_all};
 
-// Which lower end and which capture were lent, and what they were then.
+// Which lower end and which capture were lent, what they were then, and what the gate shows where it is told a total.
 trait Lent {
     // The names of the two loans.
     ghost down: { ℕ };
@@ -27,6 +27,9 @@ trait Lent {
     ghost before: { Down };
 
     ghost had: { Buffer };
+
+    // So many bytes were told.
+    ghost told: { ℕ → Type 0 };
 }
 
 impl Lent for Brand {
@@ -37,6 +40,8 @@ impl Lent for Brand {
     ghost before = { new_down [] 0 };
 
     ghost had = { record { items = []; room = 0 } };
+
+    ghost told = { λ _. Unit {0} };
 }
 
 // A lower end and what was captured of it, both lent.
@@ -54,6 +59,8 @@ impl<'s, D: DownEnd> Loan<'s, D> {
         ensures split { (D.view self.new.down.now).split ≡ (D.view self.old.down.now).split }
         ensures takes { Takes (D.view self.old.down.now) (D.view self.new.down.now)
             self.old.capture.now self.new.capture.now 1 }
+        ensures told { ToldAll (G.told gate.now)
+            (length self.old.capture.now.items) (length self.new.capture.now.items) }
         ensures same_down { self.new.down.ghost_name ≡ self.old.down.ghost_name }
         ensures same_capture { self.new.capture.ghost_name ≡ self.old.capture.ghost_name }
     {
@@ -67,6 +74,8 @@ impl<'s, D: DownEnd> Loan<'s, D> {
         ensures split { (D.view self.new.down.now).split ≡ (D.view self.old.down.now).split }
         ensures takes { Takes (D.view self.old.down.now) (D.view self.new.down.now)
             self.old.capture.now self.new.capture.now 0 }
+        ensures told { ToldAll (G.told gate.now)
+            (length self.old.capture.now.items) (length self.new.capture.now.items) }
         ensures same_down { self.new.down.ghost_name ≡ self.old.down.ghost_name }
         ensures same_capture { self.new.capture.ghost_name ≡ self.old.capture.ghost_name }
     {
@@ -75,12 +84,15 @@ impl<'s, D: DownEnd> Loan<'s, D> {
 }
 
 // The relief that reads: each ease takes what is there. The capture holds exactly what the end has got; and the end and the
-// capture are those that were lent, the end from the split that it was from, after takes and nothing else.
+// capture are those that were lent, the end from the split that it was from, after takes and nothing else. The gate was told of
+// each take.
 #[derive(Drop)]
 struct Serving<'s, 'g, N: Lent, D: DownEnd, G: Gate> {
     loan: Loan<'s, D>,
     gate: &'g G,
     of: PhantomData<N>,
+    ghost means: { Means (G.told gate.now) N.told },
+    ghost told: { WasTold N.told (length N.had.items) (length loan.capture.now.items) },
 }
 
 impl<'s, 'g, N: Lent, D: DownEnd, G: Gate> Relief for Serving<'s, 'g, N, D, G> {
@@ -116,11 +128,13 @@ fn serve_named<
     requires got { (D.view loan.down.now).got ≡ loan.capture.now.items }
     requires before { (D.view loan.down.now ≡ N.before) × (loan.capture.now ≡ N.had) }
     requires lent { (loan.down.ghost_name ≡ N.down) × (loan.capture.ghost_name ≡ N.capture) }
+    requires means { Means (G.told gate.now) N.told }
     ensures place { pen.new.place ≡ pen.new.total }
     ensures asked { PassedAll (G.passed gate.now S.NUMBER) pen.old.place pen.new.place }
     ensures got { (D.view result.down.now).got ≡ result.capture.now.items }
     ensures split { (D.view result.down.now).split ≡ N.before.split }
     ensures takes { Takes N.before (D.view result.down.now) N.had result.capture.now 0 }
+    ensures told { WasTold N.told (length N.had.items) (length result.capture.now.items) }
     ensures lent { (result.down.ghost_name ≡ N.down) × (result.capture.ghost_name ≡ N.capture) }
 {
     let mut serving = Serving::<N, D, G> {
@@ -158,6 +172,7 @@ pub(crate) fn serve<
     ensures got { (D.view down.new).got ≡ capture.new.items }
     ensures split { (D.view down.new).split ≡ (D.view down.old).split }
     ensures takes { Takes (D.view down.old) (D.view down.new) capture.old capture.new 0 }
+    ensures told { WasTold (G.told gate.now) (length capture.old.items) (length capture.new.items) }
 {
     let loan = Loan { down, capture };
     serve_named::<Brand, B, Q, T, S, L, D, G, W>(rt, shared, pen, loan, gate);
@@ -196,6 +211,7 @@ pub fn serve_here<
     ensures got { (H.Down.view down.new).got ≡ capture.new.items }
     ensures split { (H.Down.view down.new).split ≡ (H.Down.view down.old).split }
     ensures takes { Takes (H.Down.view down.old) (H.Down.view down.new) capture.old capture.new 0 }
+    ensures told { WasTold (G.told gate.now) (length capture.old.items) (length capture.new.items) }
 {
     serve(rt, logger.shared(), pen, down, capture, gate)
 }

@@ -1,5 +1,6 @@
-use Rattle.std.proofs.Common.{ap, ◌∙◌, arith}
+use Rattle.std.proofs.Common.{ap, ◌∙◌, arith, length, subst, sym}
 use Rattle.dl_io.specs.Buffer.{Buffer}
+use Rattle.writer_threads.specs.Passing.{WasTold}
 use Rattle.defmt_writers.proofs.Ends.{run_ends}
 use Rattle.defmt_writers.proofs.Taken.{run_got}
 use Rattle.defmt_writers.proofs.script_run.settle_run.Goals as goal
@@ -23,3 +24,7 @@ returns-clause-taken g c = λ tells in_time.
     c.requires.script c.requires.kept drain.holds
     c.take_rest.ensures.sent made.account.0 (made.account.1 ∙ parts.got ∙ ap (λ (b : Buffer). b.items) parts.captured) made.rest.0 made.rest.1
     (c.take_rest.ensures.taken (c.args.drain.late_is ∙ in_time) tells)
+
+pub returns-clause-told : goal.returns-clause-told
+returns-clause-told g c =
+    subst (λ (b : Buffer). WasTold g.N.FromSplit.told 0 (length b.items)) (sym c.into_parts-down.ensures.captured) c.take_rest.new.self.reader.told
