@@ -7,7 +7,10 @@ use Rattle.defmt_hooks.specs.declared.level.Level.{Level}
 use Rattle.defmt_script.specs.Script.{Script}
 use Rattle.defmt_steer.proofs.Due.{due_few, joined_size}
 use Rattle.defmt_steer.specs.Steers.{IsSteeredRun, Plan, due, whole_frames}
+use Rattle.defmt_writers.proofs.Taken.{took_told, was_told_takes}
 use Rattle.defmt_writers.specs.Runs.{HoldsStreams}
+use Rattle.defmt_writers.specs.Takes.{Takes}
+use Rattle.dl_io.specs.Buffer.{Buffer}
 use Rattle.rtt_down.specs.Kept.{IsKept}
 use Rattle.rtt_down.specs.Orders.{orders_joined}
 use Rattle.rtt_down.specs.Reel.{Reel}
@@ -17,6 +20,17 @@ use Rattle.rtt_modes.specs.declared.fate.Fate.{Fate}
 use Rattle.rtt_modes.specs.declared.fate.Fate.TheVariants.{Whole, Dropped, Cut}
 use Rattle.rtt_ring.specs.Account.{Account}
 use Rattle.rtt_ring.specs.Views.{Down, Up, UpKept}
+use Rattle.writer_threads.proofs.Passed.{told_none}
+use Rattle.writer_threads.specs.Passing.{Means, WasTold}
+
+-- where nothing was captured no total was to be told
+pub host_untold : (named : ℕ → Type 0) (items : List ℕ) → items ≡ [] → WasTold named 0 (length items)
+host_untold named items none = told_none named 0 (length items) (omega (arith, ap length none))
+
+-- the totals of what was captured, behind one take more
+pub host_told : (named shown : ℕ → Type 0) (d e : Down) (b c : Buffer) (n : ℕ) → Means shown named → Takes d e b c n → c.room + n ≡ b.room → n ≤ 256
+    → (0 < n → shown (length c.items)) → WasTold named 0 (length b.items) → WasTold named 0 (length c.items)
+host_told named shown d e b c n means takes less few is told = was_told_takes named shown 0 d e b c n means takes told ∣ took_told shown d e b c n takes less few is ∣₁
 
 -- ---- an order fits
 

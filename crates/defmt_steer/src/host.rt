@@ -5,6 +5,7 @@ ghost use Rattle.defmt_steer.specs.Steers.{Counts, coded_plan, due, whole_frames
 ghost use Rattle.defmt_writers.specs.Takes.{Takes};
 ghost use Rattle.rtt_down.specs.Orders.{order_of, orders_joined};
 ghost use Rattle.rtt_ring.specs.Views.{UpKept, new_up};
+ghost use Rattle.writer_threads.specs.Passing.{Means, WasTold};
 
 use crate::counting::FrameCount;
 use defmt_hooks::Level;
@@ -35,6 +36,7 @@ fn take_counted<D: DownEnd>(
     ensures counts { Counts count.new.frames count.new.zeros count.new.begun capture.new.items }
     ensures more { count.old.frames ≤ count.new.frames }
     ensures room { capture.new.room + result ≡ capture.old.room }
+    ensures few { result ≤ 256 }
     ensures takes { Takes (D.view down.old) (D.view down.new) capture.old capture.new result }
 {
     let size = down.take(buffer);
@@ -42,6 +44,15 @@ fn take_counted<D: DownEnd>(
     let _total = capture.len();
     count.hear_all(&buffer[..size]);
     size
+}
+
+// Tells the gate what was captured, where a take took something.
+fn tell<G: Gate>(gate: &G, taken: usize, capture: &Bytes)
+    ensures { 0 < taken → G.told gate.now (length capture.now.items) }
+{
+    if taken > 0 {
+        gate.took(capture.len() as u64);
+    }
 }
 
 // Sends an order. While so few bytes were sent there is room for it.
@@ -79,7 +90,8 @@ fn send_due<U: UpEnd>(up: &mut U, orders: &[(u32, Level)], next: usize, frames: 
     sent
 }
 
-// From which splits of two rings a host's ends come, how many bytes it can capture, and which orders it sends.
+// From which splits of two rings a host's ends come, how many bytes it can capture, which orders it sends, and what its gate shows
+// where it is told a total.
 pub(crate) trait Hosting {
     ghost use Rattle.std.specs.Prelude.{ℕ, List};
     ghost use Rattle.defmt_steer.specs.Steers.{Plan};
@@ -95,6 +107,9 @@ pub(crate) trait Hosting {
 
     // The orders.
     ghost plan: { Plan };
+
+    // So many bytes were told.
+    ghost told: { ℕ → Type 0 };
 }
 
 impl Hosting for Brand {
@@ -107,10 +122,12 @@ impl Hosting for Brand {
     ghost room = { 0 };
 
     ghost plan = { [] };
+
+    ghost told = { λ _. Unit {0} };
 }
 
 // The lower end of the ring of frames with what was captured of it, and the upper end of the ring of orders. All orders that
-// are due were sent.
+// are due were sent, and the gate was told of each take.
 #[derive(Drop)]
 pub(crate) struct OrderSender<'g, N: Hosting, U: UpEnd, D: DownEnd, G: Gate> {
     pub(crate) reads: D,
@@ -132,9 +149,12 @@ pub(crate) struct OrderSender<'g, N: Hosting, U: UpEnd, D: DownEnd, G: Gate> {
     ghost few: { length orders.items ≤ 64 },
     ghost next_is: { next ≡ length (due orders.items count.frames) },
     ghost sent: { (U.view sends).sent ≡ orders_joined (due orders.items count.frames) },
+    ghost means: { Means (G.told gate.now) N.told },
+    ghost told: { WasTold N.told 0 (length captured.items) },
 }
 
 // A sender that has taken nothing yet, and has sent the orders that are due at first.
+#[tactic(auto, using(crate::proofs::Hosted::host_untold))]
 pub(crate) fn order_sender<'g, N: Hosting, U: UpEnd, D: DownEnd, G: Gate>(
     reads: D,
     captured: Bytes,
@@ -146,6 +166,7 @@ pub(crate) fn order_sender<'g, N: Hosting, U: UpEnd, D: DownEnd, G: Gate>(
     requires captured { (captured.items ≡ []) × (captured.room ≡ N.room) }
     requires sends { U.view sends ≡ new_up N.down 256 true }
     requires orders { (orders.items ≡ N.plan) × (length orders.items ≤ 64) }
+    requires means { Means (G.told gate.now) N.told }
     ensures early { (U.view result.sends).sent ≡ orders_joined (due N.plan 0) }
 {
     let next = send_due(&mut sends, &orders, 0, 0);
@@ -176,8 +197,6 @@ impl<'g, N: Hosting, U: UpEnd, D: DownEnd, G: Gate> OrderSender<'g, N, U, D, G> 
         ensures room { self.new.captured.room + result ≡ self.old.captured.room }
         ensures takes { Takes (D.view self.old.reads) (D.view self.new.reads)
             self.old.captured self.new.captured result }
-        ensures told { 0 < result
-            → G.told self.new.gate.now (length self.new.captured.items) }
     {
         let mut buffer = [0; PIECE];
         let size = self.captured.spare().min(PIECE);
@@ -187,9 +206,7 @@ impl<'g, N: Hosting, U: UpEnd, D: DownEnd, G: Gate> OrderSender<'g, N, U, D, G> 
             &mut self.count,
             &mut buffer[..size],
         );
-        if taken > 0 {
-            self.gate.took(self.captured.len() as u64);
-        }
+        tell(self.gate, taken, &self.captured);
         self.next = send_due(&mut self.sends, &self.orders, self.next, self.count.frames);
         taken
     }
@@ -233,6 +250,7 @@ impl<'g, N: Hosting, U: UpEnd, D: DownEnd, G: Gate> OrderSender<'g, N, U, D, G> 
         ensures staged { (U.view result.sends).staged ≡ [] }
         ensures sent { (U.view result.sends).sent
             ≡ orders_joined (due N.plan (whole_frames result.captured.items)) }
+        ensures told { WasTold N.told 0 (length result.captured.items) }
     {
         let OrderSender {
             reads,

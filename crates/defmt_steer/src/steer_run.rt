@@ -8,6 +8,7 @@ ghost use Rattle.rtt_down.specs.Orders.{orders_joined};
 ghost use Rattle.rtt_down.specs.Steered.{turns_of};
 ghost use Rattle.rtt_ring.specs.Views.{new_down, new_up};
 ghost use Rattle.shared_work.specs.Names.{AreNamed};
+ghost use Rattle.writer_threads.specs.Passing.{Means, WasPassed, WasTold};
 
 use crate::host::{HostEnds, Hosting, OrderSender, order_sender};
 use defmt_hooks::{Clock, Level, Stamp};
@@ -102,6 +103,7 @@ fn settle_steered<H: Channel, N: Hosting, K: Naming, G: Gate>(
     ensures run { IfOk result (λ r. IsSteeredRun K.script
         r.turns r.settled r.captured.items r.rest.items r.orders r.unheard.items) }
     ensures rings { IfOk result (λ r. (r.settled.ring ≡ H.KIND) × (r.orders.ring ≡ H.KIND)) }
+    ensures told { IfOk result (λ r. WasTold N.told 0 (length r.captured.items)) }
 {
     let HostEnds {
         reads,
@@ -156,11 +158,15 @@ fn run_hosted<
         × (K.down ≡ (H.Up.view sends).split) × (K.tells ≡ true) }
     requires hosted { (N.up ≡ (H.Up.view ends.up).split)
         × (N.down ≡ (H.Up.view sends).split) × (N.room ≡ ends.captured.room) }
+    requires means { Means (G.told gate.now) N.told }
     requires ledgers { AreNamed blanks E.names }
     ensures script { IfOk result (λ r. r.script ≡ K.script) }
     ensures run { IfOk result (λ r. IsSteeredRun K.script
         r.turns r.settled r.captured.items r.rest.items r.orders r.unheard.items) }
     ensures rings { IfOk result (λ r. (r.settled.ring ≡ H.KIND) × (r.orders.ring ≡ H.KIND)) }
+    ensures asked { IfOk result (λ _.
+        (w : ℕ) → w < 8 → WasPassed (G.passed gate.now w) 0 (count_of K.script w)) }
+    ensures told { IfOk result (λ r. WasTold N.told 0 (length r.captured.items)) }
 {
     script.lawful();
     let RingEnds {
@@ -169,13 +175,13 @@ fn run_hosted<
         captured,
     } = ends;
     let host = order_sender::<N, H::Up, H::Down, G>(reads, captured, sends, orders, gate);
-    let (mut steered, mut helms) = Steered::<
+    let (mut steered, helms) = Steered::<
         Eight<E>,
         EachTurn<K>,
         Steering<K, H::Up, H::Down, C>,
     >::start(alloc, blanks, script, stamp, up, down)?;
     steered.note_sent(&helms, &host.sends);
-    let mut host = run_threads(rt, steered.shared(), &mut helms, gate, true, host);
+    let (mut helms, mut host) = run_threads(rt, steered.shared(), helms, gate, true, host);
     finish(rt, steered.shared(), &mut helms, gate, &mut host);
     let (turns, mut up, down, script) = steered.close(helms);
     host.take_rest(rt, &mut up);
@@ -232,9 +238,10 @@ fn prepare_steered<H: Channel>(
 /// frames and sends the orders.
 ///
 /// The stamp counts as the script's stamps do, and by 0 and 0 without them. Each order is sent once as many frames were captured
-/// as it says, behind the one in front of it; those that are due at first are sent before any turn is taken, and the others
-/// as far as they are due after the last take, behind which no byte of frames is left. The gate is asked before each statement, and told of each take that took something. A
-/// writer whose thread couldn't be started is run by the calling thread. The call waits for its threads.
+/// as it says, behind the one in front of it; those that are due at first are sent before any turn is taken, and the others as far
+/// as they are due after the last take, behind which no byte of frames is left. The gate is asked before each statement, and told
+/// the total of each take that took something; that it was asked at each place is a clause, that it was asked before the statement
+/// isn't. A writer whose thread couldn't be started is run by the calling thread. The call waits for its threads.
 ///
 /// # Errors
 /// `Memory` where there is none.
@@ -251,6 +258,9 @@ pub fn run_steered<H: Channel, C: Clock + Send + Drop, G: Gate + Sync, R: Thread
     ensures run { IfOk result (λ r. IsSteeredRun script
         r.turns r.settled r.captured.items r.rest.items r.orders r.unheard.items) }
     ensures rings { IfOk result (λ r. (r.settled.ring ≡ H.KIND) × (r.orders.ring ≡ H.KIND)) }
+    ensures asked { IfOk result (λ _.
+        (w : ℕ) → w < 8 → WasPassed (G.passed gate.now w) 0 (count_of script w)) }
+    ensures told { IfOk result (λ r. WasTold (G.told gate.now) 0 (length r.captured.items)) }
 {
     let (orders, ends, (sends, down)) = prepare_steered::<H>(alloc, &script)?;
     run_hosted::<H, Brand, Brand, Brand, C, G, R>(

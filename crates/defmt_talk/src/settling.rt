@@ -1,5 +1,5 @@
 //! How the two rings of a run with texts for terminals are settled.
-ghost use Rattle.std.specs.Prelude.{◌≡◌, ◌<◌, ℕ, true, false, [], IfOk, Ok};
+ghost use Rattle.std.specs.Prelude.{◌≡◌, ◌<◌, ℕ, true, false, [], IfOk, Ok, length};
 ghost use Rattle.defmt_frames.specs.Frames.{count as count_of};
 ghost use Rattle.defmt_logger.specs.Kept.{IsKept};
 ghost use Rattle.defmt_logger.specs.Tape.{marks_of};
@@ -7,6 +7,7 @@ ghost use Rattle.defmt_writers.specs.Runs.{IsRun};
 ghost use Rattle.defmt_talk.specs.Talks.{IsTalk};
 ghost use Rattle.rtt_booth.specs.Said.{IsLawful, spoken_by, words_of};
 ghost use Rattle.rtt_terminal.specs.Speech.{count_said};
+ghost use Rattle.writer_threads.specs.Passing.{WasTold};
 
 use crate::listener::Listener;
 use crate::talk_run::Talk;
@@ -105,6 +106,7 @@ pub(crate) fn settle_both<
         → K.script.settings.late ≡ false → r.0.settled.got ≡ r.0.settled.sent) }
     ensures texts_taken { IfOk result (λ r. (H.Up.view text_up).tells ≡ true
         → r.1.settled.got ≡ r.1.settled.sent) }
+    ensures told { IfOk result (λ r. WasTold N.told 0 (length r.0.captured.items)) }
 {
     let Both { first, second } = readers;
     let talk = settle_talk::<H, M, V, W>(rt, alloc, said, text_up, second);

@@ -1,5 +1,5 @@
 //! What a run with texts for terminals starts.
-ghost use Rattle.std.specs.Prelude.{◌≡◌};
+ghost use Rattle.std.specs.Prelude.{◌≡◌, IfOk};
 ghost use Rattle.defmt_frames.specs.Frames.{pace_of};
 ghost use Rattle.defmt_logger.specs.Kept.{TellsIn};
 ghost use Rattle.rtt_ring.specs.Views.{new_up};
@@ -57,6 +57,9 @@ pub(crate) fn start_both<
     requires text_names { (V.speech ≡ speech.now) × (V.split ≡ (U.view text_up).split)
         × (V.tells ≡ (U.view text_up).tells) }
     requires text_ledgers { AreNamed text_blanks F.names }
+    ensures fresh { IfOk result (λ r. (r.0.1.p0.place ≡ 0) × (r.0.1.p1.place ≡ 0)
+        × (r.0.1.p2.place ≡ 0) × (r.0.1.p3.place ≡ 0) × (r.0.1.p4.place ≡ 0)
+        × (r.0.1.p5.place ≡ 0) × (r.0.1.p6.place ≡ 0) × (r.0.1.p7.place ≡ 0)) }
 {
     let logs = Logger::<Eight<E>, EachStatement<K>, Logging<K, U, C>>::start(
         alloc, blanks, script, stamp, up,

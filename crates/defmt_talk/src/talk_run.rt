@@ -1,11 +1,12 @@
 //! How a run with texts for terminals goes.
-ghost use Rattle.std.specs.Prelude.{◌≡◌, true, false, [], IfOk, Ok};
-ghost use Rattle.defmt_frames.specs.Frames.{pace_of};
+ghost use Rattle.std.specs.Prelude.{◌≡◌, ◌<◌, ℕ, true, false, [], IfOk, Ok, length};
+ghost use Rattle.defmt_frames.specs.Frames.{count as count_of, pace_of};
 ghost use Rattle.defmt_logger.specs.Kept.{TellsIn};
 ghost use Rattle.defmt_talk.specs.Talks.{HoldsWords, IsTalk};
 ghost use Rattle.defmt_writers.specs.Runs.{HoldsTapes, IsRun, ModeFits};
 ghost use Rattle.rtt_ring.specs.Views.{new_down, new_up};
 ghost use Rattle.shared_work.specs.Names.{AreNamed};
+ghost use Rattle.writer_threads.specs.Passing.{Means, WasPassed, WasTold};
 
 use crate::ends::prepare_both;
 use crate::listener::Listener;
@@ -57,6 +58,10 @@ fn readers_of<'g, N: FromSplit, K: Naming, M: FromSplit, V: rtt_booth::Naming, D
     requires text_got { ((D.view text_down).got ≡ []) × (text_captured.items ≡ []) }
     requires room { HoldsTapes K.script captured.room }
     requires text_room { HoldsWords V.speech text_captured.room }
+    requires lets { (writer : ℕ) → Means (G.passed gate.now writer) (N.passed writer) }
+    requires means { Means (G.told gate.now) N.told }
+    requires text_lets { (writer : ℕ) → Means (λ _. Unit {0}) (M.passed writer) }
+    requires text_means { Means (λ _. Unit {0}) M.told }
 {
     let first = Drain::new(late, down, captured, gate);
     let reader = Reader {
@@ -95,6 +100,9 @@ fn run_started<
 ) -> Result<(Run, Talk), Memory>
     requires split { K.split ≡ N.split }
     requires text_split { V.split ≡ M.split }
+    requires fresh { (logs.1.p0.place ≡ 0) × (logs.1.p1.place ≡ 0) × (logs.1.p2.place ≡ 0)
+        × (logs.1.p3.place ≡ 0) × (logs.1.p4.place ≡ 0) × (logs.1.p5.place ≡ 0)
+        × (logs.1.p6.place ≡ 0) × (logs.1.p7.place ≡ 0) }
     ensures script { IfOk result (λ r. r.0.script ≡ K.script) }
     ensures run { IfOk result (λ r. IsRun K.script
         r.0.tape r.0.settled r.0.captured.items r.0.rest.items r.0.looks) }
@@ -106,15 +114,14 @@ fn run_started<
         → r.0.settled.got ≡ r.0.settled.sent) }
     ensures texts_taken { IfOk result (λ r. V.tells ≡ true
         → r.1.settled.got ≡ r.1.settled.sent) }
+    ensures asked { IfOk result (λ _.
+        (w : ℕ) → w < 8 → WasPassed (G.passed gate.now w) 0 (count_of K.script w)) }
+    ensures told { IfOk result (λ r. WasTold N.told 0 (length r.0.captured.items)) }
 {
-    let (logger, mut pens) = logs;
-    let (booth, mut voices) = booths;
-    let stage = Stage {
-        log: logger.shared(),
-        booth: booth.shared(),
-        speech,
-    };
-    let readers = run_all(rt, &stage, &mut pens, &mut voices, gate, readers);
+    let (logger, pens) = logs;
+    let (booth, voices) = booths;
+    let stage = Stage::new(logger.shared(), booth.shared(), speech);
+    let (pens, voices, readers) = run_all(rt, &stage, pens, voices, gate, readers);
     let (tape, up, script) = logger.close(pens);
     let (said, text_up) = booth.close(voices);
     settle_both::<H, N, K, M, V, G, R>(rt, alloc, tape, up, script, said, text_up, readers)
@@ -173,6 +180,10 @@ fn run_both<
         × (V.tells ≡ (H.Up.view text_ends.up).tells)
         × (M.split ≡ (H.Up.view text_ends.up).split) }
     requires text_ledgers { AreNamed text_blanks F.names }
+    requires lets { (writer : ℕ) → Means (G.passed gate.now writer) (N.passed writer) }
+    requires means { Means (G.told gate.now) N.told }
+    requires text_lets { (writer : ℕ) → Means (λ _. Unit {0}) (M.passed writer) }
+    requires text_means { Means (λ _. Unit {0}) M.told }
     ensures script { IfOk result (λ r. r.0.script ≡ K.script) }
     ensures run { IfOk result (λ r. IsRun K.script
         r.0.tape r.0.settled r.0.captured.items r.0.rest.items r.0.looks) }
@@ -184,6 +195,9 @@ fn run_both<
         → r.0.settled.got ≡ r.0.settled.sent) }
     ensures texts_taken { IfOk result (λ r. V.tells ≡ true
         → r.1.settled.got ≡ r.1.settled.sent) }
+    ensures asked { IfOk result (λ _.
+        (w : ℕ) → w < 8 → WasPassed (G.passed gate.now w) 0 (count_of K.script w)) }
+    ensures told { IfOk result (λ r. WasTold N.told 0 (length r.0.captured.items)) }
 {
     let RingEnds { up, down, captured } = ends;
     let RingEnds {
@@ -218,10 +232,9 @@ fn run_both<
 /// texts does these in the script's order, and the calling thread reads at both rings.
 ///
 /// Of the statements it does as `run_script`. A text waits for room in the terminals' ring, which has 1,024 bytes, and the
-/// calling thread reads at it also where the script's reader is late; at the end all of it is taken, as far as the ring tells what was
-/// released. The gate isn't asked before texts, nor told of what
-/// is taken of them. Two captures with room for all that will be sent are there before any thread is started. The call waits
-/// for its threads.
+/// calling thread reads at it also where the script's reader is late; at the end all of it is taken, as far as the ring tells what
+/// was released. The gate isn't asked before texts, nor told of what is taken of them. Two captures with room for all that will
+/// be sent are there before any thread is started. The call waits for its threads.
 ///
 /// # Errors
 /// `Memory` where there is none.
@@ -245,6 +258,9 @@ pub fn run_terminals<H: Channel, C: Clock + Send + Drop, G: Gate + Sync, R: Thre
         → r.0.settled.got ≡ r.0.settled.sent) }
     ensures texts_taken { IfOk result (λ r. H.tells ≡ true
         → r.1.settled.got ≡ r.1.settled.sent) }
+    ensures asked { IfOk result (λ _.
+        (w : ℕ) → w < 8 → WasPassed (G.passed gate.now w) 0 (count_of script w)) }
+    ensures told { IfOk result (λ r. WasTold (G.told gate.now) 0 (length r.0.captured.items)) }
 {
     let (speech, ends, text_ends) = prepare_both::<H>(alloc, &script)?;
     run_both::<H, Brand, Brand, Brand, Brand, Brand, Brand, C, G, R>(

@@ -20,3 +20,6 @@ returns-clause-taken g c = IfOk-weaker c.both.result _ _ (λ r is. ok_of _ _ _ i
 
 pub returns-clause-texts_taken : goal.returns-clause-texts_taken
 returns-clause-texts_taken g c = IfOk-weaker c.both.result _ _ (λ r is. ok_of _ _ _ is.1 c.settle_talk-talk.ensures.taken) c.both.ensures
+
+pub returns-clause-told : goal.returns-clause-told
+returns-clause-told g c = IfOk-weaker c.both.result _ _ (λ r is. ok_of _ _ _ is.0 c.settle_run-run.ensures.told) c.both.ensures
