@@ -10,6 +10,8 @@ mod headers;
 #[cfg(test)]
 mod markers;
 #[cfg(test)]
+mod places;
+#[cfg(test)]
 mod rows;
 #[cfg(test)]
 mod symbols;

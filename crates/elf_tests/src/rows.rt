@@ -2,6 +2,7 @@
 use crate::dumps::{put_cuts, put_dumps, put_segments};
 use crate::headers::put_answer_to_header;
 use crate::markers::put_answer_to_markers;
+use crate::places::put_places;
 use crate::tables::put_answer_to_symbols;
 use crate::{symbols, tables};
 use std::alloc::Global;
@@ -22,6 +23,7 @@ pub enum Kind {
     Segments,
     Dumps,
     Cuts,
+    Places,
 }
 
 impl Question for Kind {
@@ -38,6 +40,7 @@ impl Question for Kind {
             Self::Segments => put_segments(alloc, input, out),
             Self::Dumps => put_dumps(alloc, input, out),
             Self::Cuts => put_cuts(alloc, input, out),
+            Self::Places => put_places(alloc, input, out),
         }
     }
 }
