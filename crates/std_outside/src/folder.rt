@@ -4,24 +4,27 @@ ghost use Rattle.std.specs.Io.{ReadsAtMost};
 ghost use Rattle.std.specs.Result.{is_err};
 ghost use Rattle.dl_io.specs.Outside.{Rose, raised};
 
-use crate::room::{MOST_AT_ONCE, Room, read_by};
+use crate::opened::Opened;
+use crate::room::{MOST_AT_ONCE, Room};
 use dl_io::{Failed, Memory, Shelf};
 use std::alloc::Global;
-use std::io::{Seek, SeekFrom};
 use std::marker::Model;
 use std::rt::Files;
 use std::{fs, io};
 
-/// The files of the folder that the program runs in: each fetch opens the file of the given name. It tells nothing of
-/// the files, and counts one fault at each `Err` that it answers. At most 65,536 bytes are fetched at a time.
+/// The files of the folder that the program runs in. The first fetch from a name opens its file, and the fetches behind it read that
+/// one on, until its end was told or a file of another name is fetched from: so a file that is replaced meanwhile is read whole, as it
+/// was. A file that is read from its front to its end may be a pipe. It tells nothing of the files, and counts one fault at each `Err`
+/// that it answers. At most 65,536 bytes are fetched at a time.
 #[derive(Drop)]
-pub struct Folder<R> {
+pub struct Folder<R: Files> {
     rt: R,
     faults: u64,
     room: Room,
+    opened: Opened<R::File>,
 }
 
-impl<R> Model for Folder<R> {
+impl<R: Files> Model for Folder<R> {
     ghost use Rattle.std.specs.Prelude.{ℕ};
 
     ghost Value = { ℕ };
@@ -38,6 +41,7 @@ impl<R: Files> Folder<R> {
     {
         Ok(Folder {
             room: Room::new(alloc)?,
+            opened: Opened::new(alloc)?,
             rt,
             faults: 0,
         })
@@ -58,7 +62,8 @@ impl<R: Files> Shelf for Folder<R> {
     {
         let size = buf.len().min(MOST_AT_ONCE);
         self.room.clear_up_to(size);
-        match fetch_by(&self.rt, name, at, &mut self.room.bytes, buf) {
+        let room = &mut self.room.bytes;
+        match fetch_by(&self.rt, &mut self.opened, name, at, room, buf) {
             Ok(count) => Ok(count),
             Err(_) => {
                 self.faults = self.faults.saturating_add(1);
@@ -72,9 +77,10 @@ impl<R: Files> Shelf for Folder<R> {
     }
 }
 
-// One read from a place of a file.
+// One read from a place of a file, which is opened where it isn't yet.
 fn fetch_by<R: Files>(
     rt: &R,
+    opened: &mut Opened<R::File>,
     name: &str,
     at: u64,
     room: &mut [u8],
@@ -83,7 +89,8 @@ fn fetch_by<R: Files>(
     ensures bound { ReadsAtMost result buf.new }
     ensures kept { OnErr result (buf.new ≡ buf.old) }
 {
-    let mut file = fs::open(rt, name)?;
-    file.seek(SeekFrom::Start(at))?;
-    read_by(&mut file, room, buf)
+    if !opened.has(name) {
+        opened.put(name, fs::open(rt, name)?)?;
+    }
+    opened.read_at(at, room, buf)
 }

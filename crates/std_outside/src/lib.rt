@@ -7,6 +7,7 @@
 
 mod folder;
 mod input;
+mod opened;
 mod room;
 
 pub use folder::Folder;
