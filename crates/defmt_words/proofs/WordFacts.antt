@@ -6,11 +6,14 @@ use Rattle.clap.proofs.OnLiterals.{clap_on_literals}
 use Rattle.defmt_words.specs.declared.job.Job.{Job}
 use Rattle.defmt_words.specs.declared.job.Job.TheVariants.{Script, Decode, Dump}
 use Rattle.defmt_words.specs.declared.job.ScriptJob.TheVariants.{Run, Record, Terminals, Steer, Table, Print, Generate}
+use Rattle.defmt_words.specs.declared.style.Style.{Style}
+use Rattle.defmt_words.specs.declared.style.Form.TheVariants.{Color, Json}
 use Rattle.defmt_grammar.specs.Cut.{strip}
 use Rattle.defmt_hooks.specs.Reading.{floor_in, rules_in}
 use Rattle.defmt_hooks.specs.declared.level.Floor.TheVariants.{At}
 use Rattle.defmt_hooks.specs.declared.level.Level.TheVariants.{Warn}
 use Rattle.defmt_words.specs.Numbers.{decimal_in}
+use Rattle.defmt_words.specs.Style.{plain_style}
 use Rattle.defmt_words.specs.Words.{job, no_options, refusals, rows}
 
 -- the run of a script, its lines grouped or not
@@ -19,7 +22,11 @@ running group = Script (Run (record no_options { group = group }))
 
 -- the lines of a recording, and all of them
 abbrev decoding : Text → Job
-decoding file = Decode (record { table = file; only = None })
+decoding file = Decode (record { table = file; places = None; live = false; style = plain_style })
+
+-- the lines of a script in this style
+abbrev showing : Style → Job
+showing style = Script (Run (record no_options { style = style }))
 
 module _ (name : Text) where
   plain : job (name ∷ codes "run" ∷ []) ≡ Some (Script (Run no_options))
@@ -150,12 +157,12 @@ module _ (name : Text) where
   unfolding clap_on_literals refusals rows
   no_table = refl
 
-  dumps : job (name ∷ codes "dump" ∷ codes "--table=t.elf" ∷ []) ≡ Some (Dump (record { table = codes "t.elf"; base = 536870912; up = 0; old = false; only = None }))
+  dumps : job (name ∷ codes "dump" ∷ codes "--table=t.elf" ∷ []) ≡ Some (Dump (record { table = codes "t.elf"; places = None; base = 536870912; up = 0; old = false; style = plain_style }))
   unfolding clap_on_literals refusals rows
   dumps = refl
 
   dumps_all : job (name ∷ codes "--old" ∷ codes "dump" ∷ codes "--table=t.elf" ∷ codes "--up=3" ∷ codes "--base=0x1fFf" ∷ [])
-      ≡ Some (Dump (record { table = codes "t.elf"; base = 8191; up = 3; old = true; only = None }))
+      ≡ Some (Dump (record { table = codes "t.elf"; places = None; base = 8191; up = 3; old = true; style = plain_style }))
   unfolding clap_on_literals refusals rows strip
   dumps_all = refl
 
@@ -175,7 +182,7 @@ module _ (name : Text) where
   unfolding clap_on_literals refusals rows
   stray_old = refl
 
-  only_warnings : job (name ∷ codes "run" ∷ codes "--only=warn" ∷ []) ≡ Some (Script (Run (record no_options { only = Some (record { rest = At Warn; packages = [] }) })))
+  only_warnings : job (name ∷ codes "run" ∷ codes "--only=warn" ∷ []) ≡ Some (showing (record plain_style { only = Some (record { rest = At Warn; packages = [] }) }))
   unfolding clap_on_literals refusals rows rules_in floor_in
   only_warnings = refl
 
@@ -186,6 +193,43 @@ module _ (name : Text) where
   stray_only : job (name ∷ codes "print" ∷ codes "--only=warn" ∷ []) ≡ None
   unfolding clap_on_literals refusals rows
   stray_only = refl
+
+  shows_json : job (name ∷ codes "run" ∷ codes "--json" ∷ []) ≡ Some (showing (record plain_style { form = Json }))
+  unfolding clap_on_literals refusals rows
+  shows_json = refl
+
+  shows_colors : job (name ∷ codes "--color" ∷ codes "run" ∷ []) ≡ Some (showing (record plain_style { form = Color }))
+  unfolding clap_on_literals refusals rows
+  shows_colors = refl
+
+  both_forms : job (name ∷ codes "run" ∷ codes "--json" ∷ codes "--color" ∷ []) ≡ None
+  unfolding clap_on_literals refusals rows
+  both_forms = refl
+
+  stray_json : job (name ∷ codes "print" ∷ codes "--json" ∷ []) ≡ None
+  unfolding clap_on_literals refusals rows
+  stray_json = refl
+
+  fails_on_warnings : job (name ∷ codes "run" ∷ codes "--fail-on=warn" ∷ []) ≡ Some (showing (record plain_style { fail_on = Some Warn }))
+  unfolding clap_on_literals refusals rows
+  fails_on_warnings = refl
+
+  fails_on_none : job (name ∷ codes "run" ∷ codes "--fail-on=off" ∷ []) ≡ None
+  unfolding clap_on_literals refusals rows
+  fails_on_none = refl
+
+  tells_places : job (name ∷ codes "decode" ∷ codes "--table=t.elf" ∷ codes "--live" ∷ codes "--places=p" ∷ [])
+      ≡ Some (Decode (record { table = codes "t.elf"; places = Some (codes "p"); live = true; style = plain_style }))
+  unfolding clap_on_literals refusals rows
+  tells_places = refl
+
+  stray_places : job (name ∷ codes "run" ∷ codes "--places=p" ∷ []) ≡ None
+  unfolding clap_on_literals refusals rows
+  stray_places = refl
+
+  stray_live : job (name ∷ codes "dump" ∷ codes "--table=t.elf" ∷ codes "--live" ∷ []) ≡ None
+  unfolding clap_on_literals refusals rows
+  stray_live = refl
 
   -- the table may have any name
   any_table : (file : Text) → job (name ∷ codes "decode" ∷ (codes "--table=" ++ file) ∷ []) ≡ Some (decoding file)

@@ -12,9 +12,12 @@ use Rattle.defmt_words.specs.declared.job.ScriptJob.TheVariants.{Run, Record, Te
 use Rattle.defmt_words.specs.declared.job.RunOptions.{RunOptions}
 use Rattle.defmt_words.specs.declared.job.Kind.{Kind}
 use Rattle.defmt_words.specs.declared.job.Kind.TheVariants.{Place, Value, Flag}
-use Rattle.defmt_hooks.specs.declared.rules.Rules.{Rules}
+use Rattle.defmt_words.specs.declared.style.Form.{Form}
+use Rattle.defmt_words.specs.declared.style.Style.{Style}
+use Rattle.defmt_hooks.specs.Levels.{level_named}
+use Rattle.defmt_hooks.specs.Reading.{rules_in}
 use Rattle.defmt_words.specs.Numbers.{decimal_in, hexadecimal_in}
-use Rattle.defmt_words.specs.Only.{only_in}
+use Rattle.defmt_words.specs.Style.{form_in, optional, plain_style}
 
 -- A parameter: its name, how it stands in the words, the commands that take it, and those that need it.
 pub record Parameter : Type 0 where
@@ -33,6 +36,11 @@ parameters =
     ∷ record { name = codes "up"; kind = Value; taken = codes "dump" ∷ []; needed = [] }
     ∷ record { name = codes "old"; kind = Flag; taken = codes "dump" ∷ []; needed = [] }
     ∷ record { name = codes "only"; kind = Value; taken = codes "run" ∷ codes "decode" ∷ codes "dump" ∷ []; needed = [] }
+    ∷ record { name = codes "json"; kind = Flag; taken = codes "run" ∷ codes "decode" ∷ codes "dump" ∷ []; needed = [] }
+    ∷ record { name = codes "color"; kind = Flag; taken = codes "run" ∷ codes "decode" ∷ codes "dump" ∷ []; needed = [] }
+    ∷ record { name = codes "fail-on"; kind = Value; taken = codes "run" ∷ codes "decode" ∷ codes "dump" ∷ []; needed = [] }
+    ∷ record { name = codes "places"; kind = Value; taken = codes "decode" ∷ codes "dump" ∷ []; needed = [] }
+    ∷ record { name = codes "live"; kind = Flag; taken = codes "decode" ∷ []; needed = [] }
     ∷ []
 
 -- ---- the command line, as `clap` sees it: the command, which is required, and then the parameters
@@ -89,21 +97,31 @@ all_go command rows list = list_all (goes command rows) list
 
 -- ---- the job of a command, by parameters that go with it
 
--- the rules for what is printed, where there are some
-abbrev pub only_by : List Row → Option (Option Rules)
-only_by rows = only_in (first_of (codes "only") rows)
+abbrev pub form_by : List Row → Option Form
+form_by rows = form_in (is_set (codes "json") rows) (is_set (codes "color") rows)
+
+-- what is asked of printing, where all of it is spelled rightly
+abbrev pub style_by : List Row → Option Style
+style_by rows =
+    option_and_then (λ only. option_and_then (λ form. option_map (λ fail_on.
+    record { only = only; form = form; fail_on = fail_on })
+    (optional level_named (first_of (codes "fail-on") rows))) (form_by rows)) (optional rules_in (first_of (codes "only") rows))
 
 -- the options of `run` where the words have none
 abbrev pub no_options : RunOptions
-no_options = record { group = false; only = None }
+no_options = record { group = false; style = plain_style }
 
 abbrev pub run_by : List Row → Option Job
-run_by rows = option_map (λ only. Script (Run (record { group = is_set (codes "group") rows; only = only }))) (only_by rows)
+run_by rows = option_map (λ style. Script (Run (record { group = is_set (codes "group") rows; style = style }))) (style_by rows)
 
 abbrev pub decode_by : List Row → Option Job
 decode_by rows =
-    option_and_then (λ table. option_map (λ only. Decode (record { table = table; only = only })) (only_by rows))
-    (first_of (codes "table") rows)
+    option_and_then (λ table. option_map (λ style. Decode (record {
+      table = table;
+      places = first_of (codes "places") rows;
+      live = is_set (codes "live") rows;
+      style = style;
+    })) (style_by rows)) (first_of (codes "table") rows)
 
 -- the address that `--base` spells, or 20000000
 abbrev pub base_in : List Row → Option ℕ
@@ -115,9 +133,14 @@ up_in rows = option_map_or (decimal_in 0 15) (first_of (codes "up") rows) (Some 
 
 abbrev pub dump_by : List Row → Option Job
 dump_by rows =
-    option_and_then (λ table. option_and_then (λ base. option_and_then (λ up. option_map (λ only.
-    Dump (record { table = table; base = base; up = up; old = is_set (codes "old") rows; only = only }))
-    (only_by rows)) (up_in rows)) (base_in rows)) (first_of (codes "table") rows)
+    option_and_then (λ table. option_and_then (λ base. option_and_then (λ up. option_map (λ style. Dump (record {
+      table = table;
+      places = first_of (codes "places") rows;
+      base = base;
+      up = up;
+      old = is_set (codes "old") rows;
+      style = style;
+    })) (style_by rows)) (up_in rows)) (base_in rows)) (first_of (codes "table") rows)
 
 abbrev pub generate_by : List Row → Option Job
 generate_by rows =

@@ -5,24 +5,25 @@ ghost use Rattle.defmt_words.specs.Words.{no_options, parameters};
 ghost use Rattle.defmt_words.specs.View.{parameter_view};
 
 use crate::number::Count;
+use crate::style::Style;
 use defmt_grammar::Text;
-use defmt_hooks::Rules;
 
 /// What the words ask for.
 #[derive(Drop)]
 pub enum Job {
     /// A command on a script.
     Script(ScriptJob),
-    /// `decode --table FILE [--only RULES]`: the lines of a recording.
+    /// `decode --table FILE [--places FILE] [--live]` with options of printing: the lines of a recording.
     Decode(DecodeOptions),
-    /// `dump --table FILE [--base 0xHEX] [--up N] [--old] [--only RULES]`: the lines of an up-buffer in an image of memory.
+    /// `dump --table FILE [--places FILE] [--base 0xHEX] [--up N] [--old]` with options of printing: the lines of an up-buffer in an
+    /// image of memory.
     Dump(DumpOptions),
 }
 
 /// What is done with a script.
 #[derive(Drop)]
 pub enum ScriptJob {
-    /// `run [--group] [--only RULES]`: the script is run, and its lines are written.
+    /// `run [--group]` with options of printing: the script is run, and its lines are written.
     Run(RunOptions),
     /// `record`: the script is run, and what was sent is written.
     Record,
@@ -43,18 +44,18 @@ pub enum ScriptJob {
 pub struct RunOptions {
     /// `--group`: whether the lines are grouped by writer.
     pub group: bool,
-    /// `--only RULES`: which lines are printed, or else all.
-    pub only: Option<Rules>,
+    /// What is asked of printing.
+    pub style: Style,
 }
 
 impl RunOptions {
-    /// The options of words that have none: the lines of all writers in one, and all of them.
+    /// The options of words that have none: the lines of all writers in one, and all of them, plainly.
     pub fn none() -> RunOptions
         ensures { result ≡ no_options }
     {
         RunOptions {
             group: false,
-            only: None,
+            style: Style::plain(),
         }
     }
 }
@@ -64,8 +65,12 @@ impl RunOptions {
 pub struct DecodeOptions {
     /// `--table FILE`: the name of the file that holds the table.
     pub table: Text,
-    /// `--only RULES`: which lines are printed, or else all.
-    pub only: Option<Rules>,
+    /// `--places FILE`: the name of the file that tells where in the sources each statement stands, or else none.
+    pub places: Option<Text>,
+    /// `--live`: whether a device that runs is read, so that the recording may be of any length, and a front and a tail are no faults.
+    pub live: bool,
+    /// What is asked of printing.
+    pub style: Style,
 }
 
 /// The options of `dump`.
@@ -73,14 +78,16 @@ pub struct DecodeOptions {
 pub struct DumpOptions {
     /// `--table FILE`: the name of the file that holds the table.
     pub table: Text,
+    /// `--places FILE`: the name of the file that tells where in the sources each statement stands, or else none.
+    pub places: Option<Text>,
     /// `--base 0xHEX`: the address of the first byte of an image that isn't a core file, or else 0x20000000.
     pub base: u32,
     /// `--up N`: the number of the up-buffer, or else 0.
     pub up: u32,
     /// `--old`: whether all bytes of the buffer are decoded, and not those alone that wait.
     pub old: bool,
-    /// `--only RULES`: which lines are printed, or else all.
-    pub only: Option<Rules>,
+    /// What is asked of printing.
+    pub style: Style,
 }
 
 /// How a parameter stands in the words.
@@ -108,7 +115,7 @@ pub struct Parameter<'a> {
 }
 
 /// A row a parameter.
-pub fn parameters<'a>() -> [Parameter<'a>; 7]
+pub fn parameters<'a>() -> [Parameter<'a>; 12]
     ensures { map parameter_view result ≡ parameters }
 {
     [
@@ -152,6 +159,36 @@ pub fn parameters<'a>() -> [Parameter<'a>; 7]
             name: "only",
             kind: Kind::Value,
             taken: &["run", "decode", "dump"],
+            needed: &[],
+        },
+        Parameter {
+            name: "json",
+            kind: Kind::Flag,
+            taken: &["run", "decode", "dump"],
+            needed: &[],
+        },
+        Parameter {
+            name: "color",
+            kind: Kind::Flag,
+            taken: &["run", "decode", "dump"],
+            needed: &[],
+        },
+        Parameter {
+            name: "fail-on",
+            kind: Kind::Value,
+            taken: &["run", "decode", "dump"],
+            needed: &[],
+        },
+        Parameter {
+            name: "places",
+            kind: Kind::Value,
+            taken: &["decode", "dump"],
+            needed: &[],
+        },
+        Parameter {
+            name: "live",
+            kind: Kind::Flag,
+            taken: &["decode"],
             needed: &[],
         },
     ]

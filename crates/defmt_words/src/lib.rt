@@ -7,10 +7,11 @@
 mod command_line;
 mod job;
 mod number;
-mod only;
 mod parameters;
 mod reading;
+mod style;
 
 pub use job::{DecodeOptions, DumpOptions, Job, RunOptions, ScriptJob};
 pub use number::{Count, Within};
 pub use reading::job_of;
+pub use style::{Form, Style};

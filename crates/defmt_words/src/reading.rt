@@ -1,33 +1,27 @@
 //! The job by what was found in the words.
 ghost use Rattle.std.specs.Prelude.{◌≡◌, map, IfOk, string_bytes};
 ghost use Rattle.clap.specs.Words.{found_of, rows_of};
-ghost use Rattle.defmt_words.specs.Words.{chosen, job, choice, base_in, decode_by, dump_by, generate_by, only_by, run_by, up_in};
+ghost use Rattle.defmt_words.specs.View.{text_in};
+ghost use Rattle.defmt_words.specs.Words.{chosen, job, choice, base_in, decode_by, dump_by, generate_by, run_by, up_in};
 
 use crate::command_line::matches_of;
 use crate::job::{DecodeOptions, DumpOptions, Job, RunOptions, ScriptJob, parameters};
 use crate::number::{Up, decimal_of, hexadecimal_of};
-use crate::only::only_of;
 use crate::parameters::{all_go, is_set, value_of};
+use crate::style::style_of;
 use clap::ArgMatches;
 use defmt_grammar::Text;
-use defmt_hooks::Rules;
 use dl_io::Memory;
 use std::alloc::Global;
-
-fn only_by(alloc: Global, matches: &ArgMatches<'_>) -> Result<Option<Option<Rules>>, Memory>
-    ensures { IfOk result (λ only. only ≡ only_by (rows_of (found_of matches.now))) }
-{
-    only_of(alloc, value_of(matches, "only"))
-}
 
 fn run_job(alloc: Global, matches: &ArgMatches<'_>) -> Result<Option<Job>, Memory>
     ensures { IfOk result (λ job. job ≡ run_by (rows_of (found_of matches.now))) }
 {
-    let Some(only) = only_by(alloc, matches)? else {
+    let Some(style) = style_of(alloc, matches)? else {
         return Ok(None);
     };
     let group = is_set(matches, "group");
-    Ok(Some(Job::Script(ScriptJob::Run(RunOptions { group, only }))))
+    Ok(Some(Job::Script(ScriptJob::Run(RunOptions { group, style }))))
 }
 
 fn text_of(alloc: Global, text: &str) -> Result<Text, Memory>
@@ -40,17 +34,34 @@ fn text_of(alloc: Global, text: &str) -> Result<Text, Memory>
     }
 }
 
+// A copy of a value, where there is one.
+fn copy_of(alloc: Global, value: Option<&str>) -> Result<Option<Text>, Memory>
+    ensures { IfOk result (λ copy. copy ≡ text_in value.entry) }
+{
+    match value {
+        Some(text) => Ok(Some(text_of(alloc, text)?)),
+        None => Ok(None),
+    }
+}
+
 fn decode_job(alloc: Global, matches: &ArgMatches<'_>) -> Result<Option<Job>, Memory>
     ensures { IfOk result (λ job. job ≡ decode_by (rows_of (found_of matches.now))) }
 {
     let Some(name) = value_of(matches, "table") else {
         return Ok(None);
     };
-    let Some(only) = only_by(alloc, matches)? else {
+    let Some(style) = style_of(alloc, matches)? else {
         return Ok(None);
     };
     let table = text_of(alloc, name)?;
-    Ok(Some(Job::Decode(DecodeOptions { table, only })))
+    let places = copy_of(alloc, value_of(matches, "places"))?;
+    let live = is_set(matches, "live");
+    Ok(Some(Job::Decode(DecodeOptions {
+        table,
+        places,
+        live,
+        style,
+    })))
 }
 
 // Where the memory of a Cortex-M begins.
@@ -87,17 +98,19 @@ fn dump_job(alloc: Global, matches: &ArgMatches<'_>) -> Result<Option<Job>, Memo
     let Some(up) = up_of(matches) else {
         return Ok(None);
     };
-    let Some(only) = only_by(alloc, matches)? else {
+    let Some(style) = style_of(alloc, matches)? else {
         return Ok(None);
     };
     let table = text_of(alloc, name)?;
+    let places = copy_of(alloc, value_of(matches, "places"))?;
     let old = is_set(matches, "old");
     Ok(Some(Job::Dump(DumpOptions {
         table,
+        places,
         base,
         up,
         old,
-        only,
+        style,
     })))
 }
 
@@ -142,11 +155,14 @@ fn chosen_of(alloc: Global, matches: &ArgMatches<'_>) -> Result<Option<Job>, Mem
 /// What the words ask for, or `None` where they ask for nothing. The first word is the program's name.
 ///
 /// `clap` reads them as one simple command: a required positional `command`, an optional positional `number`, the options
-/// `--table`, `--base`, `--up` and `--only` with one value each, and the flags `--group` and `--old`. The variants of [`Job`] and
-/// [`ScriptJob`] say which go with which command: what stands there in brackets may be left out, what stands there without must be
-/// there, and nothing else may. N is decimal, without sign or leading zero: of `gen` from 1 to 4,096, of `--up` from 0 to 15. HEX is
-/// 1 to 8 hexadecimal digits of either case. RULES is what `defmt_hooks::read_rules` reads. What `clap` answers with help or a
-/// version asks for nothing. The one error is want of memory.
+/// `--table`, `--places`, `--base`, `--up`, `--only` and `--fail-on` with one value each, and the flags `--group`, `--old`, `--live`,
+/// `--json` and `--color`. The variants of [`Job`] and [`ScriptJob`] say which go with which command, with those of [`Style`] where
+/// they speak of options of printing: what stands there in brackets may be left out, what stands there without must be there, and
+/// nothing else may. N is decimal, without sign or leading zero: of `gen` from 1 to 4,096, of `--up` from 0 to 15. HEX is 1 to 8
+/// hexadecimal digits of either case. RULES is what `defmt_hooks::read_rules` reads, LEVEL one of `trace`, `debug`, `info`, `warn` and
+/// `error`. What `clap` answers with help or a version asks for nothing. The one error is want of memory.
+///
+/// [`Style`]: crate::Style
 pub fn job_of(alloc: Global, words: &[String]) -> Result<Option<Job>, Memory>
     ensures { IfOk result (λ answer. answer ≡ job (map string_bytes words.now)) }
 {
