@@ -1,4 +1,4 @@
-pub mod AtHand
+pub mod ByteSource
 pub mod Fronts
 pub mod Gathering
 pub mod Hearing

@@ -8,7 +8,7 @@ use Rattle.dl_io.proofs.Streams.{appends_then, appends_none, consumes_then, cons
 use Rattle.defmt_framing.specs.Told.{begun, events}
 use Rattle.defmt_framing.specs.Framing.{Framing, Stands}
 use Rattle.defmt_listen.specs.Streams.{Input, Output}
-use Rattle.defmt_listen.specs.Heard.{Reports, lines, lines_from, state_behind, faults, faults_among, recording_limit, HeardAll, HeardBegun, HeardTooMuch, HeardFront, HeardPart, HeardSome, Breaks, BreaksPart, ReadsNo}
+use Rattle.defmt_listen.specs.Heard.{Reports, lines, lines_from, state_behind, faults, faults_among, HeardAll, HeardTo, HeardBegun, HeardTooMuch, HeardFront, HeardPart, HeardSome, Breaks, BreaksPart, ReadsNo}
 use Rattle.defmt_listen.specs.declared.fault.ListenFault.{ListenFault}
 use Rattle.defmt_listen.specs.declared.fault.ListenFault.TheVariants.{Source, Sink, Long, Memory}
 use Rattle.defmt_listen.proofs.Fronts.{Front, then_front, longer_front, lines-append, behind-append, faults-append, events_go, begun_nothing, rest_of, no_rest}
@@ -17,7 +17,7 @@ use Rattle.defmt_listen.proofs.Fronts.{Front, then_front, longer_front, lines-ap
 pub record Listening {S E : Type 0} (r : Reports S E) (state_now : S) (now : Framing) (left left_now held held_now : Option (List ℕ)) (taken count : ℕ) : Type 0 where
   pub bytes : List ℕ
   pub size : length bytes ≡ taken
-  pub within : taken ≤ recording_limit
+  pub within : taken ≤ r.limit
   pub took : Consumes left left_now bytes
   pub stands : Stands now bytes
   pub written : Appends held held_now (lines r (begun r.tells bytes))
@@ -52,7 +52,7 @@ module _ {S E : Type 0} (r : Reports S E) (left held : Option (List ℕ)) where
 
   -- one part more
   pub more : (state_now state_after : S) (now after : Framing) (left_now left_after : Option (List ℕ)) (output : Output) (taken count count_after : ℕ) (part : List ℕ)
-      → Listening r state_now now left left_now held output.held taken count → Consumes left_now left_after part → taken + length part ≤ recording_limit
+      → Listening r state_now now left left_now held output.held taken count → Consumes left_now left_after part → taken + length part ≤ r.limit
       → ((stream : List ℕ) → Stands now stream
       → HeardPart r.tells r.reporting after state_now state_after output stream part count count_after)
       → count_after ≤ count + length part
@@ -94,18 +94,18 @@ module _ {S E : Type 0} (r : Reports S E) (input : Input) (output : Output) (sta
   source so same = record { bytes = so.bytes; taken = keeps_none input.left left_now input.left_after so.bytes so.took same; within = omega (arith, so.size, so.within); written = so.written }
 
   -- one byte more than the limit
-  pub long : Listening r state_now now input.left left_now output.held output.held_after taken count → taken ≡ recording_limit
+  pub long : Listening r state_now now input.left left_now output.held output.held_after taken count → taken ≡ r.limit
       → Took left_now input.left_after (λ (l : List ℕ). length l ≡ 1) → HeardTooMuch r input output
   long so full one = record {
     bytes = so.bytes ++ one.0;
     taken = consumes_then input.left left_now input.left_after so.bytes one.0 so.took one.2;
     size = omega (arith, length-append so.bytes one.0, so.size, one.1, full);
-    written = subst (λ (l : List ℕ). Appends output.held output.held_after (lines r (begun r.tells l))) (sym (take_at so.bytes one.0 recording_limit (so.size ∙ full))) so.written;
+    written = subst (λ (l : List ℕ). Appends output.held output.held_after (lines r (begun r.tells l))) (sym (take_at so.bytes one.0 r.limit (so.size ∙ full))) so.written;
   }
 
   module _ (held_now : Option (List ℕ)) (so : Listening r state_now now input.left left_now output.held held_now taken count) where
     -- a front of a part is heard, and a front of its lines is written
-    pub part : (before : ℕ) (bytes : List ℕ) → Consumes left_now input.left_after bytes → taken + length bytes ≤ recording_limit
+    pub part : (before : ℕ) (bytes : List ℕ) → Consumes left_now input.left_after bytes → taken + length bytes ≤ r.limit
         → ((stream : List ℕ) → Stands now stream → HeardSome r.tells r.reporting state_now (record output { held = held_now; faults = before }) stream bytes)
         → HeardFront r input output
     part before bytes took fits heard =
@@ -139,9 +139,9 @@ module _ {S E : Type 0} (r : Reports S E) (input : Input) (output : Output) (sta
     all_lines = sym (join r input.left output.held state_now (begun r.tells so.bytes) (option_to_list last) (events r.tells so.bytes) so.moved (finishes so.bytes so.stands))
 
     -- all is heard and written
-    pub whole : (text : List ℕ) (count_after : ℕ) → text ≡ lines_from r.reporting state_now (option_to_list last) → count_after ≡ count + faults_among r.reporting (option_to_list last) → Appends held_now output.held_after text
+    all_heard : (text : List ℕ) (count_after : ℕ) → text ≡ lines_from r.reporting state_now (option_to_list last) → count_after ≡ count + faults_among r.reporting (option_to_list last) → Appends held_now output.held_after text
         → HeardAll r input output count_after
-    whole text count_after text_is count_is all_ = record {
+    all_heard text count_after text_is count_is all_ = record {
       recording = so.bytes;
       taken = so.took;
       at_end = end;
@@ -149,6 +149,16 @@ module _ {S E : Type 0} (r : Reports S E) (input : Input) (output : Output) (sta
       written = subst (Appends output.held output.held_after) (sym all_lines)
           (appends_then output.held held_now output.held_after (lines r (begun r.tells so.bytes)) (lines_from r.reporting state_now (option_to_list last)) so.written (subst (Appends held_now output.held_after) text_is all_));
       counted = count_is ∙ ap (λ (n : ℕ). n + faults_among r.reporting (option_to_list last)) so.counted ∙ sym (faults-append r.reporting (begun r.tells so.bytes) (option_to_list last)) ∙ ap (faults r) (sym (finishes so.bytes so.stands));
+    }
+
+    -- and the reporter went on behind it
+    pub whole : (text : List ℕ) (count_after : ℕ) (after : S) → text ≡ lines_from r.reporting state_now (option_to_list last) → count_after ≡ count + faults_among r.reporting (option_to_list last) → Appends held_now output.held_after text
+        → after ≡ state_behind r.reporting state_now (option_to_list last) → HeardTo r input output count_after after
+    unfolding all_heard
+    whole text count_after after text_is count_is all_ after_is = record {
+      all = all_heard text count_after text_is count_is all_;
+      moved = after_is ∙ ap (λ (s : S). state_behind r.reporting s (option_to_list last)) so.moved
+          ∙ sym (behind-append r.reporting r.start (begun r.tells so.bytes) (option_to_list last)) ∙ ap (state_behind r.reporting r.start) (sym (finishes so.bytes so.stands));
     }
 
     -- a front of the last line is written
@@ -202,7 +212,7 @@ breaks_part r input output middle Long why front later = absurd why
 
 pub breaks_read : {S E : Type 0} (r : Reports S E) (input : Input) (output : Output) (state_now : S) (now : Framing) (left_now : Option (List ℕ)) (middle taken count : ℕ) (fault : ListenFault)
     → Listening r state_now now input.left left_now output.held output.held_after taken count → input.faults ≤ middle
-    → ReadsNo (record input { left = left_now; faults = middle }) taken fault → Breaks r input output fault
+    → ReadsNo r.limit (record input { left = left_now; faults = middle }) taken fault → Breaks r input output fault
 breaks_read r input output state_now now left_now middle taken count Source so later why =
     (source r input output state_now now left_now taken count so why.1, rose_later input.faults middle input.faults_after later why.0)
 breaks_read r input output state_now now left_now middle taken count Long so later why = long r input output state_now now left_now taken count so why.0 why.1

@@ -11,7 +11,7 @@ use Rattle.defmt_listen.specs.declared.fault.ListenFault.TheVariants.{Source, Si
 use Rattle.defmt_listen.specs.declared.reporter.Passing.{Passing}
 use Rattle.defmt_listen.specs.declared.reporter.Passing.TheVariants.{Kept, LeftOut, Asked}
 
--- the most bytes of a recording
+-- the most bytes of a recording, where no other number is said
 abbrev pub recording_limit : ℕ
 recording_limit = 268435456
 
@@ -42,11 +42,12 @@ state_behind reporting state (event ∷ told) = state_behind reporting (reportin
 abbrev pub faults_among : {S E : Type 0} → Reporting S E → List E → ℕ
 faults_among reporting told = length (filter reporting.is_fault told)
 
--- what the parts of a recording tell, and how it is reported, from which state on
+-- what the parts of a recording tell, how it is reported, from which state on, and how many bytes it may have
 pub record Reports (S E : Type 0) : Type 0 where
   pub tells : Tells E
   pub reporting : Reporting S E
   pub start : S
+  pub limit : ℕ
 
 -- what is printed of some events
 abbrev pub lines : {S E : Type 0} → Reports S E → List E → List ℕ
@@ -61,23 +62,28 @@ pub record HeardAll {S E : Type 0} (reports : Reports S E) (input : Input) (outp
   pub recording : List ℕ
   pub taken : Consumes input.left input.left_after recording
   pub at_end : IsAtEnd input.left_after
-  pub within : length recording ≤ recording_limit
+  pub within : length recording ≤ reports.limit
   pub written : Wrote output (lines reports (events reports.tells recording))
   pub counted : count ≡ faults reports (events reports.tells recording)
+
+-- The same, and the reporter went on behind them.
+pub record HeardTo {S E : Type 0} (reports : Reports S E) (input : Input) (output : Output) (count : ℕ) (after : S) : Type 0 where
+  pub all : HeardAll reports input output count
+  pub moved : after ≡ state_behind reports.reporting reports.start (events reports.tells all.recording)
 
 -- These bytes were taken, and all that is begun in them was written.
 pub record HeardBegun {S E : Type 0} (reports : Reports S E) (input : Input) (output : Output) : Type 0 where
   pub bytes : List ℕ
   pub taken : Consumes input.left input.left_after bytes
-  pub within : length bytes ≤ recording_limit
+  pub within : length bytes ≤ reports.limit
   pub written : Wrote output (lines reports (begun reports.tells bytes))
 
 -- One byte more than the limit was taken, and all that is begun in those before it was written.
 pub record HeardTooMuch {S E : Type 0} (reports : Reports S E) (input : Input) (output : Output) : Type 0 where
   pub bytes : List ℕ
   pub taken : Consumes input.left input.left_after bytes
-  pub size : length bytes ≡ recording_limit + 1
-  pub written : Wrote output (lines reports (begun reports.tells (take recording_limit bytes)))
+  pub size : length bytes ≡ reports.limit + 1
+  pub written : Wrote output (lines reports (begun reports.tells (take reports.limit bytes)))
 
 -- These bytes were taken, and a front of the lines of a recording was written that begins with them. Where the source tells
 -- what it has left, the recording goes on with that.
@@ -85,7 +91,7 @@ pub record HeardFront {S E : Type 0} (reports : Reports S E) (input : Input) (ou
   pub bytes : List ℕ
   pub rest : List ℕ
   pub taken : Consumes input.left input.left_after bytes
-  pub within : length bytes ≤ recording_limit
+  pub within : length bytes ≤ reports.limit
   pub is_rest : IsRest input.left_after rest
   pub written : WroteFront output (lines reports (events reports.tells (bytes ++ rest)))
 
@@ -151,9 +157,9 @@ BreaksPart sink Memory = Unit {0}
 BreaksPart sink Source = ⊥
 BreaksPart sink Long = ⊥
 
--- why no further bytes were read behind so many
-abbrev pub ReadsNo : Input → ℕ → ListenFault → Type 0
-ReadsNo input count Source = Rose input.faults input.faults_after × Keeps input.left input.left_after
-ReadsNo input count Long = (count ≡ recording_limit) × Took input.left input.left_after (λ more. length more ≡ 1)
-ReadsNo input count Sink = ⊥
-ReadsNo input count Memory = ⊥
+-- why no further bytes were read behind so many, of at most so many
+abbrev pub ReadsNo : ℕ → Input → ℕ → ListenFault → Type 0
+ReadsNo limit input count Source = Rose input.faults input.faults_after × Keeps input.left input.left_after
+ReadsNo limit input count Long = (count ≡ limit) × Took input.left input.left_after (λ more. length more ≡ 1)
+ReadsNo limit input count Sink = ⊥
+ReadsNo limit input count Memory = ⊥

@@ -25,10 +25,20 @@ pub fn listen_bytes<K: Sink, L: Listener + Drop, R: Reporter<L> + Drop>(
     requires stands { Stands (L.framing listener) [] }
     requires within { length bytes.now ≤ recording_limit }
     ensures told { IfOk result (λ count. ToldAll
-        (record { tells = L.tells listener; reporting = R.reporting; start = reporter })
+        (record {
+          tells = L.tells listener;
+          reporting = R.reporting;
+          start = reporter;
+          limit = recording_limit;
+        })
         bytes.now (output_of K.held K.faults out.old out.new) count) }
     ensures front { IfErr result (λ fault. ToldFront
-        (record { tells = L.tells listener; reporting = R.reporting; start = reporter })
+        (record {
+          tells = L.tells listener;
+          reporting = R.reporting;
+          start = reporter;
+          limit = recording_limit;
+        })
         bytes.now (output_of K.held K.faults out.old out.new) fault) }
     ensures later { K.faults out.old ≤ K.faults out.new }
 {
@@ -36,10 +46,11 @@ pub fn listen_bytes<K: Sink, L: Listener + Drop, R: Reporter<L> + Drop>(
     listen(alloc, &mut src, out, listener, reporter)
 }
 
-// A source of bytes at hand, which never fails.
+/// A source of bytes at hand, which never fails.
 #[derive(Drop)]
-struct AtHand<'a> {
-    left: &'a [u8],
+pub struct AtHand<'a> {
+    /// The bytes that are left.
+    pub left: &'a [u8],
 }
 
 impl<'a> Source for AtHand<'a> {

@@ -3,8 +3,9 @@
 //! `listen` reads a source to its end, gives the bytes to a `Listener`, and writes what a `Reporter` prints of each event to a
 //! sink. A listener cuts the stream of frames at its zeros, as a `Framer` of defmt_framing does, and knows what each part tells.
 //! A reporter knows what is printed of an event, which may depend on the events before it. `listen_bytes` does the same with a
-//! recording that is at hand, and `hear_bytes` with bytes of one, of which nothing is written. `listen_in_turns` is what all of
-//! them do, with a source of which it shows at each read that what is begun in the bytes before is written.
+//! recording that is at hand, which `AtHand` gives as a source, and `hear_bytes` with bytes of one, of which nothing is written.
+//! `listen_in_turns` is what all of them do, with a source of which it shows at each read that what is begun in the bytes before is
+//! written, and with a recording of another length; it answers the reporter too.
 //!
 //! After docs/FORMATS.md, "Events of a stream of frames". So of `07 00 61 62 00 00 63 00 09`, whose second write fails, what is
 //! printed of the front and of both pieces stands (wire_tests, `hearing`).
@@ -19,7 +20,7 @@ mod report;
 mod reporter;
 mod turns;
 
-pub use bytes::{hear_bytes, listen_bytes};
+pub use bytes::{AtHand, hear_bytes, listen_bytes};
 pub use fault::ListenFault;
 pub use listener::Listener;
 pub use listening::{listen, listen_in_turns};

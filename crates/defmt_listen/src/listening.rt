@@ -1,8 +1,8 @@
 //! A whole recording is heard.
-ghost use Rattle.std.specs.Prelude.{◌≡◌, ◌≤◌, ◌<◌, ◌+◌, [], length, take, IfOk, IfErr};
+ghost use Rattle.std.specs.Prelude.{◌≡◌, ◌≤◌, ◌<◌, ◌+◌, ◌^◌, [], length, take, IfOk, IfErr};
 ghost use Rattle.std.specs.Io.KnownBytes.{Consumes, IsAtEnd};
 ghost use Rattle.defmt_framing.specs.Framing.{Stands};
-ghost use Rattle.defmt_listen.specs.Heard.{HeardAll, Breaks, ReadsNo, TakesTurns, recording_limit};
+ghost use Rattle.defmt_listen.specs.Heard.{HeardAll, HeardTo, Breaks, ReadsNo, TakesTurns, recording_limit};
 ghost use Rattle.defmt_listen.specs.Streams.{input_of, output_of};
 
 use crate::fault::ListenFault;
@@ -37,37 +37,69 @@ pub fn listen<S: Source, K: Sink, L: Listener + Drop, R: Reporter<L> + Drop>(
 ) -> Result<u64, ListenFault>
     requires { Stands (L.framing listener) [] }
     ensures heard { IfOk result (λ count. HeardAll
-        (record { tells = L.tells listener; reporting = R.reporting; start = reporter })
+        (record {
+          tells = L.tells listener;
+          reporting = R.reporting;
+          start = reporter;
+          limit = recording_limit;
+        })
         (input_of S.left S.faults src.old src.new)
         (output_of K.held K.faults out.old out.new) count) }
     ensures breaks { IfErr result (λ fault. Breaks
-        (record { tells = L.tells listener; reporting = R.reporting; start = reporter })
+        (record {
+          tells = L.tells listener;
+          reporting = R.reporting;
+          start = reporter;
+          limit = recording_limit;
+        })
         (input_of S.left S.faults src.old src.new)
         (output_of K.held K.faults out.old out.new) fault) }
     ensures source_count { S.faults src.old ≤ S.faults src.new }
     ensures sink_count { K.faults out.old ≤ K.faults out.new }
 {
-    listen_in_turns(alloc, src, out, listener, reporter)
+    match listen_in_turns(alloc, src, out, listener, reporter, RECORDING_LIMIT) {
+        Ok((count, _)) => Ok(count),
+        Err(fault) => Err(fault),
+    }
 }
 
-/// The same from a source that may be read only where what is begun in all that was taken of it is written.
+/// The same with a recording of at most so many bytes, from a source that may be read only where what is begun in all that was taken of
+/// it is written. Each source is one that may be read anywhere. Answers how many events are faults, and the reporter as it is behind
+/// them.
 pub fn listen_in_turns<S: Turns<K>, K: Sink, L: Listener + Drop, R: Reporter<L> + Drop>(
     alloc: Global,
     src: &mut S,
     out: &mut K,
     listener: L,
     reporter: R,
-) -> Result<u64, ListenFault>
+    limit: usize,
+) -> Result<(u64, R), ListenFault>
     requires stands { Stands (L.framing listener) [] }
+    requires few { limit + 1 < 2 ^ 64 }
     requires turns { TakesTurns
-        (record { tells = L.tells listener; reporting = R.reporting; start = reporter })
+        (record {
+          tells = L.tells listener;
+          reporting = R.reporting;
+          start = reporter;
+          limit = limit;
+        })
         S.left K.held S.may src.old out.old }
-    ensures heard { IfOk result (λ count. HeardAll
-        (record { tells = L.tells listener; reporting = R.reporting; start = reporter })
+    ensures heard { IfOk result (λ r. HeardTo
+        (record {
+          tells = L.tells listener;
+          reporting = R.reporting;
+          start = reporter;
+          limit = limit;
+        })
         (input_of S.left S.faults src.old src.new)
-        (output_of K.held K.faults out.old out.new) count) }
+        (output_of K.held K.faults out.old out.new) r.0 r.1) }
     ensures breaks { IfErr result (λ fault. Breaks
-        (record { tells = L.tells listener; reporting = R.reporting; start = reporter })
+        (record {
+          tells = L.tells listener;
+          reporting = R.reporting;
+          start = reporter;
+          limit = limit;
+        })
         (input_of S.left S.faults src.old src.new)
         (output_of K.held K.faults out.old out.new) fault) }
     ensures source_count { S.faults src.old ≤ S.faults src.new }
@@ -79,7 +111,7 @@ pub fn listen_in_turns<S: Turns<K>, K: Sink, L: Listener + Drop, R: Reporter<L> 
     let mut report = Report::new(alloc);
     let mut taken = 0usize;
     'parts: loop {
-        let count = next_part(src, out, &mut buf, taken)?;
+        let count = next_part(src, out, &mut buf, taken, limit)?;
         if count == 0 {
             break;
         }
@@ -95,7 +127,7 @@ pub fn listen_in_turns<S: Turns<K>, K: Sink, L: Listener + Drop, R: Reporter<L> 
     }
     add_told::<L, R>(&mut reporter, &mut report, listener.finish())?;
     write_lines(out, &mut report)?;
-    Ok(report.faults)
+    Ok((report.faults, reporter))
 }
 
 fn part_buffer(alloc: Global) -> Result<Vec<u8>, Memory>
@@ -117,29 +149,30 @@ fn widen(buf: &mut Vec<u8>, count: usize)
     }
 }
 
-// Reads the next bytes, behind so many that were taken.
+// Reads the next bytes, behind so many that were taken, of at most so many.
 fn next_part<S: Turns<K>, K: Sink>(
     src: &mut S,
     out: &K,
     buf: &mut [u8],
     taken: usize,
+    limit: usize,
 ) -> Result<usize, ListenFault>
     requires turn { S.may src.old out.now }
     requires room { 0 < length buf.old }
-    requires within { taken ≤ recording_limit }
+    requires within { taken ≤ limit }
     ensures within { IfOk result
-        (λ count. (count ≤ length buf.new) × (taken + count ≤ recording_limit)) }
+        (λ count. (count ≤ length buf.new) × (taken + count ≤ limit)) }
     ensures bytes { IfOk result
         (λ count. Consumes (S.left src.old) (S.left src.new) (take count buf.new)) }
     ensures end { IfOk result (λ count. count ≡ 0 → IsAtEnd (S.left src.new)) }
     ensures refused { IfErr result
-        (λ fault. ReadsNo (input_of S.left S.faults src.old src.new) taken fault) }
+        (λ fault. ReadsNo limit (input_of S.left S.faults src.old src.new) taken fault) }
     ensures later { S.faults src.old ≤ S.faults src.new }
 {
-    let most = buf.len().min(RECORDING_LIMIT - taken).max(1);
+    let most = buf.len().min(limit - taken).max(1);
     match src.next(out, &mut buf[..most]) {
         Ok(0) => Ok(0),
-        Ok(_) if taken == RECORDING_LIMIT => Err(ListenFault::Long),
+        Ok(_) if taken == limit => Err(ListenFault::Long),
         Ok(count) => Ok(count),
         Err(Failed) => Err(ListenFault::Source),
     }

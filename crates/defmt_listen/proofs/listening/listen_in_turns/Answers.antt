@@ -13,7 +13,7 @@ use Rattle.defmt_listen.proofs.listening.listen_in_turns.Goals as goal
 
 pub returns-in_err-buf-clause-breaks : goal.returns-in_err-buf-clause-breaks
 returns-in_err-buf-clause-breaks g c =
-    let r : Reports g.row.R.Denot g.row.L-Event.Denot = record { tells = g.L.Listener.tells c.args.listener; reporting = g.R.Reporter.reporting; start = c.args.reporter } in
+    let r : Reports g.row.R.Denot g.row.L-Event.Denot = record { tells = g.L.Listener.tells c.args.listener; reporting = g.R.Reporter.reporting; start = c.args.reporter; limit = c.args.limit } in
     let input : Input = input_of g.S.Turns.left g.S.Turns.faults c.args.src.now c.args.src.now in
     let output : Output = output_of g.K.Sink.held g.K.Sink.faults c.args.out.now c.args.out.now in
     if_err (Breaks r input output)
@@ -23,7 +23,7 @@ returns-in_err-buf-clause-breaks g c =
 pub parts-init : goal.parts-init
 parts-init g c = record {
   listening = (
-      let r : Reports g.row.R.Denot g.row.L-Event.Denot = record { tells = g.L.Listener.tells c.args.listener; reporting = g.R.Reporter.reporting; start = c.args.reporter } in
+      let r : Reports g.row.R.Denot g.row.L-Event.Denot = record { tells = g.L.Listener.tells c.args.listener; reporting = g.R.Reporter.reporting; start = c.args.reporter; limit = c.args.limit } in
       subst (λ (n : ℕ). Listening r c.args.reporter (g.L.Listener.framing c.args.listener) (g.S.Turns.left c.args.src.now) (g.S.Turns.left c.args.src.now) (g.K.Sink.held c.args.out.now) (g.K.Sink.held c.args.out.now) 0 n)
       (sym c.new-report.ensures.none) (start r (g.S.Turns.left c.args.src.now) (g.K.Sink.held c.args.out.now) (g.L.Listener.framing c.args.listener) c.requires.stands)
       );
@@ -42,7 +42,7 @@ next_part-requires-clause-turn g c =
 
 pub returns-in_err-count-clause-breaks : goal.returns-in_err-count-clause-breaks
 returns-in_err-count-clause-breaks g c =
-    let r : Reports g.row.R.Denot g.row.L-Event.Denot = record { tells = g.L.Listener.tells c.args.listener; reporting = g.R.Reporter.reporting; start = c.args.reporter } in
+    let r : Reports g.row.R.Denot g.row.L-Event.Denot = record { tells = g.L.Listener.tells c.args.listener; reporting = g.R.Reporter.reporting; start = c.args.reporter; limit = c.args.limit } in
     let input : Input = input_of g.S.Turns.left g.S.Turns.faults c.args.src.now c.next_part.new.src in
     let output : Output = output_of g.K.Sink.held g.K.Sink.faults c.args.out.now c.parts.out in
     if_err (Breaks r input output)
@@ -52,7 +52,7 @@ returns-in_err-count-clause-breaks g c =
 
 pub returns-in_err-hear_part-clause-breaks : goal.returns-in_err-hear_part-clause-breaks
 returns-in_err-hear_part-clause-breaks g c =
-    let r : Reports g.row.R.Denot g.row.L-Event.Denot = record { tells = g.L.Listener.tells c.args.listener; reporting = g.R.Reporter.reporting; start = c.args.reporter } in
+    let r : Reports g.row.R.Denot g.row.L-Event.Denot = record { tells = g.L.Listener.tells c.args.listener; reporting = g.R.Reporter.reporting; start = c.args.reporter; limit = c.args.limit } in
     let input : Input = input_of g.S.Turns.left g.S.Turns.faults c.args.src.now c.next_part.new.src in
     let output : Output = output_of g.K.Sink.held g.K.Sink.faults c.args.out.now c.hear_part.new.out in
     let between : Output = output_of g.K.Sink.held g.K.Sink.faults c.parts.out c.hear_part.new.out in
@@ -60,7 +60,7 @@ returns-in_err-hear_part-clause-breaks g c =
     let len : length c.next_part.new.buf ≡ c.parts.buf.len = omega (arith, c.next_part.auto.buf, c.deref_mut.ensures.len) in
     let whole_is : c.deref.result.now ≡ c.next_part.new.buf = c.deref.ensures.value ∙ take_at c.next_part.new.buf (drop (length c.next_part.new.buf) c.parts.buf.items) c.parts.buf.len len in
     let part_is : take c.in_ok-count.count c.deref.result.now ≡ bytes = ap (take c.in_ok-count.count) whole_is in
-    let fits : c.parts.taken + length bytes ≤ 268435456 = omega (arith, length-take c.in_ok-count.count c.next_part.new.buf, c.in_ok-count.ensures.within.0, c.in_ok-count.ensures.within.1) in
+    let fits : c.parts.taken + length bytes ≤ c.args.limit = omega (arith, length-take c.in_ok-count.count c.next_part.new.buf, c.in_ok-count.ensures.within.0, c.in_ok-count.ensures.within.1) in
     let front : HeardFront r input output =
     part r input output c.parts.reporter (g.L.Listener.framing c.parts.listener) (g.S.Turns.left c.parts.src) c.parts.taken c.parts.report.faults
     (g.K.Sink.held c.parts.out) c.parts.invariant.listening (g.K.Sink.faults c.parts.out) bytes c.in_ok-count.ensures.bytes fits
@@ -73,13 +73,13 @@ returns-in_err-hear_part-clause-breaks g c =
 
 pub parts-preserved : goal.parts-preserved
 parts-preserved g c =
-    let r : Reports g.row.R.Denot g.row.L-Event.Denot = record { tells = g.L.Listener.tells c.args.listener; reporting = g.R.Reporter.reporting; start = c.args.reporter } in
+    let r : Reports g.row.R.Denot g.row.L-Event.Denot = record { tells = g.L.Listener.tells c.args.listener; reporting = g.R.Reporter.reporting; start = c.args.reporter; limit = c.args.limit } in
     let between : Output = output_of g.K.Sink.held g.K.Sink.faults c.parts.out c.hear_part.new.out in
     let bytes : List ℕ = take c.in_ok-count.count c.next_part.new.buf in
     let len : length c.next_part.new.buf ≡ c.parts.buf.len = omega (arith, c.next_part.auto.buf, c.deref_mut.ensures.len) in
     let whole_is : c.deref.result.now ≡ c.next_part.new.buf = c.deref.ensures.value ∙ take_at c.next_part.new.buf (drop (length c.next_part.new.buf) c.parts.buf.items) c.parts.buf.len len in
     let part_is : take c.in_ok-count.count c.deref.result.now ≡ bytes = ap (take c.in_ok-count.count) whole_is in
-    let fits : c.parts.taken + length bytes ≤ 268435456 = omega (arith, length-take c.in_ok-count.count c.next_part.new.buf, c.in_ok-count.ensures.within.0, c.in_ok-count.ensures.within.1) in
+    let fits : c.parts.taken + length bytes ≤ c.args.limit = omega (arith, length-take c.in_ok-count.count c.next_part.new.buf, c.in_ok-count.ensures.within.0, c.in_ok-count.ensures.within.1) in
     let size : length bytes ≡ c.in_ok-count.count = omega (arith, length-take c.in_ok-count.count c.next_part.new.buf, c.in_ok-count.ensures.within.0) in
     let few : c.hear_part.new.report.faults ≤ c.parts.report.faults + length bytes = omega (arith, c.in_ok-hear_part.ensures.few, ap length part_is) in
     let heard : (stream : List ℕ) → Stands (g.L.Listener.framing c.parts.listener) stream → HeardPart r.tells r.reporting (g.L.Listener.framing c.hear_part.new.listener) c.parts.reporter c.hear_part.new.reporter
@@ -106,7 +106,7 @@ parts-preserved g c =
 
 pub returns-in_err-add_told-clause-breaks : goal.returns-in_err-add_told-clause-breaks
 returns-in_err-add_told-clause-breaks g c =
-    let r : Reports g.row.R.Denot g.row.L-Event.Denot = record { tells = g.L.Listener.tells c.args.listener; reporting = g.R.Reporter.reporting; start = c.args.reporter } in
+    let r : Reports g.row.R.Denot g.row.L-Event.Denot = record { tells = g.L.Listener.tells c.args.listener; reporting = g.R.Reporter.reporting; start = c.args.reporter; limit = c.args.limit } in
     let input : Input = input_of g.S.Turns.left g.S.Turns.faults c.args.src.now c.next_part.new.src in
     let output : Output = output_of g.K.Sink.held g.K.Sink.faults c.args.out.now c.parts.out in
     let end = c.in_ok-count.ensures.end c.if-count-eq0.true in
@@ -121,7 +121,7 @@ returns-in_err-add_told-clause-breaks g c =
 
 pub returns-in_err-write_lines-clause-breaks : goal.returns-in_err-write_lines-clause-breaks
 returns-in_err-write_lines-clause-breaks g c =
-    let r : Reports g.row.R.Denot g.row.L-Event.Denot = record { tells = g.L.Listener.tells c.args.listener; reporting = g.R.Reporter.reporting; start = c.args.reporter } in
+    let r : Reports g.row.R.Denot g.row.L-Event.Denot = record { tells = g.L.Listener.tells c.args.listener; reporting = g.R.Reporter.reporting; start = c.args.reporter; limit = c.args.limit } in
     let input : Input = input_of g.S.Turns.left g.S.Turns.faults c.args.src.now c.next_part.new.src in
     let output : Output = output_of g.K.Sink.held g.K.Sink.faults c.args.out.now c.write_lines.new.out in
     let end = c.in_ok-count.ensures.end c.if-count-eq0.true in
@@ -139,7 +139,7 @@ returns-in_err-write_lines-clause-breaks g c =
 
 pub returns-clause-heard : goal.returns-clause-heard
 returns-clause-heard g c =
-    let r : Reports g.row.R.Denot g.row.L-Event.Denot = record { tells = g.L.Listener.tells c.args.listener; reporting = g.R.Reporter.reporting; start = c.args.reporter } in
+    let r : Reports g.row.R.Denot g.row.L-Event.Denot = record { tells = g.L.Listener.tells c.args.listener; reporting = g.R.Reporter.reporting; start = c.args.reporter; limit = c.args.limit } in
     let input : Input = input_of g.S.Turns.left g.S.Turns.faults c.args.src.now c.next_part.new.src in
     let output : Output = output_of g.K.Sink.held g.K.Sink.faults c.args.out.now c.write_lines.new.out in
     let end = c.in_ok-count.ensures.end c.if-count-eq0.true in
@@ -149,4 +149,4 @@ returns-clause-heard g c =
     no_more r (g.S.Turns.left c.args.src.now) (g.K.Sink.held c.args.out.now) c.parts.reporter (g.L.Listener.framing c.parts.listener) (g.S.Turns.left c.parts.src) (g.S.Turns.left c.next_part.new.src) (g.K.Sink.held c.parts.out) c.parts.taken c.parts.report.faults (take c.in_ok-count.count c.next_part.new.buf) c.parts.invariant.listening c.in_ok-count.ensures.bytes (omega (arith, length-take c.in_ok-count.count c.next_part.new.buf, c.if-count-eq0.true)) in
     let text_is : (gathered c.add_told.new.report) ≡ lines_from r.reporting c.parts.reporter (option_to_list c.finish.result) = ◌∙◌ {a = (gathered c.add_told.new.report)} {b = gathered c.parts.report ++ lines_from r.reporting c.parts.reporter (option_to_list c.finish.result)} c.in_ok-add_told.ensures.lines (ap (λ (l : List ℕ). l ++ lines_from r.reporting c.parts.reporter (option_to_list c.finish.result)) c.parts.invariant.empty) in
     rw c.write_lines.ensures.faults (whole r input output c.parts.reporter (g.L.Listener.framing c.parts.listener) c.parts.taken c.parts.report.faults end c.finish.result finishes
-    (g.K.Sink.held c.parts.out) so (gathered c.add_told.new.report) c.add_told.new.report.faults text_is c.in_ok-add_told.ensures.faults c.in_ok-write_lines.ensures.ok)
+    (g.K.Sink.held c.parts.out) so (gathered c.add_told.new.report) c.add_told.new.report.faults c.add_told.new.reporter text_is c.in_ok-add_told.ensures.faults c.in_ok-write_lines.ensures.ok c.in_ok-add_told.ensures.moved)

@@ -1,12 +1,11 @@
 use Rattle.std.proofs.Common.{◌≡◌, ◌≤◌, ◌<◌, ◌-◌, [], length}
 use Rattle.defmt_listen.specs.Gathered.{gathered, IsGathered}
-use Rattle.defmt_listen.specs.Heard.{recording_limit}
 use Rattle.defmt_listen.proofs.Wholes.{Listening}
 use Rattle.defmt_listen.proofs.listening.listen_in_turns.Given as goal
 
 abbrev pub invariant-parts : goal.invariant-parts
 invariant-parts g l = record {
-  listening : Listening (record { tells = g.L.Listener.tells l.fn.listener; reporting = g.R.Reporter.reporting; start = l.fn.reporter }) l.reporter
+  listening : Listening (record { tells = g.L.Listener.tells l.fn.listener; reporting = g.R.Reporter.reporting; start = l.fn.reporter; limit = l.fn.limit }) l.reporter
       (g.L.Listener.framing l.listener) (g.S.Turns.left l.fn.src) (g.S.Turns.left l.src)
       (g.K.Sink.held l.fn.out) (g.K.Sink.held l.out) l.taken l.report.faults;
   within : IsGathered l.report;
@@ -18,4 +17,4 @@ invariant-parts g l = record {
 }
 
 abbrev pub decreases-parts : goal.decreases-parts
-decreases-parts g l = recording_limit - l.taken
+decreases-parts g l = l.fn.limit - l.taken

@@ -1,6 +1,6 @@
 use Rattle.std.proofs.Common.{◌≡◌, ◌-◌, ◌++◌, ◌∙◌, ℕ, List, length, take, drop, ap, sym}
 use Rattle.std.proofs.lemmas.List.{take_rest}
-use Rattle.defmt_listen.proofs.AtHand.{copied_front}
+use Rattle.defmt_listen.proofs.ByteSource.{copied_front}
 use Rattle.defmt_listen.proofs.bytes.AtHandSource.read.Goals as goal
 
 pub returns-clause-bytes : goal.returns-clause-bytes

@@ -6,7 +6,7 @@ use Rattle.std.specs.Io.KnownBytes.{Appends}
 use Rattle.dl_io.specs.Outside.{Rose}
 use Rattle.defmt_framing.specs.Told.{events}
 use Rattle.defmt_listen.specs.Streams.{Input, Output, WroteFront, input_of}
-use Rattle.defmt_listen.specs.Heard.{Reports, lines, faults, recording_limit, HeardAll, HeardFront, Breaks, ToldAll, ToldFront}
+use Rattle.defmt_listen.specs.Heard.{Reports, lines, faults, HeardAll, HeardFront, Breaks, ToldAll, ToldFront}
 use Rattle.defmt_listen.specs.declared.fault.ListenFault.{ListenFault}
 use Rattle.defmt_listen.specs.declared.fault.ListenFault.TheVariants.{Source, Sink, Long, Memory}
 
@@ -44,7 +44,7 @@ module _ {S E : Type 0} (r : Reports S E) (bytes after : List ℕ) (output : Out
       let is : heard.bytes ++ heard.rest ≡ bytes = ap (λ (l : List ℕ). heard.bytes ++ l) heard.is_rest ∙ sym heard.taken in
       subst (λ (l : List ℕ). WroteFront output (lines r (events r.tells l))) is heard.written
 
-  pub told_front : length bytes ≤ recording_limit → (fault : ListenFault) → Breaks r (given bytes after) output fault → ToldFront r bytes output fault
+  pub told_front : length bytes ≤ r.limit → (fault : ListenFault) → Breaks r (given bytes after) output fault → ToldFront r bytes output fault
   told_front within Sink breaks = (told_some breaks.0, breaks.1)
   told_front within Memory breaks = told_some breaks
   told_front within Source breaks = never_rose breaks.1
