@@ -1,0 +1,4 @@
+pub mod Names
+pub mod Json
+pub mod Terminal
+pub mod Tamed
