@@ -1,25 +1,24 @@
 -- What the decoding of an image answers is what inputs as told come to.
-use Rattle.std.proofs.Common.{◌≡◌, inl, inr, ◌<◌, ◌≤◌, ℕ, List, Option, Some, None, refl, sym, ap, ◌∙◌, arith, length}
+use Rattle.std.proofs.Common.{◌≡◌, inl, inr, ◌<◌, ◌≤◌, ◌++◌, ℕ, false, List, Option, Some, None, refl, sym, ap, ◌∙◌, arith, length, length-append}
 use Rattle.std.specs.Prelude.{nat_lt}
 use Rattle.std.proofs.lemmas.Bool.{cond-false, cond-true, lt-ltb, le-ltb}
+use Rattle.std.proofs.lemmas.List.{append-nil}
+use Rattle.dl_io.specs.Outside.{Rose}
 use Rattle.defmt_intern.specs.Catalog.{Catalog}
 use Rattle.defmt_intern.specs.declared.table.Table.{Table}
 use Rattle.defmt_listen.specs.Streams.{Input, IsRest, Output}
-use Rattle.defmt_listen.specs.Heard.{Reports, faults, recording_limit}
+use Rattle.defmt_listen.specs.Heard.{recording_limit}
 use Rattle.defmt_decode.specs.Event.{events_of}
-use Rattle.defmt_decode.specs.declared.event.Event.{Event}
-use Rattle.defmt_hooks.specs.declared.rules.Rules.{Rules}
-use Rattle.defmt_recording.specs.Output.{reports}
-use Rattle.defmt_recording.specs.Shown.{shown_reports}
-use Rattle.defmt_recording.specs.Calls.{Files, GaveWithin}
-use Rattle.defmt_recording.specs.Decoding.{Loaded, fault_of_count}
-use Rattle.defmt_recording.specs.Dumping.{Dumps, DumpingComesTo, Gives, GivesNone, Prints, PrintsBy, StopsAt, asked_bytes, fault_of_image, or_refused, refused_for}
+use Rattle.defmt_places.specs.Places.{Map as PlaceMap}
+use Rattle.defmt_recording.specs.Calls.{Files, GaveWithin, at_hand}
+use Rattle.defmt_recording.specs.Decoding.{ArePlaces, Hears, HearsAll, Loaded, fault_of_events, fault_of_named}
+use Rattle.defmt_recording.specs.Dumping.{Dumps, DumpingComesTo, Gives, GivesNone, StopsAt, asked_bytes, fault_of_image, or_refused, refused_for}
 use Rattle.defmt_recording.specs.Inputs.{AreAsTold, Inputs, OrFailing}
+use Rattle.defmt_recording.specs.Styled.{Look, look_by}
 use Rattle.defmt_recording.specs.declared.fault.Fault.{Fault}
-use Rattle.defmt_recording.specs.declared.fault.Fault.TheVariants.{Fine, Memory, Words, Source, Sink, Long, Events, Control}
-use Rattle.defmt_recording.proofs.Loading.{of_table, refused_may}
-use Rattle.defmt_recording.proofs.Recordings.{CountsAs, count_some}
-use Rattle.defmt_recording.proofs.ToldInputs.{all_taken, some_text}
+use Rattle.defmt_recording.specs.declared.fault.Fault.TheVariants.{Fine, Memory, Words, Source, Sink, Long, Events, Control, Level as AtLevel}
+use Rattle.defmt_recording.proofs.Loading.{MayPlace, in_other_words, never_words, of_table, placed, refused_may, unplaced}
+use Rattle.defmt_recording.proofs.ToldInputs.{all_taken, any_text, some_text}
 use Rattle.defmt_words.specs.declared.job.DumpOptions.{DumpOptions}
 use Rattle.rtt_dump.specs.declared.fault.DumpFault.{DumpFault}
 use Rattle.rtt_dump.specs.declared.fault.DumpFault.TheVariants as dumps
@@ -30,23 +29,26 @@ gives_none options input image Memory whole stops = (image, whole.within, whole.
 gives_none options input image (Control cause place) whole stops = record { image = image; whole = whole; refused = stops }
 gives_none options input image fault whole stops = absurd stops
 
+-- a source of bytes at hand never fails, and gives no more than them
+never_rose : Rose 0 0 → ⊥
+never_rose rose = absurd (omega (arith, rose))
+
 -- ---- what an image comes to
 
-module _ (options : DumpOptions) (image : List ℕ) (table : Catalog) where
+module _ (options : DumpOptions) (image : List ℕ) (table : Catalog) (places : PlaceMap) where
   abbrev fault_of_bytes : Fault
-  fault_of_bytes = fault_of_count (faults (reports table) (events_of table (asked_bytes options image)))
+  fault_of_bytes = fault_of_events (look_by options.style table.entries places) false (events_of table (asked_bytes options image))
 
-  short_image : length image ≤ recording_limit → fault_of_image options image table ≡ or_refused (refused_for options image) fault_of_bytes
+  short_image : length image ≤ recording_limit → fault_of_image options image table places ≡ or_refused (refused_for options image) fault_of_bytes
   short_image short = cond-false (nat_lt recording_limit (length image)) _ _ (le-ltb recording_limit (length image) short)
 
-  counted_image : (n : ℕ) → length image ≤ recording_limit → refused_for options image ≡ None → n ≡ faults (reports table) (events_of table (asked_bytes options image))
-      → fault_of_image options image table ≡ fault_of_count n
-  counted_image n short passes is = short_image short ∙ ap (λ (o : Option DumpFault). or_refused o fault_of_bytes) passes ∙ ap fault_of_count (sym is)
+  heard_image : length image ≤ recording_limit → refused_for options image ≡ None → fault_of_image options image table places ≡ fault_of_bytes
+  heard_image short passes = short_image short ∙ ap (λ (o : Option DumpFault). or_refused o fault_of_bytes) passes
 
-  refused_image : (cause place : ℕ) → length image ≤ recording_limit → refused_for options image ≡ Some (dumps.Refused cause place) → fault_of_image options image table ≡ Control cause place
+  refused_image : (cause place : ℕ) → length image ≤ recording_limit → refused_for options image ≡ Some (dumps.Refused cause place) → fault_of_image options image table places ≡ Control cause place
   refused_image cause place short is = short_image short ∙ ap (λ (o : Option DumpFault). or_refused o fault_of_bytes) is
 
-  long_image : recording_limit < length image → fault_of_image options image table ≡ Long
+  long_image : recording_limit < length image → fault_of_image options image table places ≡ Long
   long_image long = cond-true (nat_lt recording_limit (length image)) _ _ (lt-ltb recording_limit (length image) long)
 
 -- ---- a fault is what some inputs as told come to
@@ -55,57 +57,70 @@ module _ (options : DumpOptions) (input : Input) (shelf : Files) where
   abbrev pub MayDump : Fault → Type 0
   MayDump fault = (inputs : Inputs) × AreAsTold input.left shelf.files inputs × DumpingComesTo options inputs fault
 
-  of_image : (table : Table) (image : List ℕ) (fault : Fault) → Loaded shelf options.table table → IsRest input.left image → fault ≡ fault_of_image options image table → MayDump fault
-  of_image table image fault loaded rest is = of_table (fault_of_image options) options.table input shelf table image fault loaded rest is
+  -- by the text, the files that the shelf has later, and the table
+  abbrev last : List ℕ → (List ℕ → Option (List ℕ)) → Catalog → Fault
+  last text later table = fault_of_named (fault_of_image options text table) options.places later
 
   given : (image : List ℕ) → GaveWithin recording_limit input image → IsRest input.left image
   given image whole = all_taken input.left input.left_after image whole.taken whole.at_end
 
-  of_bytes : (table : Table) (bytes : List ℕ) (n : ℕ) (fault : Fault) → Loaded shelf options.table table → Gives options input bytes → n ≡ faults (reports table) (events_of table bytes)
-      → fault_of_count n ≡ fault → MayDump fault
-  of_bytes table bytes n fault loaded gives counted is =
-      let all = counted ∙ ap (λ (l : List ℕ). faults (reports table) (events_of table l)) gives.is in
-      of_image table gives.image fault loaded (given gives.image gives.whole)
-      (sym (counted_image options gives.image table n gives.whole.within gives.passes all ∙ is))
+  module _ (table : Table) (places : PlaceMap) (loaded : Loaded shelf options.table table) (are : ArePlaces shelf options.places places) where
+    abbrev look : Look
+    look = look_by options.style table.entries places
 
-  prints_may : {S : Type 0} (r : Reports S Event) (table : Table) (output : Output) (bytes : List ℕ) (fault : Fault) → CountsAs r table → Loaded shelf options.table table → Gives options input bytes
-      → Prints r bytes output fault → OrFailing (Unit {0}) (Unit {0}) input shelf output MayDump fault
-  prints_may r table output bytes Fine same loaded gives prints = of_bytes table bytes 0 Fine loaded gives (prints.counted ∙ same bytes) refl
-  prints_may r table output bytes (Events bad) same loaded gives prints = of_bytes table bytes bad (Events bad) loaded gives (prints.0.counted ∙ same bytes) (count_some bad prints.1)
-  prints_may r table output bytes Memory same loaded gives prints = tt
-  prints_may r table output bytes Sink same loaded gives prints = prints.1
-  prints_may r table output bytes fault same loaded gives prints = absurd prints
+    of_image : (image : List ℕ) (fault : Fault) → IsRest input.left image → fault ≡ fault_of_image options image table places → MayDump fault
+    of_image image fault rest is =
+        let later = placed (fault_of_image options image table) shelf options.places places are in
+        of_table last options.table input shelf table image later.0 fault loaded rest later.1 (is ∙ sym later.2)
 
-  by_rules_may : (rules : Option Rules) (table : Table) (output : Output) (bytes : List ℕ) (fault : Fault) → Loaded shelf options.table table → Gives options input bytes
-      → PrintsBy rules table bytes output fault → OrFailing (Unit {0}) (Unit {0}) input shelf output MayDump fault
-  by_rules_may None table output bytes fault loaded gives prints = prints_may (reports table) table output bytes fault (λ recording. refl) loaded gives prints
-  by_rules_may (Some rules) table output bytes fault loaded gives prints =
-      prints_may (shown_reports rules table) table output bytes fault (λ recording. refl) loaded gives prints
+    of_all : (bytes rest : List ℕ) (output : Output) (fault : Fault) → Gives options input bytes → HearsAll look false table (at_hand bytes rest) output fault → MayDump fault
+    of_all bytes rest output fault gives heard =
+        let whole : heard.all.recording ≡ bytes =
+        sym (append-nil heard.all.recording) ∙ ap (λ (l : List ℕ). heard.all.recording ++ l) (sym heard.all.at_end) ∙ sym heard.all.taken in
+        of_image gives.image fault (given gives.image gives.whole)
+        (heard.is ∙ ap (λ (l : List ℕ). fault_of_events look false (events_of table l)) (whole ∙ gives.is) ∙ sym (heard_image options gives.image table places gives.whole.within gives.passes))
 
-  none_may : (table : Table) (output : Output) (fault : Fault) → Loaded shelf options.table table → GivesNone options input fault → OrFailing (Unit {0}) (Unit {0}) input shelf output MayDump fault
-  none_may table output Memory loaded none = tt
-  none_may table output Source loaded none = (tt, none.0)
-  none_may table output Long loaded none =
-      let text = some_text input.left input.left_after none.0 none.2 in
-      of_image table text.0 Long loaded text.1 (sym (long_image options text.0 table (omega (arith, text.2, none.1))))
-  none_may table output (Control cause place) loaded none =
-      of_image table none.image (Control cause place) loaded (given none.image none.whole)
-      (sym (refused_image options none.image table cause place none.whole.within none.refused))
-  none_may table output fault loaded none = absurd none
+    hears_may : (bytes rest : List ℕ) (output : Output) (fault : Fault) → length bytes ≤ recording_limit → Gives options input bytes → Hears look false table (at_hand bytes rest) output fault
+        → OrFailing (Unit {0}) (Unit {0}) input shelf output MayDump fault
+    hears_may bytes rest output Fine short gives hears = of_all bytes rest output Fine gives hears
+    hears_may bytes rest output (Events bad) short gives hears = of_all bytes rest output (Events bad) gives hears
+    hears_may bytes rest output (AtLevel level count) short gives hears = of_all bytes rest output (AtLevel level count) gives hears
+    hears_may bytes rest output Memory short gives hears = tt
+    hears_may bytes rest output Source short gives hears = absurd (never_rose hears.1)
+    hears_may bytes rest output Sink short gives hears = hears.1
+    hears_may bytes rest output Long short gives hears = absurd (omega (arith, short, hears.size, ap length hears.taken, length-append hears.bytes rest))
+    hears_may bytes rest output fault short gives hears = absurd hears
+
+    none_may : (output : Output) (fault : Fault) → GivesNone options input fault → OrFailing (Unit {0}) (Unit {0}) input shelf output MayDump fault
+    none_may output Memory none = tt
+    none_may output Source none = (tt, none.0)
+    none_may output Long none =
+        let text = some_text input.left input.left_after none.0 none.2 in
+        of_image text.0 Long text.1 (sym (long_image options text.0 table places (omega (arith, text.2, none.1))))
+    none_may output (Control cause place) none =
+        of_image none.image (Control cause place) (given none.image none.whole)
+        (sym (refused_image options none.image table places cause place none.whole.within none.refused))
+    none_may output fault none = absurd none
+
+  -- no places
+  of_no_places : (table : Table) → Loaded shelf options.table table → (text : List ℕ) → IsRest input.left text
+      → (fault : Fault) → MayPlace (fault_of_image options text table) shelf options.places fault → MayDump fault
+  of_no_places table loaded text rest fault may = of_table last options.table input shelf table text may.0 fault loaded rest may.1 (sym may.2)
 
   pub dump_may : (output : Output) (fault : Fault) → Dumps options input shelf output fault
       → OrFailing (Unit {0}) (Unit {0}) input shelf output MayDump fault
-  dump_may output fault (inl refused) = refused_may (fault_of_image options) options.table input shelf output fault refused.0
-  dump_may output fault (inr shown) = elim shown.2 [
-    | inl none ↦ none_may shown.0 output fault shown.1 none.0
-    | inr some ↦ by_rules_may options.only shown.0 output some.0 fault shown.1 some.1 some.2
+  dump_may output fault (inl (inl no_table, unread, unwritten)) = refused_may last options.table input shelf output fault no_table
+  dump_may output fault (inl (inr no_places, unread, unwritten)) =
+      let text = any_text input.left in
+      let last_of = fault_of_image options text.0 no_places.0 in
+      in_other_words input shelf output (MayPlace last_of shelf options.places) MayDump (of_no_places no_places.0 no_places.1 text.0 text.1) fault
+      (unplaced last_of shelf input output options.places fault no_places.2)
+  dump_may output fault (inr shown) = elim shown.4 [
+    | inl none ↦ none_may shown.0 shown.1 shown.2 shown.3 output fault none.0
+    | inr some ↦ hears_may shown.0 shown.1 shown.2 shown.3 some.0 some.1 output fault some.2 some.3 some.4
   ]
 
 -- no decoding of an image comes to wrong words
-never_words : (only : Option Rules) (table : Catalog) (bytes : List ℕ) (output : Output) → PrintsBy only table bytes output Words → ⊥
-never_words None table bytes output prints = prints
-never_words (Some rules) table bytes output prints = prints
-
 pub dump_words : (options : DumpOptions) (input : Input) (shelf : Files) (output : Output) → Dumps options input shelf output Words → ⊥
-dump_words options input shelf output (inl refused) = elim refused.0 [ inl no_file ↦ no_file | inr no_table ↦ no_table.3 ]
-dump_words options input shelf output (inr shown) = elim shown.2 [ inl none ↦ none.0 | inr some ↦ never_words options.only shown.0 some.0 output some.2 ]
+dump_words options input shelf output (inl refused) = never_words shelf options.table options.places refused.0
+dump_words options input shelf output (inr shown) = elim shown.4 [ inl none ↦ none.0 | inr some ↦ some.4 ]

@@ -3,4 +3,7 @@ pub mod HeardParts
 pub mod Images
 pub mod Loading
 pub mod Recordings
+pub mod Showing
+pub mod Tallies
 pub mod ToldInputs
+pub mod Whole

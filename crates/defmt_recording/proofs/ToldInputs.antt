@@ -63,4 +63,4 @@ long_file (Some files) name n has = has
 pub any_inputs : (left : Option (List ℕ)) (told : Option (List ℕ → Option (List ℕ))) → (inputs : Inputs) × AreAsTold left told inputs
 any_inputs left told =
     let text = any_text left in let files = any_files told in
-    (record { text = text.0; files = files.0 }, record { text = text.1; files = files.1 })
+    (record { text = text.0; files = files.0; later = files.0 }, record { text = text.1; files = files.1; later = files.1 })

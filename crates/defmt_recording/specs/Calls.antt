@@ -1,5 +1,5 @@
 -- The source, the sink and the shelf that a session is given.
-use Rattle.std.specs.Prelude.{◌≡◌, ◌+◌, ◌≤◌, ℕ, List, length, Option}
+use Rattle.std.specs.Prelude.{◌≡◌, ◌+◌, ◌≤◌, ℕ, List, length, Option, Some}
 use Rattle.std.specs.Io.KnownBytes.{Consumes, IsAtEnd, Keeps}
 use Rattle.dl_io.specs.Outside.{Took}
 use Rattle.defmt_listen.specs.Streams.{Input, Output}
@@ -42,3 +42,7 @@ pub record IsUnwritten (output : Output) : Type 0 where
 -- the shelf wasn't touched
 abbrev pub IsUntouched : Files → Type 0
 IsUntouched files = files.faults_after ≡ files.faults
+
+-- a source that has these bytes and never fails, before a call and after it, where these are left
+abbrev pub at_hand : List ℕ → List ℕ → Input
+at_hand bytes rest = record { left = Some bytes; left_after = Some rest; faults = 0; faults_after = 0 }

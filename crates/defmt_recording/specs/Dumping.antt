@@ -1,21 +1,18 @@
 -- The events of an up-buffer in an image of memory are printed, by the table that a file names.
-use Rattle.std.specs.Prelude.{◌≡◌, ◌⊎◌, ◌<◌, ℕ, nat_lt, List, length, Option, Some, None, if◌then◌else◌}
+use Rattle.std.specs.Prelude.{◌≡◌, ◌⊎◌, ◌≤◌, ℕ, false, nat_lt, List, length, Option, Some, None, if◌then◌else◌}
 use Rattle.dl_io.specs.Outside.{Rose}
 use Rattle.defmt_decode.specs.Event.{events_of}
-use Rattle.defmt_decode.specs.declared.event.Event.{Event}
-use Rattle.defmt_framing.specs.Told.{events}
-use Rattle.defmt_hooks.specs.declared.rules.Rules.{Rules}
 use Rattle.defmt_intern.specs.Catalog.{Catalog}
 use Rattle.defmt_intern.specs.declared.table.Table.{Table}
-use Rattle.defmt_listen.specs.Heard.{Reports, ToldAll, faults, lines, recording_limit}
-use Rattle.defmt_listen.specs.Streams.{Input, Output, WroteFront}
-use Rattle.defmt_recording.specs.Output.{reports}
-use Rattle.defmt_recording.specs.Shown.{shown_reports}
-use Rattle.defmt_recording.specs.Calls.{Files, GaveWithin, IsUnread, IsUnwritten, TookMore, TookWithin}
-use Rattle.defmt_recording.specs.Decoding.{Loaded, LoadingComesTo, RefusesTable, fault_of_count}
+use Rattle.defmt_listen.specs.Heard.{recording_limit}
+use Rattle.defmt_listen.specs.Streams.{Input, Output}
+use Rattle.defmt_places.specs.Places.{Map as PlaceMap}
+use Rattle.defmt_recording.specs.Calls.{Files, GaveWithin, IsUnread, IsUnwritten, TookMore, TookWithin, at_hand}
+use Rattle.defmt_recording.specs.Decoding.{ArePlaces, Hears, Loaded, LoadingComesTo, RefusesFiles, fault_of_events, fault_of_named}
 use Rattle.defmt_recording.specs.Inputs.{Inputs}
+use Rattle.defmt_recording.specs.Styled.{Look, look_by}
 use Rattle.defmt_recording.specs.declared.fault.Fault.{Fault}
-use Rattle.defmt_recording.specs.declared.fault.Fault.TheVariants.{Fine, Memory, Source, Sink, Long, Events, Control}
+use Rattle.defmt_recording.specs.declared.fault.Fault.TheVariants.{Memory, Source, Long, Control}
 use Rattle.defmt_words.specs.declared.job.DumpOptions.{DumpOptions}
 use Rattle.rtt_dump.specs.Answers.{refusal}
 use Rattle.rtt_dump.specs.Dump.{dump}
@@ -56,31 +53,20 @@ GivesNone options input fault = ⊥
 
 -- ---- what stands at each fault
 
--- what became of these bytes, of which this is reported
-abbrev pub Prints : {S : Type 0} → Reports S Event → List ℕ → Output → Fault → Type 0
-Prints r bytes output Fine = ToldAll r bytes output 0
-Prints r bytes output (Events bad) = ToldAll r bytes output bad × (0 < bad)
-Prints r bytes output Memory = WroteFront output (lines r (events r.tells bytes))
-Prints r bytes output Sink =
-    WroteFront output (lines r (events r.tells bytes)) × Rose output.faults output.faults_after
-Prints r bytes output fault = ⊥
-
--- the same by a table, with all lines or with those that rules show
-abbrev pub PrintsBy : Option Rules → Catalog → List ℕ → Output → Fault → Type 0
-PrintsBy None table bytes output fault = Prints (reports table) bytes output fault
-PrintsBy (Some rules) table bytes output fault = Prints (shown_reports rules table) bytes output fault
-
--- by a table: the source gave no bytes, and nothing was written, or it did, and this became of their lines
-abbrev pub Shows : DumpOptions → Catalog → Input → Output → Fault → Type 0
-Shows options table input output fault =
+-- By a table and places: the source gave no bytes, and nothing was written, or it did, and this became of them as of a recording that
+-- is at hand.
+abbrev pub Shows : DumpOptions → Look → Catalog → Input → Output → Fault → Type 0
+Shows options l table input output fault =
     (GivesNone options input fault × IsUnwritten output)
-    ⊎ ((bytes : List ℕ) × Gives options input bytes × PrintsBy options.only table bytes output fault)
+    ⊎ ((bytes : List ℕ) × (rest : List ℕ) × (length bytes ≤ recording_limit) × Gives options input bytes
+    × Hears l false table (at_hand bytes rest) output fault)
 
--- Nothing was touched but the shelf, or the table was loaded, and then this.
+-- Nothing was touched but the shelf, or table and places were loaded, and then this.
 abbrev pub Dumps : DumpOptions → Input → Files → Output → Fault → Type 0
 Dumps options input files output fault =
-    (RefusesTable files options.table fault × IsUnread input × IsUnwritten output)
-    ⊎ ((table : Table) × Loaded files options.table table × Shows options table input output fault)
+    (RefusesFiles files options.table options.places fault × IsUnread input × IsUnwritten output)
+    ⊎ ((table : Table) × (places : PlaceMap) × Loaded files options.table table × ArePlaces files options.places places
+    × Shows options (look_by options.style table.entries places) table input output fault)
 
 -- ---- what told inputs come to, where nothing fails and memory is there
 
@@ -90,16 +76,18 @@ or_refused None fault = fault
 or_refused (Some (dumps.Refused cause place)) fault = Control cause place
 or_refused (Some dumps.Memory) fault = Memory
 
--- an image, by a table
-abbrev pub fault_of_image : DumpOptions → List ℕ → Catalog → Fault
-fault_of_image options image table =
+-- an image, by a table and places
+abbrev pub fault_of_image : DumpOptions → List ℕ → Catalog → PlaceMap → Fault
+fault_of_image options image table places =
     if nat_lt recording_limit (length image) then Long
-    else or_refused (refused_for options image) (fault_of_count (faults (reports table) (events_of table (asked_bytes options image))))
+    else or_refused (refused_for options image)
+    (fault_of_events (look_by options.style table.entries places) false (events_of table (asked_bytes options image)))
 
 -- an image, by the options of `dump`
 abbrev pub DumpingComesTo : DumpOptions → Inputs → Fault → Type 0
 DumpingComesTo options inputs fault =
-    LoadingComesTo (fault_of_image options inputs.text) (inputs.files options.table) fault
+    LoadingComesTo (λ table. fault_of_named (fault_of_image options inputs.text table) options.places inputs.later)
+    (inputs.files options.table) fault
 
 -- ---- for private clauses
 

@@ -6,10 +6,11 @@ use Rattle.defmt_recording.specs.Calls.{Files}
 use Rattle.defmt_recording.specs.declared.fault.Fault.{Fault}
 use Rattle.defmt_recording.specs.declared.fault.Fault.TheVariants.{Memory, Source, Sink, Shelf}
 
--- what the source gives, and the files of the shelf
+-- what the source gives, the files of the shelf, and those that it has later, when it is asked once more
 pub record Inputs : Type 0 where
   pub text : List ℕ
   pub files : List ℕ → Option (List ℕ)
+  pub later : List ℕ → Option (List ℕ)
 
 -- these are the files, where they are told
 abbrev pub AreFiles : Option (List ℕ → Option (List ℕ)) → (List ℕ → Option (List ℕ)) → Type 0
@@ -20,6 +21,7 @@ AreFiles (Some told) files = files ≡ told
 pub record AreAsTold (left : Option (List ℕ)) (told : Option (List ℕ → Option (List ℕ))) (inputs : Inputs) : Type 0 where
   pub text : IsRest left inputs.text
   pub files : AreFiles told inputs.files
+  pub later : AreFiles told inputs.later
 
 -- This is so of the fault, or memory was wanting, or something of the outside failed and its count rose: the source, where it is
 -- read, the shelf, where it is asked, or the sink.

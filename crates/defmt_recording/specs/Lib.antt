@@ -1,5 +1,6 @@
 pub mod Output
 pub mod Shown
+pub mod Styled
 pub mod Keeping
 pub mod Status
 pub mod Calls

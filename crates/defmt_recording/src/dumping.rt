@@ -1,21 +1,18 @@
 //! The bytes of an up-buffer in an image of memory are decoded by the table that a file names.
 ghost use Rattle.std.specs.Prelude.{◌≡◌, ◌≤◌, [], length, IfOk, IfErr};
-ghost use Rattle.defmt_decode.specs.Event.{tells};
 ghost use Rattle.defmt_framing.specs.Framing.{Stands};
 ghost use Rattle.defmt_listen.specs.Heard.{recording_limit};
 ghost use Rattle.defmt_listen.specs.Streams.{input_of, output_of};
-ghost use Rattle.defmt_recording.specs.Shown.{shown_reports};
 ghost use Rattle.defmt_recording.specs.Calls.{files_of};
-ghost use Rattle.defmt_recording.specs.Dumping.{AreAsked, Dumps, Gives, GivesNone, Prints, PrintsBy, Shows, StopsAt};
+ghost use Rattle.defmt_recording.specs.Dumping.{AreAsked, Dumps, Gives, GivesNone, Shows, StopsAt};
+ghost use Rattle.defmt_recording.specs.Styled.{look_by};
 
-use crate::decoding::load;
 use crate::fault::Fault;
-use crate::host_listener::HostListener;
-use crate::printer::Printer;
-use crate::screened::shown_by;
+use crate::files::load;
+use crate::reporting::print_events;
 use defmt_decode::Host;
-use defmt_hooks::Rules;
-use defmt_listen::{ListenFault, Reporter, listen_bytes};
+use defmt_listen::AtHand;
+use defmt_places::Places;
 use defmt_words::DumpOptions;
 use dl_io::{Bytes, ReadFault, Shelf, Sink, Source, read_all};
 use rtt_dump::{DumpFault, dumped};
@@ -23,8 +20,8 @@ use std::alloc::Global;
 
 const IMAGE_LIMIT: usize = 268_435_456;
 
-/// Prints the events of an up-buffer in the image that the source gives, by the table that the options name, and by rules where
-/// they have some.
+/// Prints the events of an up-buffer in the image that the source gives, by the table and the places that the options name, in the
+/// style that they ask for.
 pub fn dump<S: Source, F: Shelf, K: Sink>(
     alloc: Global,
     options: &DumpOptions,
@@ -40,29 +37,35 @@ pub fn dump<S: Source, F: Shelf, K: Sink>(
     ensures shelf_count { F.faults shelf.old ≤ F.faults shelf.new }
     ensures files { F.files shelf.new ≡ F.files shelf.old }
 {
-    match load(alloc, options.table.as_str(), shelf) {
-        Ok(host) => show(alloc, options, src, out, host),
+    match load(alloc, options.table.as_str(), &options.places, shelf) {
+        Ok((host, places)) => show(alloc, options, places, src, out, host),
         Err(fault) => fault,
     }
 }
 
-// Prints them by the table of this host. The image is let go before.
+// Prints them by the table of this host and these places. The image is let go before.
 fn show<S: Source, K: Sink>(
     alloc: Global,
     options: &DumpOptions,
+    places: Places,
     src: &mut S,
     out: &mut K,
     host: Host,
 ) -> Fault
     requires { Stands host.framing [] }
-    ensures shows { Shows options.now host.table
-        (input_of S.left S.faults src.old src.new)
+    ensures shows { Shows options.now (look_by options.now.style host.table.entries places)
+        host.table (input_of S.left S.faults src.old src.new)
         (output_of K.held K.faults out.old out.new) result }
     ensures source_count { S.faults src.old ≤ S.faults src.new }
     ensures sink_count { K.faults out.old ≤ K.faults out.new }
 {
     match given_bytes(alloc, options, src) {
-        Ok(bytes) => print_bytes(alloc, &options.only, bytes.as_slice(), out, host),
+        Ok(bytes) => {
+            let mut given = AtHand {
+                left: bytes.as_slice(),
+            };
+            print_events(alloc, &options.style, places, false, &mut given, out, host)
+        }
         Err(fault) => fault,
     }
 }
@@ -95,72 +98,5 @@ fn asked_bytes(alloc: Global, options: &DumpOptions, image: &[u8]) -> Result<Byt
         Ok(bytes) => Ok(bytes),
         Err(DumpFault::Refused { cause, place }) => Err(Fault::Control { cause, place }),
         Err(DumpFault::Memory) => Err(Fault::Memory),
-    }
-}
-
-// Writes the lines of the events of these bytes, or those that rules show, with the gaps between them.
-fn print_bytes<K: Sink>(
-    alloc: Global,
-    only: &Option<Rules>,
-    bytes: &[u8],
-    out: &mut K,
-    host: Host,
-) -> Fault
-    requires stands { Stands host.framing [] }
-    requires short { length bytes.now ≤ recording_limit }
-    ensures prints { PrintsBy only.now host.table bytes.now
-        (output_of K.held K.faults out.old out.new) result }
-    ensures later { K.faults out.old ≤ K.faults out.new }
-{
-    match only {
-        None => {
-            let listener = HostListener { host };
-            print_with(alloc, bytes, out, listener, Printer { last: None })
-        }
-        Some(rules) => print_shown(alloc, rules, bytes, out, host),
-    }
-}
-
-// The same by rules, which ask a copy of the table.
-fn print_shown<K: Sink>(
-    alloc: Global,
-    rules: &Rules,
-    bytes: &[u8],
-    out: &mut K,
-    host: Host,
-) -> Fault
-    requires stands { Stands host.framing [] }
-    requires short { length bytes.now ≤ recording_limit }
-    ensures prints { Prints (shown_reports rules.now host.table) bytes.now
-        (output_of K.held K.faults out.old out.new) result }
-    ensures later { K.faults out.old ≤ K.faults out.new }
-{
-    match shown_by(rules, host) {
-        Ok((listener, reporter)) => print_with(alloc, bytes, out, listener, reporter),
-        Err(_) => Fault::Memory,
-    }
-}
-
-fn print_with<K: Sink, R: Reporter<HostListener> + Drop>(
-    alloc: Global,
-    bytes: &[u8],
-    out: &mut K,
-    listener: HostListener,
-    reporter: R,
-) -> Fault
-    requires stands { Stands listener.host.framing [] }
-    requires short { length bytes.now ≤ recording_limit }
-    ensures prints { Prints
-        (record { tells = tells listener.host.table; reporting = R.reporting; start = reporter })
-        bytes.now (output_of K.held K.faults out.old out.new) result }
-    ensures later { K.faults out.old ≤ K.faults out.new }
-{
-    match listen_bytes(alloc, bytes, out, listener, reporter) {
-        Ok(0) => Fault::Fine,
-        Ok(bad) => Fault::Events { bad },
-        Err(ListenFault::Sink) => Fault::Sink,
-        Err(ListenFault::Memory) => Fault::Memory,
-        Err(ListenFault::Source) => unreachable!(),
-        Err(ListenFault::Long) => unreachable!(),
     }
 }

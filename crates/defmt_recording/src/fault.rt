@@ -2,9 +2,12 @@
 
 ghost use Rattle.std.specs.Prelude.{[], ◌≡◌, ◌++◌, codes, IfOk, OnOk};
 ghost use Rattle.std.specs.Fmt.{decimal};
+ghost use Rattle.defmt_hooks.specs.Spelling.{word_of};
+ghost use Rattle.defmt_hooks.specs.declared.level.Floor.TheVariants.{At};
 ghost use Rattle.defmt_recording.specs.Status.{status_of, said};
 
 use defmt_grammar::Text;
+use defmt_hooks::Level;
 use dl_io::Memory;
 use elf_section::Part;
 use std::alloc::Global;
@@ -28,15 +31,20 @@ pub enum Fault {
     Elf { cause: u8, part: Part, place: u32 },
     /// A symbol of the table's file is refused: the cause and its place, as `elf_table::read_table` gives them. Status 6.
     Names { cause: u8, symbol: u32 },
+    /// A line of the places' file is refused: its number from 1 and the cause, as `defmt_places::read_places` gives them. Status 6.
+    Places { line: u32, cause: u8 },
     /// The shelf failed, or hasn't the file. Status 7.
     Shelf,
-    /// The script has more than 4,194,304 bytes, the table's file more than 67,108,864, or the recording or the image more than
-    /// 268,435,456. Status 8.
+    /// The script has more than 4,194,304 bytes, the table's or the places' file more than 67,108,864, or the recording or the image
+    /// more than 268,435,456. Status 8.
     Long,
     /// All was done, and so many events of the recording, or of the bytes of the image, are no lines. Status 9.
     Events { bad: u64 },
     /// The image is refused: the cause and its place, as `rtt_dump::dumped` gives them. Status 10.
     Control { cause: u8, place: u32 },
+    /// All was done, and so many lines of this level or of a more severe one were printed, where the words ask to fail on that.
+    /// Status 11.
+    Level { level: Level, count: u64 },
 }
 
 impl Fault {
@@ -51,11 +59,12 @@ impl Fault {
             Fault::Source => 3,
             Fault::Sink => 4,
             Fault::Script { .. } => 5,
-            Fault::Elf { .. } | Fault::Names { .. } => 6,
+            Fault::Elf { .. } | Fault::Names { .. } | Fault::Places { .. } => 6,
             Fault::Shelf => 7,
             Fault::Long => 8,
             Fault::Events { .. } => 9,
             Fault::Control { .. } => 10,
+            Fault::Level { .. } => 11,
         }
     }
 
@@ -105,13 +114,32 @@ fn add_words(alloc: Global, fault: &Fault, text: &mut Text) -> Result<(), Memory
                 text,
             )
         }
+        Fault::Places { line, cause } => add_places(alloc, *line, *cause, text),
         Fault::Shelf => add(text, "shelf"),
         Fault::Long => add(text, "too long"),
         Fault::Events { bad } => add_number(alloc, "events with faults ", *bad, text),
         Fault::Control { cause, place } => {
             add_refusal(alloc, "control cause ", *cause, " place ", *place, text)
         }
+        Fault::Level { level, count } => add_level(alloc, *level, *count, text),
     }
+}
+
+fn add_places(alloc: Global, line: u32, cause: u8, text: &mut Text) -> Result<(), Memory>
+    ensures { OnOk result (text.new ≡ text.old ++ (codes "places line " ++ decimal line
+        ++ codes " cause " ++ decimal cause)) }
+{
+    add_number(alloc, "places line ", u64::from(line), text)?;
+    add_number(alloc, " cause ", u64::from(cause), text)
+}
+
+fn add_level(alloc: Global, level: Level, count: u64, text: &mut Text) -> Result<(), Memory>
+    ensures { OnOk result (text.new ≡ text.old ++ (codes "lines at " ++ word_of (At level)
+        ++ codes " " ++ decimal count)) }
+{
+    add(text, "lines at ")?;
+    add(text, level.word())?;
+    add_number(alloc, " ", count, text)
 }
 
 fn add_script(alloc: Global, line: u32, cause: u8, inner: u8, text: &mut Text) -> Result<(), Memory>

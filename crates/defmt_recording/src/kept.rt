@@ -37,6 +37,7 @@ impl Reporter<HostListener> for Kept {
         self.events.push(Event::Line {
             index: origin.index,
             place: origin.place,
+            parts: origin.parts,
             text,
         })
     }

@@ -1,17 +1,23 @@
-use Rattle.std.proofs.Common.{inl, inr, List, refl, subst, ℕ}
+use Rattle.std.proofs.Common.{◌≤◌, inl, inr, false, length, List, refl, subst, ℕ}
+use Rattle.defmt_listen.specs.Heard.{recording_limit}
 use Rattle.defmt_listen.specs.Streams.{Output, output_of}
 use Rattle.defmt_recording.proofs.ToldInputs.{keeps}
-use Rattle.defmt_recording.specs.Calls.{IsUnwritten}
-use Rattle.defmt_recording.specs.Dumping.{PrintsBy}
+use Rattle.defmt_recording.specs.Calls.{IsUnwritten, at_hand}
+use Rattle.defmt_recording.specs.Decoding.{Hears}
+use Rattle.defmt_recording.specs.Styled.{Look, look_by}
 use Rattle.defmt_recording.proofs.dumping.show.Goals as goal
 
 pub returns-in-Ok-clause-shows : goal.returns-in-Ok-clause-shows
 returns-in-Ok-clause-shows g c =
-    let output : Output = output_of g.K.Sink.held g.K.Sink.faults c.args.out.now c.print_bytes.new.out in
+    let output : Output = output_of g.K.Sink.held g.K.Sink.faults c.args.out.now c.print_events.new.out in
+    let l : Look = look_by c.args.options.now.style c.args.host.table.entries c.args.places in
+    let rest : List ℕ = c.print_events.new.src.left.now in
     inr (
       c.in-Ok.bytes.items,
+      rest,
+      c.in-Ok.ensures.short,
       c.in-Ok.ensures.gives,
-      subst (λ (bytes : List ℕ). PrintsBy c.args.options.now.only c.args.host.table bytes output c.print_bytes.result) c.as_slice.ensures c.print_bytes.ensures.prints,
+      subst (λ (bytes : List ℕ). Hears l false c.args.host.table (at_hand bytes rest) output c.print_events.result) c.as_slice.ensures c.print_events.ensures.hears,
     )
 
 pub returns-in-Err-clause-shows : goal.returns-in-Err-clause-shows

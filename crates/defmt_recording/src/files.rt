@@ -1,0 +1,147 @@
+//! What is loaded before anything is read: the table, and the places of its statements in the sources.
+ghost use Rattle.std.specs.Prelude.{◌≡◌, ◌≤◌, [], length, Ok, IfOk, IfErr};
+ghost use Rattle.defmt_framing.specs.Framing.{Stands};
+ghost use Rattle.elf_table.specs.Names.{NamesTable};
+ghost use Rattle.defmt_recording.specs.Calls.{files_of};
+ghost use Rattle.defmt_recording.specs.Decoding.{ArePlaces, IsFile, Loaded, PlacesAt, RefusesFile, RefusesFiles, RefusesName, RefusesPlaces, RefusesPlacesAt, RefusesPlacesFile, RefusesTable, table_limit};
+ghost use Rattle.defmt_places.specs.Places.{places_in};
+
+use crate::fault::Fault;
+use defmt_decode::Host;
+use defmt_grammar::Text;
+use defmt_intern::Table;
+use defmt_places::{Places, PlacesFault, read_places};
+use dl_io::{Bytes, ReadFault, Shelf, fetch_all};
+use elf_table::{LoadFault, read_table};
+use std::alloc::Global;
+
+const FILE_LIMIT: usize = 67_108_864;
+
+/// A host of the table that the file of this name names, and the places that another file tells, none where no file is named.
+pub fn load<F: Shelf>(
+    alloc: Global,
+    table: &str,
+    places: &Option<Text>,
+    shelf: &mut F,
+) -> Result<(Host, Places), Fault>
+    ensures loaded { IfOk result (λ r. Loaded (files_of F.files F.faults shelf.old shelf.new)
+        table.now r.0.table) }
+    ensures places { IfOk result (λ r. ArePlaces (files_of F.files F.faults shelf.old shelf.new)
+        places.now r.1) }
+    ensures stands { IfOk result (λ r. Stands r.0.framing []) }
+    ensures refused { IfErr result (λ fault. RefusesFiles
+        (files_of F.files F.faults shelf.old shelf.new) table.now places.now fault) }
+    ensures later { F.faults shelf.old ≤ F.faults shelf.new }
+    ensures files { F.files shelf.new ≡ F.files shelf.old }
+{
+    let host = load_table(alloc, table, shelf)?;
+    match load_places(alloc, places, shelf) {
+        Ok(places) => Ok((host, places)),
+        Err(fault) => Err(fault),
+    }
+}
+
+// A host of the table that the file of this name names.
+fn load_table<F: Shelf>(alloc: Global, name: &str, shelf: &mut F) -> Result<Host, Fault>
+    ensures loaded { IfOk result (λ host. Loaded (files_of F.files F.faults shelf.old shelf.new)
+        name.now host.table) }
+    ensures stands { IfOk result (λ host. Stands host.framing []) }
+    ensures refused { IfErr result (λ fault. RefusesTable
+        (files_of F.files F.faults shelf.old shelf.new) name.now fault) }
+    ensures later { F.faults shelf.old ≤ F.faults shelf.new }
+    ensures files { F.files shelf.new ≡ F.files shelf.old }
+{
+    let file = match fetch(alloc, name, shelf) {
+        Ok(file) => file,
+        Err(fault) => return Err(fault),
+    };
+    match host_of(alloc, file.as_slice()) {
+        Ok(host) => Ok(host),
+        Err(fault) => Err(fault),
+    }
+}
+
+// The places that the file of this name tells, none where no file is named.
+fn load_places<F: Shelf>(alloc: Global, name: &Option<Text>, shelf: &mut F) -> Result<Places, Fault>
+    ensures places { IfOk result (λ places. ArePlaces
+        (files_of F.files F.faults shelf.old shelf.new) name.now places) }
+    ensures refused { IfErr result (λ fault. RefusesPlaces
+        (files_of F.files F.faults shelf.old shelf.new) name.now fault) }
+    ensures later { F.faults shelf.old ≤ F.faults shelf.new }
+    ensures files { F.files shelf.new ≡ F.files shelf.old }
+{
+    match name {
+        None => Ok(Places::new(alloc)),
+        Some(name) => places_at(alloc, name.as_str(), shelf),
+    }
+}
+
+fn places_at<F: Shelf>(alloc: Global, name: &str, shelf: &mut F) -> Result<Places, Fault>
+    ensures places { IfOk result (λ places. PlacesAt
+        (files_of F.files F.faults shelf.old shelf.new) name.now places) }
+    ensures refused { IfErr result (λ fault. RefusesPlacesAt
+        (files_of F.files F.faults shelf.old shelf.new) name.now fault) }
+    ensures later { F.faults shelf.old ≤ F.faults shelf.new }
+    ensures files { F.files shelf.new ≡ F.files shelf.old }
+{
+    let file = match fetch(alloc, name, shelf) {
+        Ok(file) => file,
+        Err(fault) => return Err(fault),
+    };
+    match places_of(alloc, file.as_slice()) {
+        Ok(places) => Ok(places),
+        Err(fault) => Err(fault),
+    }
+}
+
+// The places that a file tells.
+fn places_of(alloc: Global, file: &[u8]) -> Result<Places, Fault>
+    requires { length file.now ≤ table_limit }
+    ensures told { IfOk result (λ places. places_in file.now ≡ Ok places) }
+    ensures refused { IfErr result (λ fault. RefusesPlacesFile file.now fault) }
+{
+    match read_places(alloc, file) {
+        Ok(places) => Ok(places),
+        Err(PlacesFault::Refused { line, cause }) => Err(Fault::Places { line, cause }),
+        Err(PlacesFault::Memory) => Err(Fault::Memory),
+    }
+}
+
+fn fetch<F: Shelf>(alloc: Global, name: &str, shelf: &mut F) -> Result<Bytes, Fault>
+    ensures fetched { IfOk result (λ file. IsFile (F.files shelf.old) name.now file.items) }
+    ensures within { IfOk result (λ file. length file.items ≤ table_limit) }
+    ensures refused { IfErr result (λ fault. RefusesName
+        (files_of F.files F.faults shelf.old shelf.new) name.now fault) }
+    ensures later { F.faults shelf.old ≤ F.faults shelf.new }
+    ensures files { F.files shelf.new ≡ F.files shelf.old }
+{
+    match fetch_all(alloc, shelf, name, FILE_LIMIT) {
+        Ok(file) => Ok(file),
+        Err(ReadFault::Failed) => Err(Fault::Shelf),
+        Err(ReadFault::Long { .. }) => Err(Fault::Long),
+        Err(ReadFault::Memory) => Err(Fault::Memory),
+    }
+}
+
+fn host_of(alloc: Global, file: &[u8]) -> Result<Host, Fault>
+    requires { length file.now ≤ table_limit }
+    ensures names { IfOk result (λ host. NamesTable file.now host.table) }
+    ensures stands { IfOk result (λ host. Stands host.framing []) }
+    ensures refused { IfErr result (λ fault. RefusesFile file.now fault) }
+{
+    let table = table_of(alloc, file)?;
+    Ok(Host::new(alloc, table)?)
+}
+
+fn table_of(alloc: Global, file: &[u8]) -> Result<Table, Fault>
+    requires { length file.now ≤ table_limit }
+    ensures names { IfOk result (λ table. NamesTable file.now table) }
+    ensures refused { IfErr result (λ fault. RefusesFile file.now fault) }
+{
+    match read_table(alloc, file) {
+        Ok(table) => Ok(table),
+        Err(LoadFault::Elf { cause, part, place }) => Err(Fault::Elf { cause, part, place }),
+        Err(LoadFault::Names { cause, symbol }) => Err(Fault::Names { cause, symbol }),
+        Err(LoadFault::Memory) => Err(Fault::Memory),
+    }
+}

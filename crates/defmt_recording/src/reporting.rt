@@ -1,0 +1,123 @@
+//! The events of a recording are printed as they come, from a source or from bytes at hand.
+ghost use Rattle.std.specs.Prelude.{◌≡◌, ◌≤◌, ◌<◌, ◌-◌, ◌^◌, [], None, Some, if◌then◌else◌};
+ghost use Rattle.defmt_framing.specs.Framing.{Stands};
+ghost use Rattle.defmt_listen.specs.Streams.{input_of, output_of};
+ghost use Rattle.defmt_recording.specs.Decoding.{Hears, fault_by, fault_of_count};
+ghost use Rattle.defmt_recording.specs.Styled.{limit_of, look_by, reel};
+
+use crate::fault::Fault;
+use crate::host_listener::HostListener;
+use crate::styled::Styled;
+use defmt_decode::Host;
+use defmt_hooks::Level;
+use defmt_listen::{ListenFault, listen_in_turns};
+use defmt_places::Places;
+use defmt_words::Style;
+use dl_io::{Sink, Source};
+use std::alloc::Global;
+
+const RECORDING_LIMIT: usize = 268_435_456;
+
+// More than any device sends.
+const LIVE_LIMIT: usize = 18_446_744_073_709_551_614;
+
+/// Prints the events of the recording that the source gives, by the host's table and these places in this style; of a device that runs
+/// where that is said. The table is copied, since the host has it.
+pub fn print_events<S: Source, K: Sink>(
+    alloc: Global,
+    style: &Style,
+    places: Places,
+    live: bool,
+    src: &mut S,
+    out: &mut K,
+    host: Host,
+) -> Fault
+    requires { Stands host.framing [] }
+    ensures hears { Hears (look_by style.now host.table.entries places) live host.table
+        (input_of S.left S.faults src.old src.new)
+        (output_of K.held K.faults out.old out.new) result }
+    ensures source_count { S.faults src.old ≤ S.faults src.new }
+    ensures sink_count { K.faults out.old ≤ K.faults out.new }
+{
+    let table = match host.table().copy() {
+        Ok(table) => table,
+        Err(_) => return Fault::Memory,
+    };
+    let listener = HostListener { host };
+    let reporter = Styled::new(alloc, style, table, places);
+    print_with(alloc, style.fail_on, live, src, out, listener, reporter)
+}
+
+fn print_with<S: Source, K: Sink>(
+    alloc: Global,
+    fail_on: Option<Level>,
+    live: bool,
+    src: &mut S,
+    out: &mut K,
+    listener: HostListener,
+    reporter: Styled<'_>,
+) -> Fault
+    requires stands { Stands listener.host.framing [] }
+    requires fresh { reporter ≡ reel reporter.look None 0 0 }
+    requires same { fail_on ≡ reporter.look.style.fail_on }
+    ensures hears { Hears reporter.entry.look live listener.host.table
+        (input_of S.left S.faults src.old src.new)
+        (output_of K.held K.faults out.old out.new) result }
+    ensures source_count { S.faults src.old ≤ S.faults src.new }
+    ensures sink_count { K.faults out.old ≤ K.faults out.new }
+{
+    match listen_in_turns(alloc, src, out, listener, reporter, limit_of(live)) {
+        Ok((bad, reporter)) => fault_of(
+            fail_on,
+            reporter.failing(),
+            counted(live, bad, reporter.cuts()),
+        ),
+        Err(ListenFault::Source) => Fault::Source,
+        Err(ListenFault::Sink) => Fault::Sink,
+        Err(ListenFault::Long) => Fault::Long,
+        Err(ListenFault::Memory) => Fault::Memory,
+    }
+}
+
+// The most bytes of a recording.
+fn limit_of(live: bool) -> usize
+    ensures { result ≡ limit_of live }
+{
+    if live { LIVE_LIMIT } else { RECORDING_LIMIT }
+}
+
+// How many of so many faults count, of which so many are a front or a tail.
+fn counted(live: bool, bad: u64, cuts: u64) -> u64
+    ensures count { result ≡ (if live then bad - cuts else bad) }
+    ensures small { bad < 2 ^ 64 }
+{
+    if live { bad.saturating_sub(cuts) } else { bad }
+}
+
+/// What so many lines that make the program fail and so many faults come to.
+pub fn fault_of(fail_on: Option<Level>, failing: u64, bad: u64) -> Fault
+    ensures { result ≡ fault_by fail_on failing bad }
+{
+    match fail_on {
+        Some(level) => fault_at(level, failing, bad),
+        None => fault_of_count(bad),
+    }
+}
+
+fn fault_at(level: Level, failing: u64, bad: u64) -> Fault
+    ensures { result ≡ fault_by (Some level) failing bad }
+{
+    match failing {
+        0 => fault_of_count(bad),
+        count => Fault::Level { level, count },
+    }
+}
+
+fn fault_of_count(bad: u64) -> Fault
+    ensures { result ≡ fault_of_count bad }
+{
+    match bad {
+        0 => Fault::Fine,
+        bad => Fault::Events { bad },
+    }
+}

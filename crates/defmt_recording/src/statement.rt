@@ -1,0 +1,117 @@
+//! The lines of statements, in each form.
+ghost use Rattle.std.specs.Prelude.{◌≡◌, ◌++◌, drop, take, OnOk};
+ghost use Rattle.std.specs.Option.{option_copied};
+ghost use Rattle.defmt_forms.specs.Json.{line_object};
+ghost use Rattle.defmt_forms.specs.Terminal.{color_line};
+ghost use Rattle.defmt_recording.specs.Output.{ended};
+ghost use Rattle.defmt_recording.specs.Styled.{level_at, package_at, stamp_in, statement_text};
+
+use defmt_decode::Parts;
+use defmt_forms::{add_color_line, add_json_line, add_plain_line};
+use defmt_hooks::{Level, level_of};
+use defmt_intern::Table;
+use defmt_places::Places;
+use defmt_words::Form;
+use dl_io::{Bytes, Memory};
+
+/// Appends the line of a statement and a newline, by the parts of its text. On want of memory a front of it may have been appended.
+pub fn add_statement(
+    form: Form,
+    table: &Table,
+    places: &Places,
+    index: u16,
+    parts: &Parts,
+    text: &[u8],
+    out: &mut Bytes,
+) -> Result<(), Memory>
+    ensures { OnOk result (out.new.items ≡ out.old.items ++ ended
+        (statement_text form table.now.entries places.now index parts.now text.now)) }
+{
+    let place = places.get(index);
+    match form {
+        Form::Plain => add_plain_line(text, place, out),
+        Form::Color => add_color(table, index, parts, text, place, out),
+        Form::Json => add_json(table, index, parts, text, place, out),
+    }
+}
+
+fn add_color(
+    table: &Table,
+    index: u16,
+    parts: &Parts,
+    text: &[u8],
+    place: Option<&str>,
+    out: &mut Bytes,
+) -> Result<(), Memory>
+    ensures { OnOk result (out.new.items ≡ out.old.items ++ ended (color_line
+        (stamp_in table.now.entries index parts.now text.now) (level_at table.now.entries index)
+        (drop parts.now.front text.now) (option_copied place.entry))) }
+{
+    let stamp = stamp_of(table, index, parts, text);
+    let own = behind(text, parts.front);
+    add_color_line(stamp, level_at(table, index), own, place, out)
+}
+
+fn add_json(
+    table: &Table,
+    index: u16,
+    parts: &Parts,
+    text: &[u8],
+    place: Option<&str>,
+    out: &mut Bytes,
+) -> Result<(), Memory>
+    ensures { OnOk result (out.new.items ≡ out.old.items ++ ended (line_object
+        index parts.now.bytes (stamp_in table.now.entries index parts.now text.now)
+        (level_at table.now.entries index) (package_at table.now.entries index)
+        (drop parts.now.front text.now) (option_copied place.entry))) }
+{
+    let stamp = stamp_of(table, index, parts, text);
+    let level = level_at(table, index);
+    let owner = package_at(table, index);
+    let own = behind(text, parts.front);
+    add_json_line(index, parts.bytes, stamp, level, owner, own, place, out)
+}
+
+/// The level of the entry at an index.
+pub fn level_at(table: &Table, index: u16) -> Option<Level>
+    ensures { result ≡ level_at table.now.entries index }
+{
+    match table.get(index) {
+        Some(entry) => level_of(&entry.tag),
+        None => None,
+    }
+}
+
+// The package of the entry at an index.
+fn package_at(table: &Table, index: u16) -> &str
+    ensures { result.now ≡ package_at table.now.entries index }
+{
+    match table.get(index) {
+        Some(entry) => entry.package.as_str(),
+        None => "",
+    }
+}
+
+// The stamp's text of a line, where it is printed with one.
+fn stamp_of<'a>(table: &Table, index: u16, parts: &Parts, text: &'a [u8]) -> Option<&'a [u8]>
+    ensures { option_copied result ≡ stamp_in table.now.entries index parts.now text.now }
+{
+    match (table.stamp(), level_at(table, index)) {
+        (Some(_), Some(_)) => Some(front(text, parts.stamp)),
+        _ => None,
+    }
+}
+
+// So many bytes at the front, or all.
+fn front(text: &[u8], count: u32) -> &[u8]
+    ensures { result.now ≡ take count text.now }
+{
+    &text[..(count as usize).min(text.len())]
+}
+
+// What stands behind so many bytes.
+fn behind(text: &[u8], count: u32) -> &[u8]
+    ensures { result.now ≡ drop count text.now }
+{
+    &text[(count as usize).min(text.len())..]
+}
