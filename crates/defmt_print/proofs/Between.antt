@@ -8,6 +8,7 @@ use Rattle.defmt_hooks.specs.declared.rules.Rules.{Rules}
 use Rattle.defmt_intern.specs.Table.{Map}
 use Rattle.defmt_logger.specs.Tape.{mark_line}
 use Rattle.defmt_logger.specs.declared.mark.Mark.{Mark}
+use Rattle.defmt_plan.specs.declared.message.Parts.{Parts}
 use Rattle.defmt_print.proofs.ShownLines.{no_events, one_event, one_line}
 use Rattle.defmt_print.specs.Heard.{AreNoLines, HaveNoPlaces, IsWhole, WasDropped, WereDropped, line_at, place_behind}
 use Rattle.defmt_recording.specs.Output.{gap_before, gap_line, last_behind}
@@ -39,28 +40,28 @@ module _ (only : Option Rules) (table : Map) where
   behind_no_lines : (last : Option ℕ) (events : List Event) → AreNoLines events → place_behind last events ≡ last
   unfolding last_behind
   behind_no_lines last [] none = refl
-  behind_no_lines last (Line index place text ∷ events) none = absurd none
+  behind_no_lines last (Line index place parts text ∷ events) none = absurd none
   behind_no_lines last (Bad cause ∷ events) none = behind_no_lines last events none
   behind_no_lines last (CutFront bytes ∷ events) none = behind_no_lines last events none
   behind_no_lines last (CutTail bytes ∷ events) none = behind_no_lines last events none
 
-  behind_line : (last : Option ℕ) (index place : ℕ) (text : List ℕ) (events : List Event) → AreNoLines events → place_behind last (line_at index place text ∷ events) ≡ Some place
+  behind_line : (last : Option ℕ) (index place : ℕ) (parts : Parts) (text : List ℕ) (events : List Event) → AreNoLines events → place_behind last (line_at index place parts text ∷ events) ≡ Some place
   unfolding last_behind
-  behind_line last index place text events none = behind_no_lines (Some place) events none
+  behind_line last index place parts text events none = behind_no_lines (Some place) events none
 
-  pub lines_between : (front between rest : List Event) (first second a b : ℕ) (one two : List ℕ) → AreNoLines between
-      → event_lines_by only table (front ++ line_at first a one ∷ between ++ line_at second b two ∷ rest)
-      ≡ event_lines_by only table (front ++ line_at first a one ∷ between)
+  pub lines_between : (front between rest : List Event) (first second a b : ℕ) (p q : Parts) (one two : List ℕ) → AreNoLines between
+      → event_lines_by only table (front ++ line_at first a p one ∷ between ++ line_at second b q two ∷ rest)
+      ≡ event_lines_by only table (front ++ line_at first a p one ∷ between)
       ++ (gap_line (gap_of a b) ++ kept_line (shows_index only table second) two) ++ event_lines_from only table (Some b) rest
-  lines_between front between rest first second a b one two none =
+  lines_between front between rest first second a b p q one two none =
       let behind : Option ℕ = place_behind None front in
-      let seen : List Event = front ++ line_at first a one ∷ between in
+      let seen : List Event = front ++ line_at first a p one ∷ between in
       let line : List ℕ = gap_line (gap_of a b) ++ kept_line (shows_index only table second) two in
       let last : place_behind None seen ≡ Some a =
-      all-append None front (line_at first a one ∷ between) ∙ behind_line behind first a one between none in
-      prints-append None seen (line_at second b two ∷ rest)
-      ∙ ap (λ (o : Option ℕ). event_lines_by only table seen ++ event_lines_from only table o (line_at second b two ∷ rest)) last
-      ∙ ap (λ (l : List ℕ). event_lines_by only table seen ++ l) (one_line only table (Some a) second (Some b) two rest)
+      all-append None front (line_at first a p one ∷ between) ∙ behind_line behind first a p one between none in
+      prints-append None seen (line_at second b q two ∷ rest)
+      ∙ ap (λ (o : Option ℕ). event_lines_by only table seen ++ event_lines_from only table o (line_at second b q two ∷ rest)) last
+      ∙ ap (λ (l : List ℕ). event_lines_by only table seen ++ l) (one_line only table (Some a) second (Some b) q two rest)
       ∙ sym (append_assoc (event_lines_by only table seen) line (event_lines_from only table (Some b) rest))
 
   -- ---- lines without places
@@ -76,8 +77,8 @@ module _ (only : Option Rules) (table : Map) where
   pub lines_alone : (events : List Event) → HaveNoPlaces events → event_lines_by only table events ≡ flat_map (kept_event only table) events
   unfolding gap_before last_behind
   lines_alone [] none = no_events only table None
-  lines_alone (Line index None text ∷ events) none = one_alone (Line index None text) events refl refl (lines_alone events none)
-  lines_alone (Line index (Some place) text ∷ events) none = absurd none
+  lines_alone (Line index None parts text ∷ events) none = one_alone (Line index None parts text) events refl refl (lines_alone events none)
+  lines_alone (Line index (Some place) parts text ∷ events) none = absurd none
   lines_alone (Bad cause ∷ events) none = one_alone (Bad cause) events refl refl (lines_alone events none)
   lines_alone (CutFront bytes ∷ events) none = one_alone (CutFront bytes) events refl refl (lines_alone events none)
   lines_alone (CutTail bytes ∷ events) none = one_alone (CutTail bytes) events refl refl (lines_alone events none)

@@ -14,7 +14,8 @@ use Rattle.defmt_logger.specs.declared.mark.Mark.{Mark}
 use Rattle.defmt_print.proofs.Between.{prints-append}
 use Rattle.defmt_print.proofs.Marks.{placed_at, there}
 use Rattle.defmt_print.proofs.ShownLines.{no_events, one_whole}
-use Rattle.defmt_print.specs.Heard.{GapsIn, HaveWhole, IsWhole, LinesIn, PrintWhole, event_by, events_after, events_before, mark_events, place_behind, whole_events, whole_from}
+use Rattle.defmt_plan.specs.declared.message.Parts.{Parts}
+use Rattle.defmt_print.specs.Heard.{GapsIn, HaveWhole, IsWhole, LinesIn, PrintWhole, event_by, events_after, events_before, mark_events, parts_at, place_behind, whole_events, whole_from}
 use Rattle.defmt_recording.specs.Output.{gap_between, gap_line}
 use Rattle.defmt_print.specs.Printed.{ArePlaced, IsPlaced, mark_statement}
 use Rattle.defmt_print.specs.Shown.{dropped_behind, kept_line, shown_by, shown_mark_line, shown_mark_lines, shows_by, shows_mark, tape_line, tape_lines, tape_lines_by}
@@ -35,19 +36,19 @@ module _ (only : Option Rules) (s : Script) where
 
   -- ---- profile One
 
-  mark_alone : (fate : Fate) (place : Option ℕ) (statement : Option Statement) (line : List ℕ) (events : List Event) → place ≡ None
-      → Prints None (event_by fate place statement line ++ events) ≡ shown_by fate statement (shows_by only s.table statement) line ++ Prints None events
-  mark_alone Whole place (Some stm) line events is =
-      one_whole only s.table None place stm line events
+  mark_alone : (fate : Fate) (place : Option ℕ) (statement : Option Statement) (parts : Statement → Parts) (line : List ℕ) (events : List Event) → place ≡ None
+      → Prints None (event_by fate place statement parts line ++ events) ≡ shown_by fate statement (shows_by only s.table statement) line ++ Prints None events
+  mark_alone Whole place (Some stm) parts line events is =
+      one_whole only s.table None place stm (parts stm) line events
       ∙ ap (λ (o : Option ℕ). kept_line (shows_by only s.table (Some stm)) line ++ Prints o events) is
-  mark_alone Whole place None line events is = refl
-  mark_alone (Dropped need room) place statement line events is = refl
-  mark_alone (Cut need room) place statement line events is = refl
+  mark_alone Whole place None parts line events is = refl
+  mark_alone (Dropped need room) place statement parts line events is = refl
+  mark_alone (Cut need room) place statement parts line events is = refl
 
   pub all_alone : s.settings.profile ≡ profiles.One → (n : ℕ) (ms : List Mark) → Prints None (whole_from s n ms) ≡ shown_mark_lines only s ms
   all_alone one n [] = no_events only s.table None
   all_alone one n (m ∷ ms) =
-      mark_alone m.fate (place_in s.settings.profile n) (mark_statement s m) (mark_line s m) (whole_from s (n + 1) ms) (ap (λ (p : Profile). place_in p n) one)
+      mark_alone m.fate (place_in s.settings.profile n) (mark_statement s m) (parts_at s n m.stamp) (mark_line s m) (whole_from s (n + 1) ms) (ap (λ (p : Profile). place_in p n) one)
       ∙ ap (λ (l : List ℕ). shown_mark_line only s m ++ l) (all_alone one (n + 1) ms)
 
   -- ---- profile Two
@@ -58,11 +59,11 @@ module _ (only : Option Rules) (s : Script) where
 
     -- of a mark with a statement
     with_statement : (last dropped : Option ℕ) (n : ℕ) (m : Mark) (ms : List Mark) (stm : Statement) → mark_statement s m ≡ Some stm
-        → Prints last (event_by m.fate (place_in s.settings.profile n) (Some stm) (mark_line s m) ++ whole_from s (n + 1) ms)
+        → Prints last (event_by m.fate (place_in s.settings.profile n) (Some stm) (parts_at s n m.stamp) (mark_line s m) ++ whole_from s (n + 1) ms)
         ≡ tape_line m.fate dropped (shows_by only s.table (Some stm)) (mark_line s m) ++ tape_lines only s (dropped_behind m.fate dropped) ms
         → Prints last (whole_from s n (m ∷ ms)) ≡ tape_lines only s dropped (m ∷ ms)
     with_statement last dropped n m ms stm found is =
-        ap (λ (o : Option Statement). Prints last (event_by m.fate (place_in s.settings.profile n) o (mark_line s m) ++ whole_from s (n + 1) ms)) found
+        ap (λ (o : Option Statement). Prints last (event_by m.fate (place_in s.settings.profile n) o (parts_at s n m.stamp) (mark_line s m) ++ whole_from s (n + 1) ms)) found
         ∙ is
         ∙ sym (ap (λ (o : Option Statement). tape_line m.fate dropped (shows_by only s.table o) (mark_line s m) ++ tape_lines only s (dropped_behind m.fate dropped) ms) found)
 
@@ -70,49 +71,49 @@ module _ (only : Option Rules) (s : Script) where
     abbrev Behind : List Mark → Type 0
     Behind ms = (q d n : ℕ) → n ≡ q + (1 + d) → d + length ms < 65536 → Prints (Some (q % 65536)) (whole_from s n ms) ≡ tape_lines only s (Some d) ms
 
-    behind_by : (fate : Fate) (q d n : ℕ) (stm : Statement) (line : List ℕ) (ms : List Mark) → n ≡ q + (1 + d) → d + (1 + length ms) < 65536 → Behind ms
-        → Prints (Some (q % 65536)) (event_by fate (place_in s.settings.profile n) (Some stm) line ++ whole_from s (n + 1) ms)
+    behind_by : (fate : Fate) (q d n : ℕ) (stm : Statement) (parts : Statement → Parts) (line : List ℕ) (ms : List Mark) → n ≡ q + (1 + d) → d + (1 + length ms) < 65536 → Behind ms
+        → Prints (Some (q % 65536)) (event_by fate (place_in s.settings.profile n) (Some stm) parts line ++ whole_from s (n + 1) ms)
         ≡ tape_line fate (Some d) (shows_by only s.table (Some stm)) line ++ tape_lines only s (dropped_behind fate (Some d)) ms
-    behind_by Whole q d n stm line ms is few rest =
+    behind_by Whole q d n stm parts line ms is few rest =
         let shown : List ℕ = kept_line (shows_by only s.table (Some stm)) line in
         let more : List Event = whole_from s (n + 1) ms in
         let gap : gap_of (q % 65536) (n % 65536) ≡ d = ap (λ (k : ℕ). gap_of (q % 65536) (k % 65536)) is ∙ counts q d (omega (arith, few)) in
-        one_whole only s.table (Some (q % 65536)) (place_in s.settings.profile n) stm line more
+        one_whole only s.table (Some (q % 65536)) (place_in s.settings.profile n) stm (parts stm) line more
         ∙ ap (λ (o : Option ℕ). (gap_line (gap_between (Some (q % 65536)) o) ++ shown) ++ Prints o more) (place_is n)
         ∙ ap (λ (k : ℕ). (gap_line k ++ shown) ++ Prints (Some (n % 65536)) more) gap
         ∙ ap (λ (l : List ℕ). (gap_line d ++ shown) ++ l) (rest n 0 (n + 1) (omega arith) (omega (arith, few)))
-    behind_by (Dropped need room) q d n stm line ms is few rest = rest q (d + 1) (n + 1) (omega (arith, is)) (omega (arith, few))
-    behind_by (Cut need room) q d n stm line ms is few rest = rest q (d + 1) (n + 1) (omega (arith, is)) (omega (arith, few))
+    behind_by (Dropped need room) q d n stm parts line ms is few rest = rest q (d + 1) (n + 1) (omega (arith, is)) (omega (arith, few))
+    behind_by (Cut need room) q d n stm parts line ms is few rest = rest q (d + 1) (n + 1) (omega (arith, is)) (omega (arith, few))
 
     behind : (ms : List Mark) → ArePlaced s ms → Behind ms
     behind [] placed q d n is few = no_events only s.table (Some (q % 65536))
     behind (m ∷ ms) placed q d n is few =
         let found = there (statements_by s m.writer) m.place placed.0 in
         with_statement (Some (q % 65536)) (Some d) n m ms found.0 found.1
-        (behind_by m.fate q d n found.0 (mark_line s m) ms is (omega (arith, few)) (behind ms placed.1))
+        (behind_by m.fate q d n found.0 (parts_at s n m.stamp) (mark_line s m) ms is (omega (arith, few)) (behind ms placed.1))
 
     -- those in front of which none was sent whole
     abbrev AtFirst : List Mark → Type 0
     AtFirst ms = (n : ℕ) → length ms < 65536 → Prints None (whole_from s n ms) ≡ tape_lines only s None ms
 
-    first_by : (fate : Fate) (n : ℕ) (stm : Statement) (line : List ℕ) (ms : List Mark) → 1 + length ms < 65536 → ArePlaced s ms → AtFirst ms
-        → Prints None (event_by fate (place_in s.settings.profile n) (Some stm) line ++ whole_from s (n + 1) ms)
+    first_by : (fate : Fate) (n : ℕ) (stm : Statement) (parts : Statement → Parts) (line : List ℕ) (ms : List Mark) → 1 + length ms < 65536 → ArePlaced s ms → AtFirst ms
+        → Prints None (event_by fate (place_in s.settings.profile n) (Some stm) parts line ++ whole_from s (n + 1) ms)
         ≡ tape_line fate None (shows_by only s.table (Some stm)) line ++ tape_lines only s (dropped_behind fate None) ms
-    first_by Whole n stm line ms few placed rest =
+    first_by Whole n stm parts line ms few placed rest =
         let shown : List ℕ = kept_line (shows_by only s.table (Some stm)) line in
         let more : List Event = whole_from s (n + 1) ms in
-        one_whole only s.table None (place_in s.settings.profile n) stm line more
+        one_whole only s.table None (place_in s.settings.profile n) stm (parts stm) line more
         ∙ ap (λ (o : Option ℕ). shown ++ Prints o more) (place_is n)
         ∙ ap (λ (l : List ℕ). shown ++ l) (behind ms placed n 0 (n + 1) (omega arith) (omega (arith, few)))
-    first_by (Dropped need room) n stm line ms few placed rest = rest (n + 1) (omega (arith, few))
-    first_by (Cut need room) n stm line ms few placed rest = rest (n + 1) (omega (arith, few))
+    first_by (Dropped need room) n stm parts line ms few placed rest = rest (n + 1) (omega (arith, few))
+    first_by (Cut need room) n stm parts line ms few placed rest = rest (n + 1) (omega (arith, few))
 
     pub at_first : (ms : List Mark) → ArePlaced s ms → AtFirst ms
     at_first [] placed n few = no_events only s.table None
     at_first (m ∷ ms) placed n few =
         let found = there (statements_by s m.writer) m.place placed.0 in
         with_statement None None n m ms found.0 found.1
-        (first_by m.fate n found.0 (mark_line s m) ms (omega (arith, few)) placed.1 (at_first ms placed.1))
+        (first_by m.fate n found.0 (parts_at s n m.stamp) (mark_line s m) ms (omega (arith, few)) placed.1 (at_first ms placed.1))
 
   -- ---- any profile, in the place of a frame that was sent whole
 
@@ -122,9 +123,9 @@ module _ (only : Option Rules) (s : Script) where
   one_mark last n m events placed whole =
       let found = there (statements_by s m.writer) m.place placed in
       let place : Option ℕ = place_in s.settings.profile n in
-      ap (λ (fate : Fate). Prints last (event_by fate place (mark_statement s m) (mark_line s m) ++ events)) whole
-      ∙ ap (λ (o : Option Statement). Prints last (event_by Whole place o (mark_line s m) ++ events)) found.1
-      ∙ one_whole only s.table last place found.0 (mark_line s m) events
+      ap (λ (fate : Fate). Prints last (event_by fate place (mark_statement s m) (parts_at s n m.stamp) (mark_line s m) ++ events)) whole
+      ∙ ap (λ (o : Option Statement). Prints last (event_by Whole place o (parts_at s n m.stamp) (mark_line s m) ++ events)) found.1
+      ∙ one_whole only s.table last place found.0 (parts_at s n m.stamp found.0) (mark_line s m) events
       ∙ ap (λ (o : Option Statement). (gap_line (gap_between last place) ++ kept_line (shows_by only s.table o) (mark_line s m)) ++ Prints place events) (sym found.1)
 
 -- ---- both

@@ -1,6 +1,8 @@
 pub mod Between
 pub mod Gaps
+pub mod Grouped
 pub mod Lines
+pub mod Marked
 pub mod Marks
 pub mod Numbered
 pub mod OrderLaws

@@ -24,7 +24,7 @@ use Rattle.defmt_logger.specs.Tape.{IsLawful as IsLawfulTape, line_with, mark_fr
 use Rattle.defmt_logger.specs.declared.mark.Mark.{Mark}
 use Rattle.defmt_print.proofs.Marks.{AreGood, IsGood, IsKept, are_good, good_whole, there}
 use Rattle.defmt_print.proofs.Stamped.{Fit}
-use Rattle.defmt_print.specs.Heard.{HaveWhole, IsWhole, LinesIn, catalog_of, event_by, events_after, events_before, mark_events, whole_events, whole_from}
+use Rattle.defmt_print.specs.Heard.{HaveWhole, IsWhole, LinesIn, catalog_of, event_by, events_after, events_before, mark_events, parts_at, sent_of, whole_events, whole_from}
 use Rattle.defmt_print.specs.Printed.{mark_statement}
 use Rattle.defmt_script.specs.Lawful.{IsLawful, IsSound, stamp_in}
 use Rattle.defmt_script.specs.Script.{Script, statements_by}
@@ -42,9 +42,6 @@ pub record Known (s : Script) : Type 0 where
   pub sound : (writer place : ℕ) (stm : Statement) → slice_get (statements_by s writer) place ≡ Some stm → AreSound stm.args
 
 -- ---- statements as they are sent
-
-abbrev sent_of : Script → ℕ → ℕ → Statement → Sent
-sent_of s number n stm = record { place = place_in s.settings.profile number; stamp = stamp_args (stamp_in s.settings.stamp n); index = stm.index; args = stm.args }
 
 -- those of a frame that was sent whole
 abbrev sent_by : Fate → Sent → List Sent
@@ -154,11 +151,11 @@ unfolding mark_line
 line_is s m stm found = ap (line_with s.table (stamp_in s.settings.stamp m.stamp)) (sym found)
 
 fate_events : (s : Script) (number : ℕ) (m : Mark) (stm : Statement) (fate : Fate) → slice_get (statements_by s m.writer) m.place ≡ Some stm
-    → map (line_of (catalog_of s)) (sent_by fate (sent_of s number m.stamp stm)) ≡ event_by fate (place_in s.settings.profile number) (mark_statement s m) (mark_line s m)
+    → map (line_of (catalog_of s)) (sent_by fate (sent_of s number m.stamp stm)) ≡ event_by fate (place_in s.settings.profile number) (mark_statement s m) (parts_at s number m.stamp) (mark_line s m)
 fate_events s number m stm Whole found =
     let place : Option ℕ = place_in s.settings.profile number in
-    ap (λ (line : List ℕ). Line stm.index place line ∷ []) (line_is s m stm found)
-    ∙ ap (λ (o : Option Statement). event_by Whole place o (mark_line s m)) (sym found)
+    ap (λ (line : List ℕ). Line stm.index place (parts_at s number m.stamp stm) line ∷ []) (line_is s m stm found)
+    ∙ ap (λ (o : Option Statement). event_by Whole place o (parts_at s number m.stamp) (mark_line s m)) (sym found)
 fate_events s number m stm (Dropped need room) found = refl
 fate_events s number m stm (Cut need room) found = refl
 
@@ -218,7 +215,7 @@ have_whole s known short intact tape lawful before after m is whole =
     let line : Event = line_of t (mark_sent s number m good) in
     let line_there : line ∷ [] ≡ mark_events s number m =
     fate_events s number m stm Whole found
-    ∙ ap (λ (fate : Fate). event_by fate (place_in s.settings.profile number) (mark_statement s m) (mark_line s m)) (sym whole) in
+    ∙ ap (λ (fate : Fate). event_by fate (place_in s.settings.profile number) (mark_statement s m) (parts_at s number m.stamp) (mark_line s m)) (sym whole) in
     ap (λ (l : List Mark). events_of t (stream_of s l)) is
     ∙ ap (events_of t) (whole_stands s before after m stm found whole)
     ∙ intact t (stream_of s before) (stream_from s (number + 1) after) (mark_sent s number m good) (is_sent s known short number m good)

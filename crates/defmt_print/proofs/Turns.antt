@@ -1,6 +1,6 @@
 -- The events of the stream of turns are those of a tape on which the frame of each turn that was sent is whole, and each other one dropped.
 use Rattle.std.proofs.Common.{◌≡◌, ◌≤◌, ◌<◌, ◌+◌, ◌^◌, ◌==◌, ℕ, List, [], ◌∷◌, ◌++◌, Bool, true, false, length, map, refl, sym, subst, ◌∙◌, ap, arith, append_assoc, length-append}
-use Rattle.std.specs.Prelude.{Option, if◌then◌else◌}
+use Rattle.std.specs.Prelude.{if◌then◌else◌}
 use Rattle.std.proofs.lemmas.List.{length-map}
 use Rattle.defmt_decode.specs.Event.{events_of}
 use Rattle.defmt_decode.specs.declared.event.Event.{Event}
@@ -11,7 +11,6 @@ use Rattle.defmt_print.proofs.Gaps.{Counts, printed_in}
 use Rattle.defmt_print.proofs.Lines.{Known, Short, WithoutFront, heard_lines}
 use Rattle.defmt_print.proofs.Marks.{AreGood, IsKept, placed_from, small_stamp}
 use Rattle.defmt_print.specs.Heard.{PrintTurns, catalog_of, fate_by, mark_events, mark_of, turn_events_from, turn_events, turn_mark, whole_from}
-use Rattle.defmt_hooks.specs.declared.rules.Rules.{Rules}
 use Rattle.defmt_print.specs.Printed.{ArePlaced}
 use Rattle.defmt_recording.specs.Shown.{event_lines_by}
 use Rattle.defmt_script.specs.Script.{Script}
@@ -19,8 +18,6 @@ use Rattle.rtt_down.proofs.Room.{turns_fit}
 use Rattle.rtt_down.specs.Steered.{IsSteered, places as turn_places, stream_from as steered_from, stream_of as steered_stream, turn_part, turns_of}
 use Rattle.rtt_down.specs.declared.turn.Turn.{Turn}
 use Rattle.rtt_modes.specs.Fates.{part_of}
-use Rattle.rtt_modes.specs.declared.fate.Fate.{Fate}
-use Rattle.rtt_modes.specs.declared.fate.Fate.TheVariants.{Whole, Dropped}
 use Rattle.shared_work.specs.Places.{AreConsecutive}
 
 -- ---- a turn as a mark

@@ -3,6 +3,8 @@ use Rattle.std.specs.Prelude.{◌≡◌, ◌+◌, ℕ, Bool, true, false, List, 
 use Rattle.defmt_decode.specs.Event.{events_of}
 use Rattle.defmt_decode.specs.declared.event.Event.{Event}
 use Rattle.defmt_decode.specs.declared.event.Event.TheVariants.{Line, Bad, CutFront, CutTail}
+use Rattle.defmt_decode.specs.Sent.{Sent, code_of}
+use Rattle.defmt_encode.specs.Carry.{stamp_args}
 use Rattle.defmt_encode.specs.Placed.{place_in}
 use Rattle.defmt_hooks.specs.declared.rules.Rules.{Rules}
 use Rattle.defmt_intern.specs.Catalog.{Catalog}
@@ -11,10 +13,13 @@ use Rattle.defmt_lines.specs.declared.settings.RingMode.{RingMode}
 use Rattle.defmt_lines.specs.declared.settings.RingMode.TheVariants.{Block, Skip, Trim}
 use Rattle.defmt_logger.specs.Tape.{mark_line, stream_from, stream_of}
 use Rattle.defmt_logger.specs.declared.mark.Mark.{Mark}
+use Rattle.defmt_plan.specs.Told.{parts_of}
+use Rattle.defmt_plan.specs.declared.message.Parts.{Parts}
 use Rattle.defmt_print.specs.Printed.{mark_statement}
 use Rattle.defmt_print.specs.Shown.{kept_line, shows_mark, tape_lines_by}
 use Rattle.defmt_recording.specs.Output.{gap_between, gap_line, last_behind}
 use Rattle.defmt_recording.specs.Shown.{event_lines_by, event_lines_from}
+use Rattle.defmt_script.specs.Lawful.{stamp_in}
 use Rattle.defmt_script.specs.Script.{Script}
 use Rattle.defmt_values.specs.declared.value.Statement.{Statement}
 use Rattle.rtt_down.specs.declared.turn.Turn.{Turn}
@@ -27,14 +32,28 @@ catalog_of s = record { entries = s.table; profile = s.settings.profile }
 
 -- ---- the frames that were sent whole
 
--- the line of such a frame, with the index of its statement, its place and its statement's eager line
-abbrev pub event_by : Fate → Option ℕ → Option Statement → List ℕ → List Event
-event_by Whole place (Some stm) line = Line stm.index place line ∷ []
-event_by fate place statement line = []
+-- a statement as it is sent for a mark with this number and this stamp
+abbrev pub sent_of : Script → ℕ → ℕ → Statement → Sent
+sent_of s number stamp stm = record {
+  place = place_in s.settings.profile number;
+  stamp = stamp_args (stamp_in s.settings.stamp stamp);
+  index = stm.index;
+  args = stm.args;
+}
+
+-- the parts of its line
+abbrev pub parts_at : Script → ℕ → ℕ → Statement → Parts
+parts_at s number stamp stm =
+    parts_of s.table (length (code_of (catalog_of s) (sent_of s number stamp stm))) (stamp_args (stamp_in s.settings.stamp stamp)) stm.index
+
+-- the line of such a frame, with the index of its statement, its place, its parts and its statement's eager line
+abbrev pub event_by : Fate → Option ℕ → Option Statement → (Statement → Parts) → List ℕ → List Event
+event_by Whole place (Some stm) parts line = Line stm.index place (parts stm) line ∷ []
+event_by fate place statement parts line = []
 
 -- of the mark with this number
 abbrev pub mark_events : Script → ℕ → Mark → List Event
-mark_events s number m = event_by m.fate (place_in s.settings.profile number) (mark_statement s m) (mark_line s m)
+mark_events s number m = event_by m.fate (place_in s.settings.profile number) (mark_statement s m) (parts_at s number m.stamp) (mark_line s m)
 
 -- of marks of which the first has this number, in their order
 abbrev pub whole_from : Script → ℕ → List Mark → List Event
@@ -126,14 +145,14 @@ PrintTurns s turns events = (only : Option Rules) → event_lines_by only s.tabl
 -- ---- two lines, and what stands between them
 
 -- the line of a frame with this place
-abbrev pub line_at : ℕ → ℕ → List ℕ → Event
-line_at index place text = Line index (Some place) text
+abbrev pub line_at : ℕ → ℕ → Parts → List ℕ → Event
+line_at index place parts text = Line index (Some place) parts text
 
 -- no line among them has a place
 abbrev pub HaveNoPlaces : List Event → Type 0
 HaveNoPlaces [] = Unit {0}
-HaveNoPlaces (Line index None text ∷ events) = HaveNoPlaces events
-HaveNoPlaces (Line index (Some place) text ∷ events) = ⊥
+HaveNoPlaces (Line index None parts text ∷ events) = HaveNoPlaces events
+HaveNoPlaces (Line index (Some place) parts text ∷ events) = ⊥
 HaveNoPlaces (Bad cause ∷ events) = HaveNoPlaces events
 HaveNoPlaces (CutFront bytes ∷ events) = HaveNoPlaces events
 HaveNoPlaces (CutTail bytes ∷ events) = HaveNoPlaces events
@@ -141,7 +160,7 @@ HaveNoPlaces (CutTail bytes ∷ events) = HaveNoPlaces events
 -- none of them is a line
 abbrev pub AreNoLines : List Event → Type 0
 AreNoLines [] = Unit {0}
-AreNoLines (Line index place text ∷ events) = ⊥
+AreNoLines (Line index place parts text ∷ events) = ⊥
 AreNoLines (Bad cause ∷ events) = AreNoLines events
 AreNoLines (CutFront bytes ∷ events) = AreNoLines events
 AreNoLines (CutTail bytes ∷ events) = AreNoLines events

@@ -2,6 +2,8 @@ pub mod Losses
 pub mod Printed
 pub mod Shown
 pub mod Heard
+pub mod Groups
 pub mod OrderLines
 pub mod Terminals
 pub mod RunLines
+pub mod Parted

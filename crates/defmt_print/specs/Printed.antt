@@ -20,8 +20,6 @@ use Rattle.defmt_script.specs.Script.{Script, statements_by}
 use Rattle.defmt_values.specs.Entries.{look}
 use Rattle.defmt_values.specs.Fits.{Fits, FitsStamp, IsLogged}
 use Rattle.defmt_values.specs.declared.value.Statement.{Statement}
-use Rattle.rtt_modes.specs.declared.fate.Fate.{Fate}
-use Rattle.rtt_modes.specs.declared.fate.Fate.TheVariants.{Whole, Dropped, Cut}
 
 -- ---- the statements, numbered from 0 by writer and then by place, with the stamps of their numbers
 
@@ -43,13 +41,6 @@ all_statements writers = flat_map (λ list. list) writers
 
 abbrev pub statement_lines : Script → List ℕ
 statement_lines s = numbered (numbered_line s) 0 (all_statements s.writers)
-
--- ---- the line of a frame that was sent whole
-
-abbrev pub whole_by : Fate → List ℕ → List ℕ
-whole_by Whole line = ended line
-whole_by (Dropped need room) line = []
-whole_by (Cut need room) line = []
 
 -- ---- counts over the tape
 

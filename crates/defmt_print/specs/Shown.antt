@@ -1,5 +1,5 @@
 -- Which lines of a tape are printed where rules say which are shown: the others are left out, and nothing else changes.
-use Rattle.std.specs.Prelude.{◌==◌, ◌&&◌, ◌+◌, ℕ, Bool, true, List, [], ◌∷◌, ◌++◌, Option, Some, None, flat_map, option_map, if◌then◌else◌}
+use Rattle.std.specs.Prelude.{◌+◌, ℕ, Bool, true, List, [], ◌∷◌, ◌++◌, Option, Some, None, flat_map, option_map, if◌then◌else◌}
 use Rattle.defmt_decode.specs.Shown.{shows_line}
 use Rattle.defmt_hooks.specs.declared.rules.Rules.{Rules}
 use Rattle.defmt_intern.specs.Table.{Map}
@@ -7,14 +7,13 @@ use Rattle.defmt_intern.specs.declared.table.Profile.{Profile}
 use Rattle.defmt_intern.specs.declared.table.Profile.TheVariants as profiles
 use Rattle.defmt_logger.specs.Tape.{mark_line}
 use Rattle.defmt_logger.specs.declared.mark.Mark.{Mark}
-use Rattle.defmt_print.specs.Printed.{mark_statement, whole_by}
+use Rattle.defmt_print.specs.Printed.{mark_statement}
 use Rattle.defmt_recording.specs.Output.{ended, gap_line}
+use Rattle.defmt_recording.specs.Styled.{prints_index}
 use Rattle.defmt_script.specs.Script.{Script}
 use Rattle.defmt_values.specs.declared.value.Statement.{Statement}
 use Rattle.rtt_modes.specs.declared.fate.Fate.{Fate}
 use Rattle.rtt_modes.specs.declared.fate.Fate.TheVariants.{Whole, Dropped, Cut}
-
--- ---- the shown lines of the frames that were sent whole, writer by writer
 
 abbrev pub shows_statement : Rules → Map → Option Statement → Bool
 shows_statement rules table (Some stm) = shows_line rules table stm.index
@@ -28,23 +27,11 @@ shows_by (Some rules) table statement = shows_statement rules table statement
 abbrev pub shows_mark : Option Rules → Script → Mark → Bool
 shows_mark only s m = shows_by only s.table (mark_statement s m)
 
-abbrev pub writer_line : Option Rules → Script → ℕ → Mark → List ℕ
-writer_line only s writer m = if m.writer == writer && shows_mark only s m then whole_by m.fate (mark_line s m) else []
-
--- the lines of one writer in the tape's order
-abbrev pub writer_lines : Option Rules → Script → List Mark → ℕ → List ℕ
-writer_lines only s tape writer = flat_map (writer_line only s writer) tape
-
--- those of the writers 0 to 7 in order
-abbrev pub group_lines : Option Rules → Script → List Mark → List ℕ
-group_lines only s tape = flat_map (writer_lines only s tape) (0 ∷ 1 ∷ 2 ∷ 3 ∷ 4 ∷ 5 ∷ 6 ∷ 7 ∷ [])
-
 -- ---- the eager lines of the shown statements whose frames were sent whole, in the tape's order
 
 -- a line with this index is shown
 abbrev pub shows_index : Option Rules → Map → ℕ → Bool
-shows_index None table index = true
-shows_index (Some rules) table index = shows_line rules table index
+shows_index only table index = prints_index only table index
 
 -- a line, where it is shown
 abbrev pub kept_line : Bool → List ℕ → List ℕ

@@ -6,6 +6,7 @@ ghost use Rattle.defmt_hooks.specs.declared.rules.Rules.{Rules};
 ghost use Rattle.defmt_intern.specs.Table.{Map};
 ghost use Rattle.defmt_logger.specs.Tape.{mark_line};
 ghost use Rattle.defmt_logger.specs.declared.mark.Mark.{Mark};
+ghost use Rattle.defmt_plan.specs.declared.message.Parts.{Parts};
 ghost use Rattle.defmt_print.specs.Heard.{AreNoLines, HaveNoPlaces, IsWhole, WereDropped, line_at};
 ghost use Rattle.defmt_recording.specs.Output.{gap_line};
 ghost use Rattle.defmt_recording.specs.Shown.{event_lines_by, event_lines_from, kept_event};
@@ -17,10 +18,10 @@ ghost use Rattle.defmt_script.specs.Script.{Script};
 /// of the line of a frame that was sent whole stands how many were dropped since the one before that was.
 pub fn gaps_are_told()
     ensures lines { (only : Option Rules) (table : Map) (front between rest : List Event)
-        (first second a b : ℕ) (one two : List ℕ) → AreNoLines between
+        (first second a b : ℕ) (p q : Parts) (one two : List ℕ) → AreNoLines between
         → event_lines_by only table
-        (front ++ line_at first a one ∷ between ++ line_at second b two ∷ rest)
-        ≡ event_lines_by only table (front ++ line_at first a one ∷ between)
+        (front ++ line_at first a p one ∷ between ++ line_at second b q two ∷ rest)
+        ≡ event_lines_by only table (front ++ line_at first a p one ∷ between)
         ++ (gap_line (gap_of a b) ++ kept_line (shows_index only table second) two)
         ++ event_lines_from only table (Some b) rest }
     ensures none { (only : Option Rules) (table : Map) (events : List Event) → HaveNoPlaces events

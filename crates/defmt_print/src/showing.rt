@@ -1,21 +1,24 @@
 //! What is printed of a run.
-ghost use Rattle.std.specs.Prelude.{◌≡◌, IfOk};
+ghost use Rattle.std.specs.Prelude.{◌≡◌, ◌≤◌, length, IfOk};
+ghost use Rattle.defmt_print.specs.Groups.{look_of};
 ghost use Rattle.defmt_print.specs.RunLines.{heard_lines, run_lines, steered_lines};
 ghost use Rattle.defmt_print.specs.Printed.{ArePlaced};
+ghost use Rattle.defmt_recording.specs.Styled.{styled_lines};
 
 use crate::orders::with_orders;
 use crate::printing::{group_lines, with_losses};
 use defmt_decode::Events;
 use defmt_logger::Tape;
+use defmt_places::Places;
 use defmt_recording::event_lines;
 use defmt_script::Script;
-use defmt_words::RunOptions;
+use defmt_words::{RunOptions, Style};
 use dl_io::{Bytes, Memory};
 use rtt_down::Turns;
 use std::alloc::Global;
 
-/// The lines of a run, the events' with the gaps between them or those of the tape in groups by writer, by rules where there are
-/// some, and then the reports of what was lost.
+/// The lines of a run in a style, the events' with the gaps between them or those of the tape in groups by writer, and then the reports
+/// of what was lost.
 pub fn run_lines(
     alloc: Global,
     options: &RunOptions,
@@ -23,12 +26,13 @@ pub fn run_lines(
     tape: &Tape,
     events: &Events,
 ) -> Result<Bytes, Memory>
-    requires { ArePlaced script.now tape.now.marks }
+    requires placed { ArePlaced script.now tape.now.marks }
+    requires few { length tape.now.marks ≤ 4096 }
     ensures { IfOk result (λ out. out.items
         ≡ run_lines options.now script.now tape.now.marks events.now) }
 {
     let lines = heard_lines(alloc, options, script, tape, events)?;
-    with_losses(alloc, lines, tape.as_slice())
+    with_losses(alloc, options.style.form, lines, tape.as_slice())
 }
 
 // The lines of the events, or those of the tape in groups.
@@ -39,15 +43,29 @@ fn heard_lines(
     tape: &Tape,
     events: &Events,
 ) -> Result<Bytes, Memory>
-    requires { ArePlaced script.now tape.now.marks }
+    requires placed { ArePlaced script.now tape.now.marks }
+    requires few { length tape.now.marks ≤ 4096 }
     ensures { IfOk result (λ out. out.items
         ≡ heard_lines options.now script.now tape.now.marks events.now) }
 {
     if options.group {
-        group_lines(alloc, &options.only, script, tape.as_slice())
+        group_lines(alloc, &options.style, script, tape.as_slice())
     } else {
-        event_lines(alloc, &options.only, script.table(), events)
+        styled_lines(alloc, &options.style, script, events)
     }
+}
+
+// The lines of the events in a style, by the script's own table and without places in the sources.
+fn styled_lines(
+    alloc: Global,
+    style: &Style,
+    script: &Script,
+    events: &Events,
+) -> Result<Bytes, Memory>
+    ensures { IfOk result (λ out. out.items ≡ styled_lines (look_of style.now script.now) events.now) }
+{
+    let places = Places::new(alloc);
+    event_lines(alloc, style, script.table(), &places, events.as_slice())
 }
 
 /// The lines of a run under orders: the events' with the gaps between them, and then one for each order.
@@ -59,6 +77,6 @@ pub fn steered_lines(
 ) -> Result<Bytes, Memory>
     ensures { IfOk result (λ out. out.items ≡ steered_lines script.now turns.now.turns events.now) }
 {
-    let lines = event_lines(alloc, &None, script.table(), events)?;
+    let lines = styled_lines(alloc, &Style::plain(), script, events)?;
     with_orders(alloc, lines, script, turns)
 }

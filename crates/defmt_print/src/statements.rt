@@ -2,10 +2,9 @@
 ghost use Rattle.std.specs.Prelude.{◌≡◌, ◌≤◌, ◌<◌, ◌^◌, ◌+◌, ◌++◌, length, IfOk, IfSome, OnOk};
 ghost use Rattle.defmt_encode.specs.Carry.{stamp_args};
 ghost use Rattle.defmt_frames.specs.Frames.{first_stamp, stamp_number, stamp_step};
-ghost use Rattle.defmt_logger.specs.Tape.{mark_line};
 ghost use Rattle.defmt_recording.specs.Output.{ended};
 ghost use Rattle.defmt_eager.specs.Line.{eager_line};
-ghost use Rattle.defmt_print.specs.Printed.{IsPlaced, Prints, numbered, numbered_line, statement_lines};
+ghost use Rattle.defmt_print.specs.Printed.{Prints, numbered, numbered_line, statement_lines};
 ghost use Rattle.defmt_hints.specs.Written.{Written};
 ghost use Rattle.defmt_script.specs.Lawful.{IsSound, stamp_in};
 ghost use Rattle.defmt_script.specs.Script.{statements_by};
@@ -13,7 +12,6 @@ ghost use Rattle.defmt_script.specs.Script.{statements_by};
 use defmt_eager::{EagerFault, line, put_line};
 use defmt_hints::put;
 use defmt_intern::Table;
-use defmt_logger::Mark;
 use defmt_script::{Script, WRITERS, stamps_fit};
 use defmt_values::{Args, Statement, Value};
 use dl_io::{Bytes, Memory};
@@ -115,28 +113,6 @@ fn stamp_number(script: &Script, number: u32) -> u64
     base + step * u64::from(number)
 }
 
-/// Appends the line of a mark's statement and a newline. The room takes the line, where it isn't longer.
-pub fn add_mark_line(
-    alloc: Global,
-    script: &Script,
-    mark: &Mark,
-    room: &mut [u8],
-    out: &mut Bytes,
-) -> Result<(), Memory>
-    requires { IsPlaced script.now mark.now }
-    ensures { OnOk result (out.new.items ≡ out.old.items ++ ended (mark_line script.now mark.now)) }
-{
-    script.lawful();
-    stamps_fit();
-    let table = script.table();
-    let Some(statement) = script.statement(mark.writer, mark.place) else {
-        unreachable!();
-    };
-    let carried = stamp_in(script, mark.stamp);
-    let mut args = Args::new(alloc);
-    add_line(alloc, table, carried, statement, &mut args, room, out)
-}
-
 // Writes the line of a statement with a stamp or none, and a newline, to the front of the room.
 fn put_ended(
     table: &Table,
@@ -208,8 +184,8 @@ pub fn stamp_in(script: &Script, stamp: u64) -> Option<u64>
     }
 }
 
-// Makes the list that of a stamp's arguments.
-fn put_stamp(stamp: Option<u64>, args: &mut Args) -> Result<(), Memory>
+/// Makes the list that of a stamp's arguments.
+pub fn put_stamp(stamp: Option<u64>, args: &mut Args) -> Result<(), Memory>
     ensures { OnOk result (args.new ≡ stamp_args stamp) }
 {
     args.clear();

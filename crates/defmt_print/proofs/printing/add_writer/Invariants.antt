@@ -1,6 +1,7 @@
-use Rattle.std.proofs.Common.{◌≡◌, ◌++◌, take, flat_map}
-use Rattle.defmt_print.specs.Shown.{writer_line}
+use Rattle.std.proofs.Common.{◌≡◌, ◌++◌, drop}
+use Rattle.defmt_print.specs.Groups.{writer_lines}
 use Rattle.defmt_print.proofs.printing.add_writer.Given as goal
 
-abbrev pub invariant-loop-mark : goal.invariant-loop-mark
-invariant-loop-mark l = l.out.items ≡ l.fn.out.items ++ flat_map (writer_line l.only l.script l.writer) (take l.mark-index l.tape)
+abbrev pub invariant-loop-number : goal.invariant-loop-number
+invariant-loop-number l =
+    l.out.items ++ writer_lines l.style l.script l.writer l.number (drop l.number l.tape) ≡ l.fn.out.items ++ writer_lines l.style l.script l.writer 0 l.tape

@@ -1,7 +1,7 @@
 use Rattle.std.proofs.Common.{◌≡◌, ◌∙◌, ◌<◌, ◌+◌, ◌++◌, ℕ, List, [], ◌∷◌, length, take, get_or, flat_map, ap, sym, arith}
 use Rattle.std.proofs.lemmas.Grind.{flat_map-append}
 use Rattle.std.proofs.lemmas.List.{append-nil, take_more}
-use Rattle.defmt_print.specs.Shown.{writer_lines}
+use Rattle.defmt_print.specs.Groups.{writer_lines}
 use Rattle.defmt_print.proofs.printing.group_lines.Goals as goal
 
 -- the lines of one writer more
@@ -16,5 +16,5 @@ one_writer f writers place now after within now_is after_is =
 
 pub loop-writer-preserved : goal.loop-writer-preserved
 loop-writer-preserved c =
-    one_writer (writer_lines c.args.only.now c.args.script.now c.args.tape.now) (0 ∷ 1 ∷ 2 ∷ 3 ∷ 4 ∷ 5 ∷ 6 ∷ 7 ∷ []) c.loop-writer.writer-index
+    one_writer (λ (writer : ℕ). writer_lines c.args.style.now c.args.script.now writer 0 c.args.tape.now) (0 ∷ 1 ∷ 2 ∷ 3 ∷ 4 ∷ 5 ∷ 6 ∷ 7 ∷ []) c.loop-writer.writer-index
     c.loop-writer.out.items c.add_writer.new.out.items (omega (arith, c.loop-writer-test.true)) c.loop-writer.invariant c.in_ok-add_writer.ensures
