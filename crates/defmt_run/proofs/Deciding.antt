@@ -1,21 +1,24 @@
 -- What a session answers is what inputs as told come to.
-use Rattle.std.proofs.Common.{◌≡◌, inl, inr, ◌+◌, ℕ, List, [], ◌∷◌, Option, Some, None, Ok, Err, refl, sym, subst, ap, ◌∙◌, arith, length, lit≤}
+use Rattle.std.proofs.Common.{◌≡◌, inl, inr, ◌+◌, ℕ, zero, suc, List, [], ◌∷◌, Option, Some, None, Ok, Err, refl, sym, subst, ap, ◌∙◌, arith, length, lit≤}
 use Rattle.std.specs.Prelude.{Result, ◌⊎◌}
 use Rattle.std.specs.Io.KnownBytes.{Consumes}
 use Rattle.std.specs.Str.Lines.{lines}
 use Rattle.std.proofs.lemmas.Bool.{true≢false}
 use Rattle.std.proofs.lemmas.Option.{same_Some}
-use Rattle.defmt_listen.specs.Streams.{Input, IsRest, Output, input_of, output_of}
+use Rattle.defmt_listen.specs.Streams.{Input, IsRest, Output, Wrote, input_of, output_of}
 use Rattle.defmt_recording.specs.Calls.{Files, IsUnread, IsUntouched, IsUnwritten, files_of}
-use Rattle.defmt_recording.specs.Decoding.{fault_of_recording}
+use Rattle.defmt_hooks.specs.declared.level.Level.{Level as AnyLevel}
+use Rattle.defmt_print.specs.RunLines.{run_failing}
+use Rattle.defmt_recording.specs.Decoding.{fault_by, fault_of_named, fault_of_recording}
 use Rattle.defmt_recording.specs.Dumping.{fault_of_image}
+use Rattle.defmt_run.specs.Making.{Makes}
 use Rattle.defmt_run.specs.Running.{BlockingComesTo, Comes, ComesNot, GaveWhole, IsFaultOf, Made, MayNotSteer, ReadingComesTo, RefusesMode, Runs, RunningComesTo, SteeringComesTo, TookShort, Withholds, Writes, fault_of_read, script_limit}
 use Rattle.defmt_run.specs.Session.{Answers, ComesTo, MayComeTo, MustComeTo, OrFails, ReadsSource}
 use Rattle.defmt_recording.specs.Inputs.{AreAsTold, Inputs}
 use Rattle.defmt_recording.specs.Status.{status_of}
 use Rattle.defmt_run.specs.Told.{IsUntold, Told}
 use Rattle.defmt_recording.specs.declared.fault.Fault.{Fault}
-use Rattle.defmt_recording.specs.declared.fault.Fault.TheVariants.{Fine, Memory, Words, Source, Sink, Script, Shelf, Long}
+use Rattle.defmt_recording.specs.declared.fault.Fault.TheVariants.{Fine, Memory, Words, Source, Sink, Script, Shelf, Long, Level}
 use Rattle.defmt_recording.proofs.Images.{dump_may, dump_words}
 use Rattle.defmt_recording.proofs.Loading.{load_one}
 use Rattle.defmt_recording.proofs.Recordings.{decode_may, decode_words}
@@ -25,7 +28,7 @@ use Rattle.defmt_script.specs.Script.{Refusal, Script as Read}
 use Rattle.defmt_words.specs.declared.job.Job.{Job}
 use Rattle.defmt_words.specs.declared.job.Job.TheVariants as jobs
 use Rattle.defmt_words.specs.declared.job.ScriptJob.{ScriptJob}
-use Rattle.defmt_words.specs.declared.job.ScriptJob.TheVariants.{Generate, Steer}
+use Rattle.defmt_words.specs.declared.job.ScriptJob.TheVariants.{Run, Record, Terminals, Steer, Table, Print, Generate}
 use Rattle.rtt_down.specs.Modes.{FirstMode}
 
 -- a text is read in one way
@@ -34,17 +37,52 @@ OneReading = (text : List ℕ) (read other : Result Read Refusal) → Reads text
 
 -- ---- what was made was written, or the sink failed
 
-pub ran : (job : ScriptJob) (input : Input) (output : Output) (fault : Fault) (told : Told) (text : List ℕ) → Made job input told text → Writes output text fault
+-- all was done, or a run fails on a level
+IsDone : Fault → Type 0
+IsDone fault = (fault ≡ Fine) ⊎ ((level : AnyLevel) × (count : ℕ) × (fault ≡ Level level count))
+
+run_done : (on : Option AnyLevel) (failing : ℕ) → IsDone (fault_by on failing 0)
+unfolding IsDone
+run_done None failing = inl refl
+run_done (Some level) zero = inl refl
+run_done (Some level) (suc n) = inr (level, suc n, refl)
+
+made_done : (job : ScriptJob) (s : Read) (told : Told) (text : List ℕ) (due : Fault) → Makes job s told text due → IsDone due
+unfolding IsDone
+made_done (Run options) s told text due makes = subst IsDone (sym makes.2) (run_done options.style.fail_on (run_failing options s told.tape told.events))
+made_done Record s told text due makes = inl makes.2
+made_done Terminals s told text due makes = inl makes.2
+made_done Steer s told text due makes = inl makes.2
+made_done Table s told text due makes = inl makes.2
+made_done Print s told text due makes = inl makes.2
+made_done (Generate count) s told text due makes = inl makes.2
+
+ran_done : (job : ScriptJob) (input : Input) (output : Output) (due : Fault) (told : Told) (text : List ℕ) → IsDone due → Made job input told text due → Wrote output text
+    → Runs job input output due told
+unfolding IsDone
+ran_done job input output due told text (inl fine) made wrote =
+    subst (λ (f : Fault). Runs job input output f told) (sym fine) (text, subst (λ (f : Fault). Made job input told text f) fine made, wrote)
+ran_done job input output due told text (inr at) made wrote =
+    subst (λ (f : Fault). Runs job input output f told) (sym at.2) (text, subst (λ (f : Fault). Made job input told text f) at.2 made, wrote)
+
+pub ran : (job : ScriptJob) (input : Input) (output : Output) (due fault : Fault) (told : Told) (text : List ℕ) → Made job input told text due → Writes output text due fault
     → Runs job input output fault told
-ran job input output Fine told text made writes = (text, made, writes)
-ran job input output Sink told text made writes = (text, made, writes.0, writes.1)
-ran job input output fault told text made writes = absurd writes
+ran job input output due fault told text made (inl wrote) =
+    subst (λ (f : Fault). Runs job input output f told) (sym wrote.0) (ran_done job input output due told text (made_done job made.script told text due made.makes) made wrote.1)
+ran job input output due fault told text made (inr sunk) =
+    subst (λ (f : Fault). Runs job input output f told) (sym sunk.0) (text, due, made, sunk.1, sunk.2)
 
 never_fine : (job : ScriptJob) (input : Input) → ComesNot job input Fine → ⊥
 never_fine (Generate count) input comes_not = absurd (cc comes_not.0)
 never_fine Steer input (inl withholds) = withholds
 never_fine Steer input (inr other) = other
 never_fine job input comes_not = comes_not
+
+never_level : (job : ScriptJob) (input : Input) (level : AnyLevel) (count : ℕ) → ComesNot job input (Level level count) → ⊥
+never_level (Generate n) input level count comes_not = absurd (cc comes_not.0)
+never_level Steer input level count (inl withholds) = withholds
+never_level Steer input level count (inr other) = other
+never_level job input level count comes_not = comes_not
 
 never_sink : (job : ScriptJob) (input : Input) → ComesNot job input Sink → ⊥
 never_sink (Generate count) input comes_not = absurd (cc comes_not.0)
@@ -56,6 +94,7 @@ never_sink job input comes_not = comes_not
 pub ran_not : (job : ScriptJob) (input : Input) (output : Output) (fault : Fault) (told : Told) → ComesNot job input fault → IsUnwritten output → IsUntold told
     → Runs job input output fault told
 ran_not job input output Fine told comes_not unwritten untold = absurd (never_fine job input comes_not)
+ran_not job input output (Level level count) told comes_not unwritten untold = absurd (never_level job input level count comes_not)
 ran_not job input output Sink told comes_not unwritten untold = absurd (never_sink job input comes_not)
 ran_not job input output fault told comes_not unwritten untold = (comes_not, unwritten, untold)
 
@@ -63,6 +102,7 @@ ran_not job input output fault told comes_not unwritten untold = (comes_not, unw
 
 pub or_fails : (job : Job) (input : Input) (shelf : Files) (output : Output) (Is Other : Fault → Type 0) → ((fault : Fault) → Is fault → Other fault) → (fault : Fault)
     → OrFails job input shelf output Is fault → OrFails job input shelf output Other fault
+or_fails (jobs.Script job) input shelf output Is Other so (Level level count) is = so Fine is
 or_fails job input shelf output Is Other so Memory is = tt
 or_fails job input shelf output Is Other so Source is = is
 or_fails job input shelf output Is Other so Sink is = is
@@ -76,7 +116,7 @@ module _ (input : Input) (shelf : Files) where
   read_so text read whole reads =
       let files = any_files shelf.files in
       let rest : IsRest input.left text = all_taken input.left input.left_after text whole.taken whole.at_end in
-      (record { text = text; files = files.0 }, record { text = rest; files = files.1 }, inr (whole.within, (read, reads, refl)))
+      (record { text = text; files = files.0; later = files.0 }, record { text = rest; files = files.1; later = files.1 }, inr (whole.within, (read, reads, refl)))
 
   -- more than a script
   too_long : (bytes : List ℕ) → length bytes ≡ script_limit + 1 → Consumes input.left input.left_after bytes
@@ -84,10 +124,10 @@ module _ (input : Input) (shelf : Files) where
   too_long bytes long consumes =
       let files = any_files shelf.files in
       let text = some_text input.left input.left_after bytes consumes in
-      (record { text = text.0; files = files.0 }, record { text = text.1; files = files.1 }, inl (omega (arith, text.2, long), refl))
+      (record { text = text.0; files = files.0; later = files.0 }, record { text = text.1; files = files.1; later = files.1 }, inl (omega (arith, text.2, long), refl))
 
-  withholds_may : (job : Job) (output : Output) (fault : Fault) → ReadsSource job → Withholds input fault
-      → OrFails job input shelf output (λ f. (inputs : Inputs) × AreAsTold input.left shelf.files inputs × RunningComesTo inputs.text f) fault
+  withholds_may : (job : ScriptJob) (output : Output) (fault : Fault) → ReadsSource (jobs.Script job) → Withholds input fault
+      → OrFails (jobs.Script job) input shelf output (λ f. (inputs : Inputs) × AreAsTold input.left shelf.files inputs × RunningComesTo inputs.text f) fault
   withholds_may job output Memory reads withholds = tt
   withholds_may job output Source reads withholds = (reads, withholds.0)
   withholds_may job output Long reads withholds = too_long withholds.0 withholds.1 withholds.2
@@ -101,14 +141,14 @@ module _ (input : Input) (shelf : Files) where
   steered_so text read fault whole reads is =
       let files = any_files shelf.files in
       let rest : IsRest input.left text = all_taken input.left input.left_after text whole.taken whole.at_end in
-      (record { text = text; files = files.0 }, record { text = rest; files = files.1 }, inr (whole.within, (read, reads, is)))
+      (record { text = text; files = files.0; later = files.0 }, record { text = rest; files = files.1; later = files.1 }, inr (whole.within, (read, reads, is)))
 
   too_long_to_steer : (bytes : List ℕ) → length bytes ≡ script_limit + 1 → Consumes input.left input.left_after bytes
       → (inputs : Inputs) × AreAsTold input.left shelf.files inputs × SteeringComesTo inputs.text Long
   too_long_to_steer bytes long consumes =
       let files = any_files shelf.files in
       let text = some_text input.left input.left_after bytes consumes in
-      (record { text = text.0; files = files.0 }, record { text = text.1; files = files.1 }, inl (omega (arith, text.2, long), refl))
+      (record { text = text.0; files = files.0; later = files.0 }, record { text = text.1; files = files.1; later = files.1 }, inl (omega (arith, text.2, long), refl))
 
   steers_may : (output : Output) (fault : Fault) → Withholds input fault
       → OrFails (jobs.Script Steer) input shelf output (MayComeTo (jobs.Script Steer) input.left shelf.files) fault
@@ -139,12 +179,13 @@ module _ (input : Input) (shelf : Files) where
       subst (λ (f : Fault). OrFails (jobs.Script (Generate count)) input shelf output (MayComeTo (jobs.Script (Generate count)) input.left shelf.files) f) (sym comes_not.0) tt
   comes_not_may Steer output fault (inl withholds) = steers_may output fault withholds
   comes_not_may Steer output fault (inr other) = other_may output fault other
-  comes_not_may job output fault withholds = withholds_may (jobs.Script job) output fault tt withholds
+  comes_not_may job output fault withholds = withholds_may job output fault tt withholds
 
   script_may : (job : ScriptJob) (output : Output) (fault : Fault) (told : Told) → Runs job input output fault told
       → OrFails (jobs.Script job) input shelf output (MayComeTo (jobs.Script job) input.left shelf.files) fault
   script_may job output Fine told runs = comes_may job runs.1.script runs.1.comes
-  script_may job output Sink told runs = runs.3
+  script_may job output (Level level count) told runs = comes_may job runs.1.script runs.1.comes
+  script_may job output Sink told runs = runs.4
   script_may job output fault told runs = comes_not_may job output fault runs.0
 
   pub may_come : (job : Job) (output : Output) (fault : Fault) (told : Told) → Answers (Some job) input shelf output fault told
@@ -195,8 +236,10 @@ one_fault : OneReading → (job : Job) (inputs : Inputs) (fault other : Fault) �
 one_fault one (jobs.Script (Generate count)) inputs fault other a b = b ∙ sym a
 one_fault one (jobs.Script Steer) inputs fault other a b = steer_one one inputs.text fault other a b
 one_fault one (jobs.Script job) inputs fault other a b = run_one one inputs.text fault other a b
-one_fault one (jobs.Decode options) inputs fault other a b = load_one (fault_of_recording inputs.text) (inputs.files options.table) fault other a b
-one_fault one (jobs.Dump options) inputs fault other a b = load_one (fault_of_image options inputs.text) (inputs.files options.table) fault other a b
+one_fault one (jobs.Decode options) inputs fault other a b =
+    load_one (λ table. fault_of_named (fault_of_recording options.style options.live inputs.text table) options.places inputs.later) (inputs.files options.table) fault other a b
+one_fault one (jobs.Dump options) inputs fault other a b =
+    load_one (λ table. fault_of_named (fault_of_image options inputs.text table) options.places inputs.later) (inputs.files options.table) fault other a b
 
 pub must_come : OneReading → (job : Job) (input : Input) (shelf : Files) (output : Output) (fault wanted : Fault)
     → MustComeTo job input.left shelf.files wanted → OrFails job input shelf output (MayComeTo job input.left shelf.files) fault
@@ -246,8 +289,8 @@ wanting_from : (asked : Option Job) (input : Input) (shelf : Files) (output : Ou
     → Answers asked input shelf output Memory told
 wanting_from None input shelf output told took unread untouched unwritten untold = (inr refl, unread, untouched, unwritten, untold)
 wanting_from (Some (jobs.Script job)) input shelf output told took unread untouched unwritten untold = ((no_memory job input took unread, unwritten, untold), untouched)
-wanting_from (Some (jobs.Decode options)) input shelf output told took unread untouched unwritten untold = (inl (inl tt, unread, unwritten), untold)
-wanting_from (Some (jobs.Dump options)) input shelf output told took unread untouched unwritten untold = (inl (inl tt, unread, unwritten), untold)
+wanting_from (Some (jobs.Decode options)) input shelf output told took unread untouched unwritten untold = (inl (inl (inl tt), unread, unwritten), untold)
+wanting_from (Some (jobs.Dump options)) input shelf output told took unread untouched unwritten untold = (inl (inl (inl tt), unread, unwritten), untold)
 
 -- nothing was touched
 pub wanting_all : {S F K : Type 0} (asked : Option Job) (left : S → Option (List ℕ)) (source_faults : S → ℕ) (files : F → Option (List ℕ → Option (List ℕ))) (shelf_faults : F → ℕ)

@@ -7,6 +7,8 @@ use Rattle.defmt_logger.specs.Kept.{Reel as Tape}
 use Rattle.defmt_run.specs.Making.{IsLogged, Makes, MakesAlone, RanAlone, RanHeard, RanUnheard}
 use Rattle.defmt_print.specs.Heard.{GapsIn, LinesIn, catalog_of}
 use Rattle.defmt_run.specs.Told.{IsUntold, Ran, Spoke, Told, told, told_of}
+use Rattle.defmt_recording.specs.declared.fault.Fault.{Fault}
+use Rattle.defmt_recording.specs.declared.fault.Fault.TheVariants.{Fine}
 use Rattle.defmt_run.specs.declared.hearing.Heard.{Heard}
 use Rattle.defmt_run.specs.declared.making.Making.{Making}
 use Rattle.defmt_script.specs.Script.{Script}
@@ -68,28 +70,29 @@ module _ (s : Script) (tape : Tape) (account : Account) (captured rest : List �
 
 -- what was heard of a run is what comes of the job
 pub makes_so : {E F : Type 0} (job : ScriptJob) (s script : Script) (tells : Heard → Told) (heard : Result Heard E) (made : Result Making F) → s ≡ script
-    → IfOk heard (λ (h : Heard). Makes job s (tells h) h.output.items)
-    → IfOk made (λ (m : Making). (h : Heard) × (heard ≡ Ok h) × (m.output.items ≡ h.output.items) × (told m.outcome ≡ tells h))
-    → IfOk made (λ (m : Making). Makes job script (told m.outcome) m.output.items)
+    → IfOk heard (λ (h : Heard). Makes job s (tells h) h.output.items h.fault)
+    → IfOk made (λ (m : Making). (h : Heard) × (heard ≡ Ok h) × (m.output.items ≡ h.output.items) × (told m.outcome ≡ tells h) × (m.outcome.fault ≡ h.fault))
+    → IfOk made (λ (m : Making). Makes job script (told m.outcome) m.output.items m.outcome.fault)
 makes_so {E} job s script tells heard (Ok m) is makes made =
     let h : Heard = made.0 in
-    let of_h : Makes job s (tells h) h.output.items = subst (λ (r : Result Heard E). IfOk r (λ (h : Heard). Makes job s (tells h) h.output.items)) made.1 makes in
-    let of_m : Makes job s (tells h) m.output.items = subst (λ (output : List ℕ). Makes job s (tells h) output) (sym made.2) of_h in
-    let told_m : Makes job s (told m.outcome) m.output.items = subst (λ (t : Told). Makes job s t m.output.items) (sym made.3) of_m in
-    subst (λ (x : Script). Makes job x (told m.outcome) m.output.items) is told_m
+    let of_h : Makes job s (tells h) h.output.items h.fault = subst (λ (r : Result Heard E). IfOk r (λ (h : Heard). Makes job s (tells h) h.output.items h.fault)) made.1 makes in
+    let of_m : Makes job s (tells h) m.output.items h.fault = subst (λ (output : List ℕ). Makes job s (tells h) output h.fault) (sym made.2) of_h in
+    let told_m : Makes job s (told m.outcome) m.output.items h.fault = subst (λ (t : Told). Makes job s t m.output.items h.fault) (sym made.3) of_m in
+    let due_m : Makes job s (told m.outcome) m.output.items m.outcome.fault = subst (λ (f : Fault). Makes job s (told m.outcome) m.output.items f) (sym made.4) told_m in
+    subst (λ (x : Script). Makes job x (told m.outcome) m.output.items m.outcome.fault) is due_m
 makes_so job s script tells heard (Err e) is makes made = tt
 
 -- by another name of the job
 pub make_so : {E : Type 0} (job other : ScriptJob) (s : Script) (made : Result Making E) → job ≡ other
-    → IfOk made (λ (m : Making). Makes other s (told m.outcome) m.output.items) → IfOk made (λ (m : Making). Makes job s (told m.outcome) m.output.items)
-make_so job other s made is makes = subst (λ (j : ScriptJob). IfOk made (λ (m : Making). Makes j s (told m.outcome) m.output.items)) (sym is) makes
+    → IfOk made (λ (m : Making). Makes other s (told m.outcome) m.output.items m.outcome.fault) → IfOk made (λ (m : Making). Makes job s (told m.outcome) m.output.items m.outcome.fault)
+make_so job other s made is makes = subst (λ (j : ScriptJob). IfOk made (λ (m : Making). Makes j s (told m.outcome) m.output.items m.outcome.fault)) (sym is) makes
 
 pub alone_so : {E : Type 0} (job other : ScriptJob) (run : ScriptRun) (heard : Result Heard E) → job ≡ other
-    → IfOk heard (λ (h : Heard). MakesAlone other run h.events h.output.items) → IfOk heard (λ (h : Heard). MakesAlone job run h.events h.output.items)
-alone_so job other run heard is makes = subst (λ (j : ScriptJob). IfOk heard (λ (h : Heard). MakesAlone j run h.events h.output.items)) (sym is) makes
+    → IfOk heard (λ (h : Heard). MakesAlone other run h.events h.output.items h.fault) → IfOk heard (λ (h : Heard). MakesAlone job run h.events h.output.items h.fault)
+alone_so job other run heard is makes = subst (λ (j : ScriptJob). IfOk heard (λ (h : Heard). MakesAlone j run h.events h.output.items h.fault)) (sym is) makes
 
 pub counts_else : {E : Type 0} (job : ScriptJob) (run : ScriptRun) (heard : Result Heard E) → ((options : RunOptions) → job ≡ Run options → ⊥) → (job ≡ Record → ⊥) → IsLogged job
-    → IfOk heard (λ (h : Heard). (count : ℕ) → MakesAlone (Generate count) run h.events h.output.items) → IfOk heard (λ (h : Heard). MakesAlone job run h.events h.output.items)
+    → IfOk heard (λ (h : Heard). (count : ℕ) → MakesAlone (Generate count) run h.events h.output.items h.fault) → IfOk heard (λ (h : Heard). MakesAlone job run h.events h.output.items h.fault)
 counts_else job run (Err e) not_run not_record logged makes = tt
 counts_else (Run options) run (Ok h) not_run not_record logged makes = absurd (not_run options refl)
 counts_else Record run (Ok h) not_run not_record logged makes = absurd (not_record refl)
@@ -98,11 +101,11 @@ counts_else job run (Ok h) not_run not_record logged makes = absurd logged
 
 -- a script that isn't run
 pub unrun_so : {E F : Type 0} (job : ScriptJob) (s : Script) (text : List ℕ) (output : Result Buffer E) (made : Result Making F)
-    → ((told : Told) (items : List ℕ) → IsUntold told → items ≡ text → Makes job s told items)
-    → IfOk output (λ (b : Buffer). b.items ≡ text) → IfOk made (λ (m : Making). IsUntold (told m.outcome) × (output ≡ Ok m.output))
-    → IfOk made (λ (m : Making). Makes job s (told m.outcome) m.output.items)
+    → ((told : Told) (items : List ℕ) (fault : Fault) → IsUntold told → items ≡ text → fault ≡ Fine → Makes job s told items fault)
+    → IfOk output (λ (b : Buffer). b.items ≡ text) → IfOk made (λ (m : Making). IsUntold (told m.outcome) × (output ≡ Ok m.output) × (m.outcome.fault ≡ Fine))
+    → IfOk made (λ (m : Making). Makes job s (told m.outcome) m.output.items m.outcome.fault)
 unrun_so {E} job s text output (Ok m) so is made =
-    so (told m.outcome) m.output.items made.0 (subst (λ (r : Result Buffer E). IfOk r (λ (b : Buffer). b.items ≡ text)) made.1 is)
+    so (told m.outcome) m.output.items m.outcome.fault made.0 (subst (λ (r : Result Buffer E). IfOk r (λ (b : Buffer). b.items ≡ text)) made.1 is) made.2
 unrun_so job s text output (Err e) so is made = tt
 
 -- the jobs that log are all but four

@@ -11,7 +11,7 @@ use Rattle.defmt_recording.specs.Calls.{GaveWithin, IsUnread, IsUnwritten, TookM
 use Rattle.defmt_run.specs.Making.{Makes}
 use Rattle.defmt_run.specs.Told.{IsUntold, Told}
 use Rattle.defmt_recording.specs.declared.fault.Fault.{Fault}
-use Rattle.defmt_recording.specs.declared.fault.Fault.TheVariants.{Fine, Memory, Source, Sink, Script, Long}
+use Rattle.defmt_recording.specs.declared.fault.Fault.TheVariants.{Fine, Memory, Source, Sink, Script, Long, Level}
 use Rattle.defmt_words.specs.declared.job.ScriptJob.{ScriptJob}
 use Rattle.defmt_words.specs.declared.job.ScriptJob.TheVariants.{Generate, Steer}
 use Rattle.rtt_down.specs.Modes.{FirstMode}
@@ -108,20 +108,21 @@ ComesNot (Generate count) input fault = (fault ≡ Memory) × IsUnread input
 ComesNot Steer input fault = WithholdsBlocking input fault
 ComesNot job input fault = Withholds input fault
 
--- a script came, and the job made this of it
-pub record Made (job : ScriptJob) (input : Input) (told : Told) (output : List ℕ) : Type 0 where
+-- a script came, and the job made this of it, and comes to this fault once it is written
+pub record Made (job : ScriptJob) (input : Input) (told : Told) (output : List ℕ) (fault : Fault) : Type 0 where
   pub script : Read
   pub comes : Comes job input script
-  pub makes : Makes job script told output
+  pub makes : Makes job script told output fault
 
 -- ---- what stands at each fault
 
 -- Where all was done, or the sink failed, there is a script, this is told of its run, and what was made of it was written, or a
 -- front of that. At each other fault there is a cause, nothing was written, and nothing is told.
 abbrev pub Runs : ScriptJob → Input → Output → Fault → Told → Type 0
-Runs job input output Fine told = (text : List ℕ) × Made job input told text × Wrote output text
+Runs job input output Fine told = (text : List ℕ) × Made job input told text Fine × Wrote output text
+Runs job input output (Level level count) told = (text : List ℕ) × Made job input told text (Level level count) × Wrote output text
 Runs job input output Sink told =
-    (text : List ℕ) × Made job input told text × WroteFront output text × Rose output.faults output.faults_after
+    (text : List ℕ) × (due : Fault) × Made job input told text due × WroteFront output text × Rose output.faults output.faults_after
 Runs job input output fault told = ComesNot job input fault × IsUnwritten output × IsUntold told
 
 -- ---- what told inputs come to, where nothing fails and memory is there
@@ -154,11 +155,10 @@ SteeringComesTo text fault = ((script_limit < length text) × (fault ≡ Long)) 
 
 -- ---- for private clauses
 
--- what became of the output, where it was there
-abbrev pub Writes : Output → List ℕ → Fault → Type 0
-Writes output text Fine = Wrote output text
-Writes output text Sink = WroteFront output text × Rose output.faults output.faults_after
-Writes output text fault = ⊥
+-- what became of the output, where it was there and this fault is due
+abbrev pub Writes : Output → List ℕ → Fault → Fault → Type 0
+Writes output text due fault =
+    ((fault ≡ due) × Wrote output text) ⊎ ((fault ≡ Sink) × WroteFront output text × Rose output.faults output.faults_after)
 
 -- the text of a job's script
 abbrev pub TextComes : ScriptJob → Input → List ℕ → Type 0

@@ -8,7 +8,7 @@ use Rattle.defmt_recording.specs.Inputs.{AreAsTold, Inputs, OrFailing}
 use Rattle.defmt_run.specs.Running.{Runs, RunningComesTo, SteeringComesTo}
 use Rattle.defmt_run.specs.Told.{IsUntold, Told}
 use Rattle.defmt_recording.specs.declared.fault.Fault.{Fault}
-use Rattle.defmt_recording.specs.declared.fault.Fault.TheVariants.{Fine, Memory, Words}
+use Rattle.defmt_recording.specs.declared.fault.Fault.TheVariants.{Fine, Memory, Words, Level}
 use Rattle.defmt_words.specs.declared.job.Job.{Job}
 use Rattle.defmt_words.specs.declared.job.Job.TheVariants.{Script, Decode, Dump}
 use Rattle.defmt_words.specs.declared.job.ScriptJob.TheVariants.{Generate, Steer}
@@ -30,7 +30,7 @@ Answers (Some (Dump options)) input shelf output fault told =
 
 -- ---- what inputs come to, where nothing fails and memory is there
 
--- A row a job. Rules say what is printed, and change no fault.
+-- A row a job. Rules and a form say what is printed; of the faults only that of failing lines depends on rules.
 abbrev pub ComesTo : Job → Inputs → Fault → Type 0
 ComesTo (Script (Generate count)) inputs fault = fault ≡ Fine
 ComesTo (Script Steer) inputs fault = SteeringComesTo inputs.text fault
@@ -53,11 +53,13 @@ abbrev pub ReadsSource : Job → Type 0
 ReadsSource (Script (Generate count)) = ⊥
 ReadsSource job = Unit {0}
 
--- only the table of a recording or of an image is on the shelf
+-- only the table of a recording or of an image, and its places, are on the shelf
 abbrev pub AsksShelf : Job → Type 0
 AsksShelf (Script job) = ⊥
 AsksShelf job = Unit {0}
 
 -- This is so of the fault, or memory was wanting, or what the job uses of the outside failed and its count rose.
+-- Whether a run fails on a level depends on its lines; else all was done.
 abbrev pub OrFails : Job → Input → Files → Output → (Fault → Type 0) → Fault → Type 0
+OrFails (Script job) input shelf output Is (Level level count) = Is Fine
 OrFails job input shelf output Is fault = OrFailing (ReadsSource job) (AsksShelf job) input shelf output Is fault

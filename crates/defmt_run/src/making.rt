@@ -1,6 +1,7 @@
 //! What is made of a script, before it is written.
 ghost use Rattle.std.specs.Prelude.{◌≡◌, ◌≤◌, ◌^◌, IfOk, Ok};
 ghost use Rattle.elf_table.specs.Listed.{size_of};
+ghost use Rattle.defmt_recording.specs.declared.fault.Fault.TheVariants.{Fine};
 ghost use Rattle.defmt_run.specs.Making.{IsLogged, Makes};
 ghost use Rattle.defmt_run.specs.Told.{IsUntold, steered_of, told, told_of};
 ghost use Rattle.defmt_run.specs.declared.hearing.Heard.{Heard as HeardOf};
@@ -46,7 +47,8 @@ pub fn make<G: Gate + Sync, R: Threads + Wait + Sync>(
     gate: &G,
 ) -> Result<Making, Memory>
     requires { size_of script.table ≤ 2 ^ 26 }
-    ensures { IfOk result (λ made. Makes job.now script (told made.outcome) made.output.items) }
+    ensures { IfOk result (λ made. Makes job.now script (told made.outcome)
+        made.output.items made.outcome.fault) }
 {
     match job {
         ScriptJob::Terminals => making_by_speaking(rt, alloc, script, gate),
@@ -72,7 +74,7 @@ fn making_by_logging<G: Gate + Sync, R: Threads + Wait + Sync>(
     gate: &G,
 ) -> Result<Making, Memory>
     ensures { IsLogged job.now → IfOk result (λ made.
-        Makes job.now script (told made.outcome) made.output.items) }
+        Makes job.now script (told made.outcome) made.output.items made.outcome.fault) }
 {
     let run = log(rt, alloc, script, gate)?;
     let heard = hear_run(alloc, job, &run);
@@ -87,7 +89,7 @@ fn making_by_speaking<G: Gate + Sync, R: Threads + Wait + Sync>(
     gate: &G,
 ) -> Result<Making, Memory>
     ensures { IfOk result (λ made. Makes ScriptJob.Terminals script (told made.outcome)
-        made.output.items) }
+        made.output.items made.outcome.fault) }
 {
     let (run, talk) = speak(rt, alloc, script, gate)?;
     let heard = hear_spoken(alloc, &run, &talk);
@@ -108,7 +110,7 @@ fn making_by_steering<G: Gate + Sync, R: Threads + Wait + Sync>(
     gate: &G,
 ) -> Result<Making, Memory>
     ensures { IfOk result (λ made. Makes ScriptJob.Steer script (told made.outcome)
-        made.output.items) }
+        made.output.items made.outcome.fault) }
 {
     let run = steer(rt, alloc, script, gate)?;
     let heard = hear_steered(alloc, &run);
@@ -125,7 +127,8 @@ fn with_run(
 ) -> Result<Making, Memory>
     ensures { IfOk result (λ made. (h : HeardOf) × (heard ≡ Ok h)
         × (made.output.items ≡ h.output.items) × (told made.outcome
-        ≡ told_of run.tape run.settled h.events run.looks said term)) }
+        ≡ told_of run.tape run.settled h.events run.looks said term)
+        × (made.outcome.fault ≡ h.fault)) }
 {
     let Run {
         script,
@@ -136,8 +139,11 @@ fn with_run(
         looks,
     } = run;
     script.forget();
-    let Heard { events, output } = heard?;
-    let fault = Fault::Fine;
+    let Heard {
+        events,
+        output,
+        fault,
+    } = heard?;
     let outcome = Outcome {
         status: fault.status(),
         fault,
@@ -161,7 +167,8 @@ fn with_steered(
 ) -> Result<Making, Memory>
     ensures { IfOk result (λ made. (h : HeardOf) × (heard ≡ Ok h)
         × (made.output.items ≡ h.output.items) × (told made.outcome
-        ≡ steered_of run.turns run.settled h.events run.orders)) }
+        ≡ steered_of run.turns run.settled h.events run.orders)
+        × (made.outcome.fault ≡ h.fault)) }
 {
     let SteeredRun {
         script,
@@ -173,8 +180,11 @@ fn with_steered(
         unheard: _,
     } = run;
     script.forget();
-    let Heard { events, output } = heard?;
-    let fault = Fault::Fine;
+    let Heard {
+        events,
+        output,
+        fault,
+    } = heard?;
     let outcome = Outcome {
         status: fault.status(),
         fault,
@@ -197,7 +207,7 @@ fn without_run(
     output: Result<Bytes, Memory>,
 ) -> Result<Making, Memory>
     ensures { IfOk result (λ made. IsUntold (told made.outcome)
-        × (output ≡ Ok made.output)) }
+        × (output ≡ Ok made.output) × (made.outcome.fault ≡ Fine)) }
 {
     script.forget();
     Ok(Making {

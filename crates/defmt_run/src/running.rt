@@ -12,8 +12,7 @@ ghost use Rattle.rtt_down.specs.Modes.{FirstMode};
 
 use crate::making::{Making, make};
 use crate::outcome::Outcome;
-use defmt_generate::{generate, scripts_are_short};
-use defmt_generated::generated_reads;
+use defmt_generate::{generate, generated_reads, scripts_are_short};
 use defmt_recording::Fault;
 use defmt_script::{RingMode, Script, ScriptFault, one_reading, read, texts_are_few};
 use defmt_words::ScriptJob;
@@ -60,7 +59,7 @@ fn making_of<S: Source, G: Gate + Sync, R: Threads + Wait + Sync>(
     gate: &G,
 ) -> Result<Making, Fault>
     ensures made { IfOk result (λ made. Made job.now (input_of S.left S.faults src.old src.new)
-        (told made.outcome) made.output.items) }
+        (told made.outcome) made.output.items made.outcome.fault) }
     ensures comes_not { IfErr result (λ fault. ComesNot job.now
         (input_of S.left S.faults src.old src.new) fault) }
     ensures later { S.faults src.old ≤ S.faults src.new }
@@ -194,11 +193,11 @@ fn outcome_of_writing<K: Sink>(out: &mut K, making: Making) -> Outcome
     ensures status { result.status ≡ status_of result.fault }
     ensures same { told result ≡ told making.outcome }
     ensures written { Writes (output_of K.held K.faults out.old out.new) making.output.items
-        result.fault }
+        making.outcome.fault result.fault }
     ensures later { K.faults out.old ≤ K.faults out.new }
 {
     let Making { output, outcome } = making;
-    let fault = write(out, output.as_slice());
+    let fault = write(out, output.as_slice(), outcome.fault);
     Outcome {
         status: fault.status(),
         fault,
@@ -206,12 +205,13 @@ fn outcome_of_writing<K: Sink>(out: &mut K, making: Making) -> Outcome
     }
 }
 
-fn write<K: Sink>(out: &mut K, output: &[u8]) -> Fault
-    ensures written { Writes (output_of K.held K.faults out.old out.new) output.now result }
+// Writes the output, and answers this fault where all was written.
+fn write<K: Sink>(out: &mut K, output: &[u8], due: Fault) -> Fault
+    ensures written { Writes (output_of K.held K.faults out.old out.new) output.now due result }
     ensures later { K.faults out.old ≤ K.faults out.new }
 {
     match write_all(out, output) {
-        Ok(()) => Fault::Fine,
+        Ok(()) => due,
         Err(Failed) => Fault::Sink,
     }
 }

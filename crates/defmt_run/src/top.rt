@@ -36,11 +36,15 @@ use std::thread::Threads;
 /// end as an image of memory, and writes a line for each event of the bytes of an up-buffer in it, as
 /// `rtt_dump::dumped` gives them. `gen N` does as `run` with a script of N statements that a formula makes, and writes
 /// counts of its tape in place of lines. With `--only RULES` `run`, `decode` and `dump` write no line that the rules
-/// don't show, as `defmt_decode::shows` says; nothing else depends on rules, and what is told of a run has all events.
+/// don't show, as `defmt_decode::shows` says; with `--json` or `--color` they give the lines another form, and with `--fail-on LEVEL`
+/// they fail where a line of that level or a more severe one was written. `decode` and `dump` take `--places FILE`, which tells where in
+/// the sources each statement stands. With `--live`, for a device that runs, a recording of `decode` may be of `limit_of true` bytes,
+/// and what was cut at its front or its end is no fault. Nothing else depends on these, and what is told of a run has all events.
 ///
-/// `Fault` has the other answers. The order of these is words, shelf, length of the table's file, table, source, length of the
-/// input, script or image, sink; in `decode` the source, its length and the sink take turns. The gate is asked before each
-/// statement of a run is logged, and told of what the reader took. The call may wait for the threads of a run and for the gate.
+/// `Fault` has the other answers. The order of these is words, shelf, length of the table's file, table, the same of the places,
+/// source, length of the input, script or image, sink, faults or failing lines; in `decode` the source, its length and the sink take
+/// turns. A run asks the gate before each statement and tells it of each take that took something; no clause of this call says so.
+/// The call may wait for the threads of a run and for the gate.
 pub fn session<S: Source, F: Shelf, K: Sink, G: Gate + Sync, R: Threads + Wait + Sync>(
     rt: &R,
     alloc: Global,

@@ -1,6 +1,6 @@
-use Rattle.std.proofs.Common.{◌++◌, ◌∙◌, List, ℕ, ap}
+use Rattle.std.proofs.Common.{◌++◌, ◌∙◌, List, ℕ, ap, refl}
 use Rattle.std.specs.Prelude.{Some}
-use Rattle.defmt_print.proofs.Marks.{are_placed}
+use Rattle.defmt_print.proofs.Marks.{are_placed, few_marks}
 use Rattle.defmt_print.specs.RunLines.{run_lines}
 use Rattle.defmt_print.specs.Terminals.{screen_lines}
 use Rattle.defmt_run.proofs.RunMade.{heard, spoke}
@@ -9,7 +9,10 @@ use Rattle.rtt_booth.specs.Said.{screens_by}
 use Rattle.defmt_run.proofs.hearing.hear_spoken.Goals as goal
 
 pub run_lines-requires : goal.run_lines-requires
-run_lines-requires c = are_placed c.args.run.now.script c.args.run.now.tape.marks c.requires.run.0.lawful
+run_lines-requires c = record {
+  placed = are_placed c.args.run.now.script c.args.run.now.tape.marks c.requires.run.0.lawful;
+  few = few_marks c.args.run.now.script c.args.run.now.tape.marks c.lawful.ensures c.requires.run.0.lawful;
+}
 
 pub returns : goal.returns
 returns c =
@@ -27,4 +30,5 @@ returns c =
       c.in_ok-output.ensures ∙ ap (λ (l : List ℕ). l ++ screen_lines (screens_by run.script.said talk.said.words)) (
           c.in_ok-lines.ensures ∙ ap (λ (options : RunOptions). run_lines options run.script run.tape.marks c.in_ok-events.events) c.none-options.ensures
           ),
+      refl,
     )

@@ -1,4 +1,4 @@
-use Rattle.std.proofs.Common.{◌≡◌, ◌++◌, ◌∙◌, List, ℕ, ap, sym}
+use Rattle.std.proofs.Common.{◌≡◌, ◌++◌, ◌∙◌, List, ℕ, ap, refl, sym}
 use Rattle.defmt_decode.specs.Event.{events_of}
 use Rattle.defmt_print.specs.Heard.{catalog_of}
 use Rattle.defmt_run.proofs.SteeredMade.{ran_steered}
@@ -17,4 +17,5 @@ returns c =
           (c.sent_lines.ensures.turns run.turns.turns run.orders.got c.requires.0.steered)
           (c.sent_lines.ensures.muted run.turns.turns run.orders.got c.requires.0.steered),
       c.in_ok-output.ensures,
+      refl,
     )

@@ -1,4 +1,4 @@
-use Rattle.std.proofs.Common.{◌++◌, ◌∙◌, List, ℕ, ap, sym}
+use Rattle.std.proofs.Common.{◌++◌, ◌∙◌, List, ℕ, ap, refl, sym}
 use Rattle.defmt_run.proofs.RunMade.{unheard}
 use Rattle.defmt_run.proofs.hearing.stream_of_run.Goals as goal
 
@@ -9,4 +9,5 @@ returns c = λ said silent.
           c.new.result said c.new.ensures silent,
       c.in_ok-output.ensures ∙ ap (λ (l : List ℕ). l ++ c.as_slice-2.result.now) c.as_slice.ensures ∙ ap (λ (l : List ℕ). run.captured.items ++ l) c.as_slice-2.ensures
           ∙ sym c.requires.0.whole ∙ c.requires.0.sends,
+      refl,
     )

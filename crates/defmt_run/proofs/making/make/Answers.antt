@@ -24,14 +24,14 @@ returns-in-Table g c =
     let same : written table.profile (symbols_in table.entries) ≡ text =
     ap (λ (entries : Map). written table.profile (symbols_in entries)) c.table.ensures.entries ∙ ap (λ (profile : Profile). written profile (symbols_in s.table)) c.table.ensures.profile in
     make_so c.args.job.now Table s c.without_run.result c.in-Table.is (
-    unrun_so Table s text c.write_table-file.result c.without_run.result (λ t items untold is. (untold, is))
+    unrun_so Table s text c.write_table-file.result c.without_run.result (λ t items due untold is fine. (untold, is, fine))
     (IfOk-weaker c.write_table-file.result (λ (b : Buffer). b.items ≡ written table.profile (symbols_in table.entries)) (λ (b : Buffer). b.items ≡ text) (λ b is. is ∙ same) c.write_table-file.ensures.bytes)
     c.without_run.ensures)
 
 pub returns-in-Print : goal.returns-in-Print
 returns-in-Print g c =
     make_so c.args.job.now Print c.args.script c.without_run-in-Print.result c.in-Print.is (
-    unrun_so Print c.args.script (statement_lines c.args.script) c.statement_lines-lines.result c.without_run-in-Print.result (λ t items untold is. (untold, is))
+    unrun_so Print c.args.script (statement_lines c.args.script) c.statement_lines-lines.result c.without_run-in-Print.result (λ t items due untold is fine. (untold, is, fine))
     c.statement_lines-lines.ensures c.without_run-in-Print.ensures)
 
 pub returns-in_default : goal.returns-in_default

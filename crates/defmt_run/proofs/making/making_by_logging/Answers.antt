@@ -11,6 +11,6 @@ returns g c = λ logged.
     let run = c.in_ok-run.run' in
     makes_so c.args.job.now run.script c.args.script (λ (h : Heard). told_of run.tape run.settled h.events run.looks c.new.result None)
     c.hear_run-heard.result c.with_run.result c.in_ok-run.ensures.script
-    (IfOk-weaker c.hear_run-heard.result (λ (h : Heard). MakesAlone c.args.job.now run h.events h.output.items)
-    (λ (h : Heard). Makes c.args.job.now run.script (told_of run.tape run.settled h.events run.looks c.new.result None) h.output.items)
+    (IfOk-weaker c.hear_run-heard.result (λ (h : Heard). MakesAlone c.args.job.now run h.events h.output.items h.fault)
+    (λ (h : Heard). Makes c.args.job.now run.script (told_of run.tape run.settled h.events run.looks c.new.result None) h.output.items h.fault)
     (λ h makes. makes c.new.result (c.new.ensures.words, c.new.ensures.no_end)) (c.hear_run-heard.ensures logged)) c.with_run.ensures

@@ -12,8 +12,8 @@ pub returns-in-Ok-clause-runs : goal.returns-in-Ok-clause-runs
 returns-in-Ok-clause-runs g c =
     let input : Input = input_of g.S.Source.left g.S.Source.faults c.args.src.now c.making_of.new.src in
     let output : Output = output_of g.K.Sink.held g.K.Sink.faults c.args.out.now c.outcome_of_writing.new.out in
-    ran c.args.job.now input output c.outcome_of_writing.result.fault (told c.outcome_of_writing.result) c.in-Ok.making.output.items
-    (subst (λ (t : Told). Made c.args.job.now input t c.in-Ok.making.output.items) (sym c.outcome_of_writing.ensures.same) c.in-Ok.ensures.made)
+    ran c.args.job.now input output c.in-Ok.making.outcome.fault c.outcome_of_writing.result.fault (told c.outcome_of_writing.result) c.in-Ok.making.output.items
+    (subst (λ (t : Told). Made c.args.job.now input t c.in-Ok.making.output.items c.in-Ok.making.outcome.fault) (sym c.outcome_of_writing.ensures.same) c.in-Ok.ensures.made)
     c.outcome_of_writing.ensures.written
 
 pub returns-in-Err-clause-runs : goal.returns-in-Err-clause-runs
