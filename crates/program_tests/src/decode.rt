@@ -116,7 +116,17 @@ defmtl decode --table other.elf
 =
 status 7 shelf";
 
-// Puts the tables of `HI` and `HI_AT` on the shelf, and a file that is no table.
+// The places of the string, and a text that tells it twice.
+const PLACES: &str = "# places\n\n1 src/main.rs:12\r\n";
+
+const TWICE: &str = "1 a\n1 b";
+
+fn put_file(alloc: Global, name: &str, text: &str, shelf: &mut MemShelf) -> Result<(), Fail> {
+    let file = Bytes::from_slice(alloc, text.as_bytes())?;
+    Ok(shelf.put(name, file)?)
+}
+
+// Puts the tables of `HI` and `HI_AT` on the shelf, places, and files that are no table and no places.
 pub(crate) fn add_files<R: Threads + Wait + Sync>(
     rt: &R,
     alloc: Global,
@@ -124,8 +134,9 @@ pub(crate) fn add_files<R: Threads + Wait + Sync>(
 ) -> Result<(), Fail> {
     add_table(rt, alloc, "hi.elf", HI, shelf)?;
     add_table(rt, alloc, "hi-at.elf", HI_AT, shelf)?;
-    let file = Bytes::from_slice(alloc, "hello".as_bytes())?;
-    Ok(shelf.put("no.elf", file)?)
+    put_file(alloc, "hi.places", PLACES, shelf)?;
+    put_file(alloc, "no.places", TWICE, shelf)?;
+    put_file(alloc, "no.elf", "hello", shelf)
 }
 
 // Puts what is told of a session whose source gives these bytes, with the files on the shelf.

@@ -11,6 +11,8 @@ mod device;
 #[cfg(test)]
 mod dump;
 #[cfg(test)]
+mod forms;
+#[cfg(test)]
 mod gates;
 #[cfg(test)]
 mod limits;

@@ -95,7 +95,12 @@ fn put_orders(outcome: &Outcome, out: &mut String) {
 
 fn put_event(event: &Event, out: &mut String) {
     match event {
-        Event::Line { index, place, text } => {
+        Event::Line {
+            index,
+            place,
+            text,
+            ..
+        } => {
             put(out, "\nevent ");
             put_number(out, u64::from(*index));
             put(out, " ");

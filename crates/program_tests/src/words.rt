@@ -1,6 +1,7 @@
 //! What words ask for. A row is the words, which single spaces part, and the job.
 use crate::rows::{Kind, each_line};
-use defmt_words::{DecodeOptions, DumpOptions, Job, RunOptions, ScriptJob, job_of};
+use defmt_grammar::Text;
+use defmt_words::{DecodeOptions, DumpOptions, Form, Job, RunOptions, ScriptJob, Style, job_of};
 use std::alloc::Global;
 use std::test::Fail;
 use test_rows::{put, put_hexadecimal, put_number, words_of};
@@ -24,7 +25,15 @@ defmtl dump --table t.elf --base 0xffffffff = what waits in 0 from ffffffff by t
 defmtl run --only warn = run by rules
 defmtl run --only=off,script=info --group = run in groups by rules
 defmtl decode --only off --table t.elf = decode by t.elf by rules
-defmtl dump --table t.elf --only trace = what waits in 0 from 20000000 by t.elf by rules";
+defmtl dump --table t.elf --only trace = what waits in 0 from 20000000 by t.elf by rules
+defmtl run --json = run in JSON
+defmtl run --color --group = run in groups in colors
+defmtl run --fail-on trace = run failing on trace
+defmtl run --fail-on=error --only off --json = run by rules in JSON failing on error
+defmtl decode --live --table t.elf = decode live by t.elf
+defmtl decode --table t.elf --places p = decode by t.elf with places of p
+defmtl --places=p decode --only off --table=t.elf = decode by t.elf with places of p by rules
+defmtl dump --places p --json --table t.elf --fail-on warn = what waits in 0 from 20000000 by t.elf with places of p in JSON failing on warn";
 
 const NO_JOBS: &str = "\
 defmtl frob = nothing
@@ -64,11 +73,38 @@ defmtl run --only = nothing
 defmtl run --only warn --only warn = nothing
 defmtl print --only warn = nothing
 defmtl record --only warn = nothing
-defmtl gen 4 --only warn = nothing";
+defmtl gen 4 --only warn = nothing
+defmtl run --json --color = nothing
+defmtl run --json --json = nothing
+defmtl run --json=1 = nothing
+defmtl print --json = nothing
+defmtl term --color = nothing
+defmtl steer --json = nothing
+defmtl table --json = nothing
+defmtl run --fail-on off = nothing
+defmtl run --fail-on Info = nothing
+defmtl run --fail-on= = nothing
+defmtl run --fail-on --json = nothing
+defmtl record --fail-on warn = nothing
+defmtl run --places p = nothing
+defmtl decode --table t.elf --places = nothing
+defmtl decode --table t.elf --places p --places p = nothing
+defmtl run --live = nothing
+defmtl dump --table t.elf --live = nothing
+defmtl decode --table t.elf --live=1 = nothing";
 
-fn put_rules(by_rules: bool, out: &mut String) {
-    if by_rules {
+fn put_style(style: &Style, out: &mut String) {
+    if style.only.is_some() {
         put(out, " by rules");
+    }
+    match style.form {
+        Form::Plain => {}
+        Form::Color => put(out, " in colors"),
+        Form::Json => put(out, " in JSON"),
+    }
+    if let Some(level) = style.fail_on {
+        put(out, " failing on ");
+        put(out, level.word());
     }
 }
 
@@ -81,7 +117,7 @@ fn put_run(options: &RunOptions, out: &mut String) {
             "run"
         },
     );
-    put_rules(options.only.is_some(), out);
+    put_style(&options.style, out);
 }
 
 fn put_script_job(job: &ScriptJob, out: &mut String) {
@@ -102,10 +138,26 @@ fn put_script_job(job: &ScriptJob, out: &mut String) {
     }
 }
 
+fn put_files(table: &str, places: &Option<Text>, out: &mut String) {
+    put(out, " by ");
+    put(out, table);
+    if let Some(places) = places {
+        put(out, " with places of ");
+        put(out, places.as_str());
+    }
+}
+
 fn put_decode(options: &DecodeOptions, out: &mut String) {
-    put(out, "decode by ");
-    put(out, options.table.as_str());
-    put_rules(options.only.is_some(), out);
+    put(
+        out,
+        if options.live {
+            "decode live"
+        } else {
+            "decode"
+        },
+    );
+    put_files(options.table.as_str(), &options.places, out);
+    put_style(&options.style, out);
 }
 
 fn put_dump(options: &DumpOptions, out: &mut String) {
@@ -119,9 +171,8 @@ fn put_dump(options: &DumpOptions, out: &mut String) {
     put_number(out, u64::from(options.up));
     put(out, " from ");
     put_hexadecimal(out, u64::from(options.base));
-    put(out, " by ");
-    put(out, options.table.as_str());
-    put_rules(options.only.is_some(), out);
+    put_files(options.table.as_str(), &options.places, out);
+    put_style(&options.style, out);
 }
 
 fn put_job(job: &Option<Job>, out: &mut String) {
@@ -148,6 +199,6 @@ pub(crate) fn put_words(alloc: Global, row: &str, out: &mut String) -> Result<()
 
 #[test]
 fn words_ask_for_their_job_and_others_for_nothing(rt: HostRuntime) -> Result<(), Fail> {
-    each_line(&rt, rt.alloc(), JOBS, 19, &Kind::Job)?;
-    each_line(&rt, rt.alloc(), NO_JOBS, 38, &Kind::Job)
+    each_line(&rt, rt.alloc(), JOBS, 27, &Kind::Job)?;
+    each_line(&rt, rt.alloc(), NO_JOBS, 56, &Kind::Job)
 }
