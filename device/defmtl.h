@@ -98,6 +98,9 @@ struct defmtl_slice {
     const void *from;
     uint32_t count;
 };
+struct defmtl_wide {
+    uint64_t low, high;
+};
 struct defmtl_value {
     const struct defmtl_type *type;
     const void *from;
@@ -119,6 +122,10 @@ void defmtl_variant(struct defmtl_frame *f, uint32_t variant, uint32_t variants)
 static inline struct defmtl_slice defmtl_make_slice(const void *from, uint32_t n) {
     struct defmtl_slice slice = {from, n};
     return slice;
+}
+static inline struct defmtl_wide defmtl_make_wide(uint64_t high, uint64_t low) {
+    struct defmtl_wide wide = {low, high};
+    return wide;
 }
 static inline struct defmtl_value defmtl_make_value(const struct defmtl_type *type, const void *from) {
     struct defmtl_value value = {type, from};

@@ -7,6 +7,8 @@
 
 /* Bytes at a place, for {=[u8]}. */
 #define SLICE(from, n) defmtl_make_slice((from), (uint32_t)(n))
+/* A number of 128 bits by its two halves, for {=u128} and {=i128}. */
+#define WIDE(high, low) defmtl_make_wide((uint64_t)(high), (uint64_t)(low))
 /* A value whose type was declared with DEFMTL_FORMAT, DEFMTL_ENUM or DEFMTL_UNION under this name, for {=?}. */
 #define FMT(name, from) defmtl_make_value(&name##_defmtl, (name##_defmtl_self *)(from))
 /* n such values that stand one behind the other, for {=[?]} and {=[?; N]}. */
@@ -47,50 +49,50 @@
 
 /* ---- statements */
 #if DEFMTL_UP == 0
-#define DEFMTL_CALL(...) defmtl_log(__VA_ARGS__)
+#define DEFMTL_CALL defmtl_log(
 #else
-#define DEFMTL_CALL(...) defmtl_log_up(DEFMTL_UP, __VA_ARGS__)
+#define DEFMTL_CALL defmtl_log_up(DEFMTL_UP,
 #endif
 #define DEFMTL_LOG(n, tag, part, k, ...) DEFMTL_LOG_(n, tag, part, k, __VA_ARGS__)
 #define DEFMTL_LOG_(n, tag, part, k, ...) DEFMTL_LOG_##k(n, tag, part, __VA_ARGS__)
-#define DEFMTL_DO(k, n, tag, part, t, list, ...)                                                                       \
+#define DEFMTL_DO(k, n, tag, part, t, list, passed)                                                                    \
     do {                                                                                                               \
         DEFMTL_ENTRY(n, tag, part, t)                                                                                  \
         DEFMTL_READ(t, k)                                                                                              \
         DEFMTL_ALL_##k list                                                                                            \
-        DEFMTL_CALL(DEFMTL_INDEX_OF(n), DEFMTL_OPS_##k __VA_ARGS__);                                                   \
+        DEFMTL_CALL DEFMTL_INDEX_OF(n), DEFMTL_OPS_##k DEFMTL_ALL_##k passed);                                         \
         DEFMTL_ENDS_##k                                                                                                \
     } while (0)
 /* What is muted is checked and calls nothing; its arguments aren't evaluated. */
 #define DEFMTL_MUTE(k, ...) DEFMTL_MUTE_(k, __VA_ARGS__)
 #define DEFMTL_MUTE_(k, ...) DEFMTL_MUTE_##k(__VA_ARGS__)
-#define DEFMTL_UNDO(k, t, list, ...)                                                                                   \
+#define DEFMTL_UNDO(k, t, list, passed)                                                                                \
     do {                                                                                                               \
         if (0) {                                                                                                       \
             DEFMTL_READ(t, k)                                                                                          \
             DEFMTL_ALL_##k list                                                                                        \
-            DEFMTL_CALL((const char *)0, DEFMTL_OPS_##k __VA_ARGS__);                                                  \
+            DEFMTL_CALL (const char *)0, DEFMTL_OPS_##k DEFMTL_ALL_##k passed);                                        \
             DEFMTL_ENDS_##k                                                                                            \
         }                                                                                                              \
     } while (0)
-#define DEFMTL_LOG_0(n, tag, part, t) DEFMTL_DO(0, n, tag, part, t, (DEFMTL_CHECK), )
-#define DEFMTL_MUTE_0(t) DEFMTL_UNDO(0, t, (DEFMTL_CHECK), )
-#define DEFMTL_LOG_1(n, tag, part, t, ...) DEFMTL_DO(1, n, tag, part, t, (DEFMTL_CHECK, __VA_ARGS__), DEFMTL_ALL_1(DEFMTL_A, __VA_ARGS__))
-#define DEFMTL_MUTE_1(t, ...) DEFMTL_UNDO(1, t, (DEFMTL_CHECK, __VA_ARGS__), DEFMTL_ALL_1(DEFMTL_A, __VA_ARGS__))
-#define DEFMTL_LOG_2(n, tag, part, t, ...) DEFMTL_DO(2, n, tag, part, t, (DEFMTL_CHECK, __VA_ARGS__), DEFMTL_ALL_2(DEFMTL_A, __VA_ARGS__))
-#define DEFMTL_MUTE_2(t, ...) DEFMTL_UNDO(2, t, (DEFMTL_CHECK, __VA_ARGS__), DEFMTL_ALL_2(DEFMTL_A, __VA_ARGS__))
-#define DEFMTL_LOG_3(n, tag, part, t, ...) DEFMTL_DO(3, n, tag, part, t, (DEFMTL_CHECK, __VA_ARGS__), DEFMTL_ALL_3(DEFMTL_A, __VA_ARGS__))
-#define DEFMTL_MUTE_3(t, ...) DEFMTL_UNDO(3, t, (DEFMTL_CHECK, __VA_ARGS__), DEFMTL_ALL_3(DEFMTL_A, __VA_ARGS__))
-#define DEFMTL_LOG_4(n, tag, part, t, ...) DEFMTL_DO(4, n, tag, part, t, (DEFMTL_CHECK, __VA_ARGS__), DEFMTL_ALL_4(DEFMTL_A, __VA_ARGS__))
-#define DEFMTL_MUTE_4(t, ...) DEFMTL_UNDO(4, t, (DEFMTL_CHECK, __VA_ARGS__), DEFMTL_ALL_4(DEFMTL_A, __VA_ARGS__))
-#define DEFMTL_LOG_5(n, tag, part, t, ...) DEFMTL_DO(5, n, tag, part, t, (DEFMTL_CHECK, __VA_ARGS__), DEFMTL_ALL_5(DEFMTL_A, __VA_ARGS__))
-#define DEFMTL_MUTE_5(t, ...) DEFMTL_UNDO(5, t, (DEFMTL_CHECK, __VA_ARGS__), DEFMTL_ALL_5(DEFMTL_A, __VA_ARGS__))
-#define DEFMTL_LOG_6(n, tag, part, t, ...) DEFMTL_DO(6, n, tag, part, t, (DEFMTL_CHECK, __VA_ARGS__), DEFMTL_ALL_6(DEFMTL_A, __VA_ARGS__))
-#define DEFMTL_MUTE_6(t, ...) DEFMTL_UNDO(6, t, (DEFMTL_CHECK, __VA_ARGS__), DEFMTL_ALL_6(DEFMTL_A, __VA_ARGS__))
-#define DEFMTL_LOG_7(n, tag, part, t, ...) DEFMTL_DO(7, n, tag, part, t, (DEFMTL_CHECK, __VA_ARGS__), DEFMTL_ALL_7(DEFMTL_A, __VA_ARGS__))
-#define DEFMTL_MUTE_7(t, ...) DEFMTL_UNDO(7, t, (DEFMTL_CHECK, __VA_ARGS__), DEFMTL_ALL_7(DEFMTL_A, __VA_ARGS__))
-#define DEFMTL_LOG_8(n, tag, part, t, ...) DEFMTL_DO(8, n, tag, part, t, (DEFMTL_CHECK, __VA_ARGS__), DEFMTL_ALL_8(DEFMTL_A, __VA_ARGS__))
-#define DEFMTL_MUTE_8(t, ...) DEFMTL_UNDO(8, t, (DEFMTL_CHECK, __VA_ARGS__), DEFMTL_ALL_8(DEFMTL_A, __VA_ARGS__))
+#define DEFMTL_LOG_0(n, tag, part, t) DEFMTL_DO(0, n, tag, part, t, (DEFMTL_CHECK), (DEFMTL_A))
+#define DEFMTL_MUTE_0(t) DEFMTL_UNDO(0, t, (DEFMTL_CHECK), (DEFMTL_A))
+#define DEFMTL_LOG_1(n, tag, part, t, ...) DEFMTL_DO(1, n, tag, part, t, (DEFMTL_CHECK, __VA_ARGS__), (DEFMTL_A, __VA_ARGS__))
+#define DEFMTL_MUTE_1(t, ...) DEFMTL_UNDO(1, t, (DEFMTL_CHECK, __VA_ARGS__), (DEFMTL_A, __VA_ARGS__))
+#define DEFMTL_LOG_2(n, tag, part, t, ...) DEFMTL_DO(2, n, tag, part, t, (DEFMTL_CHECK, __VA_ARGS__), (DEFMTL_A, __VA_ARGS__))
+#define DEFMTL_MUTE_2(t, ...) DEFMTL_UNDO(2, t, (DEFMTL_CHECK, __VA_ARGS__), (DEFMTL_A, __VA_ARGS__))
+#define DEFMTL_LOG_3(n, tag, part, t, ...) DEFMTL_DO(3, n, tag, part, t, (DEFMTL_CHECK, __VA_ARGS__), (DEFMTL_A, __VA_ARGS__))
+#define DEFMTL_MUTE_3(t, ...) DEFMTL_UNDO(3, t, (DEFMTL_CHECK, __VA_ARGS__), (DEFMTL_A, __VA_ARGS__))
+#define DEFMTL_LOG_4(n, tag, part, t, ...) DEFMTL_DO(4, n, tag, part, t, (DEFMTL_CHECK, __VA_ARGS__), (DEFMTL_A, __VA_ARGS__))
+#define DEFMTL_MUTE_4(t, ...) DEFMTL_UNDO(4, t, (DEFMTL_CHECK, __VA_ARGS__), (DEFMTL_A, __VA_ARGS__))
+#define DEFMTL_LOG_5(n, tag, part, t, ...) DEFMTL_DO(5, n, tag, part, t, (DEFMTL_CHECK, __VA_ARGS__), (DEFMTL_A, __VA_ARGS__))
+#define DEFMTL_MUTE_5(t, ...) DEFMTL_UNDO(5, t, (DEFMTL_CHECK, __VA_ARGS__), (DEFMTL_A, __VA_ARGS__))
+#define DEFMTL_LOG_6(n, tag, part, t, ...) DEFMTL_DO(6, n, tag, part, t, (DEFMTL_CHECK, __VA_ARGS__), (DEFMTL_A, __VA_ARGS__))
+#define DEFMTL_MUTE_6(t, ...) DEFMTL_UNDO(6, t, (DEFMTL_CHECK, __VA_ARGS__), (DEFMTL_A, __VA_ARGS__))
+#define DEFMTL_LOG_7(n, tag, part, t, ...) DEFMTL_DO(7, n, tag, part, t, (DEFMTL_CHECK, __VA_ARGS__), (DEFMTL_A, __VA_ARGS__))
+#define DEFMTL_MUTE_7(t, ...) DEFMTL_UNDO(7, t, (DEFMTL_CHECK, __VA_ARGS__), (DEFMTL_A, __VA_ARGS__))
+#define DEFMTL_LOG_8(n, tag, part, t, ...) DEFMTL_DO(8, n, tag, part, t, (DEFMTL_CHECK, __VA_ARGS__), (DEFMTL_A, __VA_ARGS__))
+#define DEFMTL_MUTE_8(t, ...) DEFMTL_UNDO(8, t, (DEFMTL_CHECK, __VA_ARGS__), (DEFMTL_A, __VA_ARGS__))
 #define DEFMTL_LOG_MANY(...) DEFMTL_ASSERT(0, DEFMTL_TOLD_MANY)
 #define DEFMTL_MUTE_MANY(...) DEFMTL_ASSERT(0, DEFMTL_TOLD_MANY)
 

@@ -9,6 +9,9 @@
 
 #ifdef __clang__
 #define DEFMTL_AT(t, p) t[p]
+/* a byte of a step stands between these: a macro with parameters would take longer to compile */
+#define DEFMTL_BYTE
+#define DEFMTL_END
 /* the place of the next byte c, which is also the string s, or the end; size is the text's with its zero */
 #define DEFMTL_NEXT(t, size, c, s, p) (int)(size - __builtin_strlen(__builtin_strchr(&t s[p], c)))
 #define DEFMTL_FIND_BRACES(t, to, p)                                                                                   \
@@ -18,7 +21,6 @@
 #define DEFMTL_PAIRS(t, p) (t[p] && t[p] == t[p + 1] && t[p] != '|') * 2
 #define DEFMTL_OPENS(t, p) (t[p] == '{' && t[p + 1] != '{')
 #define DEFMTL_DIGITS(t, p) (t[p] - 48u < 10 ? t[p + 1] - 48u < 10 ? t[p + 2] - 48u < 10 ? 3 : 2 : 1 : 0)
-#define DEFMTL_RADIX(t, p) (t[p] == 'x' || t[p] == 'X' || t[p] == 'b' || t[p] == 'o')
 #define DEFMTL_FIND_QUOTE(s, to, p)                                                                                    \
     to##_1 = DEFMTL_NEXT(s, defmtl_size, '"', "\"", p), to##_2 = DEFMTL_NEXT(s, defmtl_size, '\\', "\\", p), to = to##_1 < to##_2 ? to##_1 : to##_2,
 #define DEFMTL_ESCAPED(s, p) (s[p] && __builtin_strchr("\"\\nrtbfu", s[p]))
@@ -26,28 +28,29 @@
 #define DEFMTL_LIKE(t, p, word, n) __builtin_strncmp(&t[p], word, n)
 #else
 #define DEFMTL_AT(t, p) __builtin_strncmp(&t[p], "", 1)
+#define DEFMTL_BYTE __builtin_strncmp(&
+#define DEFMTL_END , "", 1)
 #define DEFMTL_NEXT(t, size, c, s, p) p + (int)__builtin_strcspn(&t[p], s)
 #define DEFMTL_FIND_BRACES(t, to, p) to = p + (int)__builtin_strcspn(&t[p], "{}"),
 #define DEFMTL_FIND_BARS(t, to, p) to = p + (int)__builtin_strcspn(&t[p], "{}|"),
 #define DEFMTL_PAIRS(t, p) ((int)__builtin_strspn(&t[p], "{") & -2) + ((int)__builtin_strspn(&t[p], "}") & -2)
 #define DEFMTL_OPENS(t, p) __builtin_strspn(&t[p], "{") == 1
 #define DEFMTL_DIGITS(t, p) (int)__builtin_strspn(&t[p], "0123456789")
-#define DEFMTL_RADIX(t, p) __builtin_strspn(&t[p], "xXbo") == 1
 #define DEFMTL_FIND_QUOTE(s, to, p) to = p + (int)__builtin_strcspn(&s[p], "\"\\"),
 #define DEFMTL_ESCAPED(s, p) __builtin_strspn(&s[p], "\"\\nrtbfu")
 #define DEFMTL_WITHOUT(s, c) __builtin_strcspn(s, c) == sizeof(s) - 1
 #define DEFMTL_LIKE(t, p, word, n) __builtin_strncmp(&t[p], word, n)
 #endif
 
-/* Words of kinds in their alphabetical order, six bytes each, by the numbers of DEFMTL_K_..; 9 and 15 are isize and usize. */
+/* Words of kinds, six bytes each, by the numbers of DEFMTL_K_..; 9 and 15 are isize and usize. */
 #define DEFMTL_WORDS \
-    "      bool  char  f32   f64   i16   i32   i64   i8    isize str   u16   u32   u64   u8    usize istr  ?     "
+    "      bool  char  f32   f64   i16   i32   i64   i8    isize str   u16   u32   u64   u8    usize istr  ?                                         u128        i128"
 
 /* ---- the reader. From the place q of the step before:
- * p the next brace that isn't doubled, v whether it opens a parameter; s its position and n that one's digits, o the position, i the
- * next one of those without; f behind it, x whether a kind stands there, w its place; d digits of bits, l whether a list, u the word, m
+ * p the next brace that isn't doubled, v whether it opens a parameter; s its position and n whether one stands there, o the position, i
+ * the next one of those without; f behind it, x whether a kind stands there, w its place; d whether bits, l whether a list, u the word, m
  * the number that its first two bytes tell and len its length, k whether it is one, c behind it; h whether [..; N], y and r the digits of N, A their value; B the
- * second number of bits; e behind the kind; H whether a hint stands there, ha its place, z the closing brace and Z whether it is one,
+ * second number of bits; e behind the kind; H whether a hint stands there, ha its place, z the closing brace and Z whether it is one, hd the radix,
  * G whether the hint is good; g the kind.
  * Over all steps: kinds, five bits a position; numbers and masks of bytes, eight bits a position; used, a bit a position; bad. */
 #define DEFMTL_PLACE(t, set)                                                                                           \
@@ -57,39 +60,39 @@
 #define DEFMTL_STEP(t, set)                                                                                            \
     {                                                                                                                  \
         __extension__ enum {                                                                                                         \
-            DEFMTL_PLACE(t, set), defmtl_s = defmtl_p + defmtl_v, defmtl_n = DEFMTL_DIGITS(t, defmtl_s),               \
-            defmtl_o = !defmtl_n ? defmtl_i : defmtl_n == 1 ? DEFMTL_AT(t, defmtl_s) - '0' : 9,                        \
+            DEFMTL_PLACE(t, set), defmtl_s = defmtl_p + defmtl_v, defmtl_n = DEFMTL_BYTE t[defmtl_s] DEFMTL_END - 48u < 10,               \
+            defmtl_o = defmtl_n ? DEFMTL_BYTE t[defmtl_s] DEFMTL_END - '0' : defmtl_i,                        \
             defmtl_i = defmtl_i + (defmtl_v && !defmtl_n), defmtl_f = defmtl_s + defmtl_n,                             \
-            defmtl_x = DEFMTL_AT(t, defmtl_f) == '=', defmtl_w = defmtl_f + defmtl_x, defmtl_d = DEFMTL_DIGITS(t, defmtl_w), \
-            defmtl_l = DEFMTL_AT(t, defmtl_w) == '[', defmtl_u = defmtl_w + defmtl_l,                                  \
-            defmtl_c0 = DEFMTL_AT(t, defmtl_u), defmtl_c1 = defmtl_c0 ? DEFMTL_AT(t, defmtl_u + 1) : 0,                \
+            defmtl_x = DEFMTL_BYTE t[defmtl_f] DEFMTL_END == '=', defmtl_w = defmtl_f + defmtl_x, \
+            defmtl_l = DEFMTL_BYTE t[defmtl_w] DEFMTL_END == '[', defmtl_u = defmtl_w + defmtl_l,                                  \
+            defmtl_c0 = DEFMTL_BYTE t[defmtl_u] DEFMTL_END, defmtl_c1 = defmtl_c0 ? DEFMTL_BYTE t[defmtl_u + 1] DEFMTL_END : 0, defmtl_c2 = defmtl_c1 ? DEFMTL_BYTE t[defmtl_u + 2] DEFMTL_END : 0, defmtl_d = !defmtl_l && defmtl_c0 - 48u < 10, \
             defmtl_width = defmtl_c1 == '8' ? 0 : defmtl_c1 == '1' ? 1 : defmtl_c1 == '3' ? 2 : defmtl_c1 == '6' ? 3 : defmtl_c1 == 's' ? 4 : 5, \
-            defmtl_m = defmtl_c0 == 'u' ? 0x0fdcbe >> 4 * defmtl_width & 15                                            \
-                : defmtl_c0 == 'i' ? (defmtl_width == 4 && DEFMTL_AT(t, defmtl_u + 2) == 't' ? 16 : 0x097658 >> 4 * defmtl_width & 15) \
+            defmtl_m = defmtl_c0 == 'u' ? (defmtl_width == 1 && defmtl_c2 == '2' ? DEFMTL_K_U128 : 0x0fdcbe >> 4 * defmtl_width & 15) \
+                : defmtl_c0 == 'i' ? (defmtl_width == 4 && defmtl_c2 == 't' ? DEFMTL_K_ISTR : defmtl_width == 1 && defmtl_c2 == '2' ? DEFMTL_K_I128 : 0x097658 >> 4 * defmtl_width & 15) \
                 : defmtl_c0 == 'b' ? 1 : defmtl_c0 == 'c' ? 2 : defmtl_c0 == 'f' ? 4 - (defmtl_width == 2) : defmtl_c0 == 's' ? 10 \
                 : defmtl_c0 == '?' ? 17 : 0,                                                                           \
             defmtl_len = defmtl_m > 15 ? 4 - 3 * (defmtl_m & 1) : (int)(0x5233335233333440ULL >> 4 * defmtl_m & 15),   \
             defmtl_k = defmtl_x && defmtl_m > 0 && !DEFMTL_LIKE(t, defmtl_u, &DEFMTL_WORDS[6 * defmtl_m], defmtl_len),     \
             defmtl_c = defmtl_u + defmtl_k * defmtl_len,                                                               \
-            defmtl_h = defmtl_l && DEFMTL_AT(t, defmtl_c) == ';', defmtl_c2 = defmtl_c + defmtl_h,                     \
-            defmtl_y = defmtl_d ? defmtl_w : defmtl_c2 + (DEFMTL_AT(t, defmtl_c2) == ' '), defmtl_r = DEFMTL_DIGITS(t, defmtl_y), \
+            defmtl_h = defmtl_l && DEFMTL_BYTE t[defmtl_c] DEFMTL_END == ';', defmtl_ca = defmtl_c + defmtl_h,                     \
+            defmtl_y = defmtl_d ? defmtl_w : defmtl_ca + (DEFMTL_BYTE t[defmtl_ca] DEFMTL_END == ' '), defmtl_r = DEFMTL_DIGITS(t, defmtl_y), \
             defmtl_y2 = defmtl_y + defmtl_r,                                                                           \
-            defmtl_A = !defmtl_r ? 0 : (defmtl_r > 2 ? 100 * DEFMTL_AT(t, defmtl_y) - 4800 : 0) +                      \
-                (defmtl_r > 1 ? 10 * DEFMTL_AT(t, defmtl_y2 - 2) - 480 : 0) + DEFMTL_AT(t, defmtl_y2 - 1) - 48,        \
-            defmtl_t = defmtl_d > 0 && !DEFMTL_LIKE(t, defmtl_y2, "..", 2), defmtl_y3 = defmtl_y2 + 2 * defmtl_t,          \
+            defmtl_A = !defmtl_r ? 0 : (defmtl_r > 2 ? 100 * DEFMTL_BYTE t[defmtl_y] DEFMTL_END - 4800 : 0) +                      \
+                (defmtl_r > 1 ? 10 * DEFMTL_BYTE t[defmtl_y2 - 2] DEFMTL_END - 480 : 0) + DEFMTL_BYTE t[defmtl_y2 - 1] DEFMTL_END - 48,        \
+            defmtl_t = defmtl_d && !DEFMTL_LIKE(t, defmtl_y2, "..", 2), defmtl_y3 = defmtl_y2 + 2 * defmtl_t,          \
             defmtl_r3 = defmtl_t ? DEFMTL_DIGITS(t, defmtl_y3) : 0, defmtl_y4 = defmtl_y3 + defmtl_r3,                 \
-            defmtl_B = defmtl_r3 == 2 ? 10 * DEFMTL_AT(t, defmtl_y3) + DEFMTL_AT(t, defmtl_y3 + 1) - 528               \
-                       : defmtl_r3 == 1 ? DEFMTL_AT(t, defmtl_y3) - 48 : 0,                                            \
-            defmtl_e = defmtl_d ? defmtl_y4 : !defmtl_l ? defmtl_c : DEFMTL_AT(t, defmtl_y2) == ']' ? defmtl_y2 + 1 : defmtl_y2, \
-            defmtl_H = DEFMTL_AT(t, defmtl_e) == ':', defmtl_ha = defmtl_e + defmtl_H,                                 \
-            DEFMTL_FIND_##set(t, defmtl_z, defmtl_ha) defmtl_Z = defmtl_v && DEFMTL_AT(t, defmtl_z) == '}',            \
-            defmtl_q = defmtl_z + defmtl_Z, defmtl_hl = defmtl_z - defmtl_ha, defmtl_hx = DEFMTL_AT(t, defmtl_ha),     \
-            defmtl_hb = defmtl_ha + (defmtl_hx == '#'), defmtl_hw = DEFMTL_AT(t, defmtl_hb) == '0' ? DEFMTL_DIGITS(t, defmtl_hb) : 0, \
-            defmtl_hc = defmtl_hb + defmtl_hw,                                                                         \
-            defmtl_G = !defmtl_hl || (defmtl_H && (defmtl_z - defmtl_hc == 1 && defmtl_hw != 1 ? DEFMTL_RADIX(t, defmtl_hc) || (defmtl_hl == 1 && (defmtl_hx == '?' || defmtl_hx == 'a')) \
-                : defmtl_hl == 2 && (defmtl_hx == 'u' || defmtl_hx == 'm') && DEFMTL_AT(t, defmtl_ha + 1) == 's')),    \
+            defmtl_B = defmtl_r3 == 2 ? 10 * DEFMTL_BYTE t[defmtl_y3] DEFMTL_END + DEFMTL_BYTE t[defmtl_y3 + 1] DEFMTL_END - 528               \
+                       : defmtl_r3 == 1 ? DEFMTL_BYTE t[defmtl_y3] DEFMTL_END - 48 : 0,                                            \
+            defmtl_e = defmtl_d ? defmtl_y4 : !defmtl_l ? defmtl_c : DEFMTL_BYTE t[defmtl_y2] DEFMTL_END == ']' ? defmtl_y2 + 1 : defmtl_y2, \
+            defmtl_H = DEFMTL_BYTE t[defmtl_e] DEFMTL_END == ':', defmtl_ha = defmtl_e + defmtl_H,                                 \
+            defmtl_z = DEFMTL_NEXT(t, defmtl_size, '}', "}", defmtl_ha), defmtl_Z = defmtl_v && DEFMTL_BYTE t[defmtl_z] DEFMTL_END == '}',            \
+            defmtl_q = defmtl_v ? defmtl_z + defmtl_Z : defmtl_p, defmtl_hl = defmtl_z - defmtl_ha, defmtl_hx = DEFMTL_BYTE t[defmtl_ha] DEFMTL_END,     \
+            defmtl_hb = defmtl_ha + (defmtl_hx == '#'), defmtl_hw = DEFMTL_BYTE t[defmtl_hb] DEFMTL_END == '0' ? DEFMTL_DIGITS(t, defmtl_hb) : 0, \
+            defmtl_hc = defmtl_hb + defmtl_hw, defmtl_hd = DEFMTL_BYTE t[defmtl_hc] DEFMTL_END,                                    \
+            defmtl_G = !defmtl_hl || (defmtl_H && (defmtl_z - defmtl_hc == 1 && defmtl_hw != 1 ? defmtl_hd == 'x' || defmtl_hd == 'X' || defmtl_hd == 'b' || defmtl_hd == 'o' || (defmtl_hl == 1 && (defmtl_hx == '?' || defmtl_hx == 'a')) \
+                : defmtl_hl == 2 && (defmtl_hx == 'u' || defmtl_hx == 'm') && DEFMTL_BYTE t[defmtl_ha + 1] DEFMTL_END == 's')),    \
             defmtl_g = !defmtl_v || !defmtl_Z || !defmtl_G || defmtl_o > 7 ? 0                                         \
-                : defmtl_d ? (defmtl_A < defmtl_B && defmtl_B < 65 && defmtl_d < 3 ? DEFMTL_K_BITS : 0)                \
+                : defmtl_d ? (defmtl_A < defmtl_B && defmtl_B < 65 && defmtl_r < 3 ? DEFMTL_K_BITS : 0)                \
                 : !defmtl_x ? DEFMTL_K_FORMAT : !defmtl_k ? 0                                                          \
                 : defmtl_l ? (defmtl_e == defmtl_y2 || defmtl_h != (defmtl_r > 0) || defmtl_A > 255 ? 0                \
                               : defmtl_m == 14 ? DEFMTL_K_BYTES + defmtl_h : defmtl_m == 17 ? DEFMTL_K_LIST + defmtl_h : 0) \
@@ -204,8 +207,8 @@
 #define DEFMTL_NO_BRACES(t) DEFMTL_WITHOUT(t, "{") && DEFMTL_WITHOUT(t, "}")
 #define DEFMTL_READ_VARIANT(t, n, k, j) DEFMTL_READ_FROM(t, BARS, n, defmtl_bar_##j, defmtl_until_##k)
 
-/* ---- arguments: the class C by the numbers of kinds, the size S of an array of bytes, whether D a number, whether J an integer
- * that may be a constant, and that constant V */
+/* ---- arguments: the class C by the numbers of kinds, whether D a number, whether J an integer that may be a constant, that constant V,
+ * the size S of an array of bytes; and a, the argument itself, which is evaluated here and once: 0 where its type is none that is sent */
 #if __SIZEOF_LONG__ == 8
 #define DEFMTL_LONG_CLASSES unsigned long: 13, long: 7
 #else
@@ -214,34 +217,32 @@
 #define DEFMTL_CLASS(a)                                                                                                \
     _Generic((a), _Bool: 1, char: 2, unsigned char: 14, unsigned short: 11, unsigned: 12, unsigned long long: 13, DEFMTL_LONG_CLASSES, \
         signed char: 8, short: 5, int: 6, long long: 7, float: 3, double: 4, char *: 10, const char *: 10, unsigned char *: 21, \
-        const unsigned char *: 21, struct defmtl_istr: 16, struct defmtl_slice: 20, struct defmtl_value: 17, struct defmtl_list: 18, default: 0)
-#define DEFMTL_IS_POINTER(a)                                                                                           \
-    __builtin_types_compatible_p(__typeof__(a), unsigned char *) || __builtin_types_compatible_p(__typeof__(a), const unsigned char *)
+        const unsigned char *: 21, struct defmtl_istr: 16, struct defmtl_slice: 20, struct defmtl_wide: DEFMTL_WIDE_CLASS, struct defmtl_value: 17, struct defmtl_list: 18, default: 0)
 #define DEFMTL_CHECK(i, a)                                                                                             \
-    __extension__ enum {                                                                                                             \
-        defmtl_C##i = DEFMTL_CLASS(a), defmtl_D##i = 0x7bfe >> defmtl_C##i & 1,                                         \
-        defmtl_J##i = 0x30c0 >> defmtl_C##i & 1,                                                                       \
-        defmtl_S##i = DEFMTL_IS_POINTER(a) ? 0 : (int)sizeof(a)                                                        \
+    __extension__ enum {                                                                                               \
+        defmtl_C##i = DEFMTL_CLASS(a), defmtl_D##i = 0x7bfe >> defmtl_C##i & 1, defmtl_J##i = 0x30c0 >> defmtl_C##i & 1 \
     };                                                                                                                 \
-    __extension__ enum { defmtl_V##i = __builtin_choose_expr(defmtl_J##i && __builtin_constant_p(a), (long long)DEFMTL_PICKED(defmtl_J##i, a, 0), DEFMTL_NEVER) }; \
+    __extension__ __auto_type defmtl_arg_##i = __builtin_choose_expr(defmtl_C##i, a, 0);                                          \
+    __extension__ enum {                                                                                               \
+        defmtl_S##i = defmtl_C##i != 21 || __builtin_types_compatible_p(__typeof__(__builtin_choose_expr(defmtl_C##i == 21, a, 0)), __typeof__(defmtl_arg_##i)) \
+            ? 0 : (int)sizeof(__builtin_choose_expr(defmtl_C##i == 21, a, 0)),                                                  \
+        defmtl_V##i = __builtin_choose_expr(defmtl_J##i && __builtin_constant_p(a), (long long)__builtin_choose_expr(defmtl_J##i, a, 0), DEFMTL_NEVER) \
+    };                                                                                                                 \
     __extension__ enum { defmtl_suits_##i = !defmtl_read || !defmtl_numbered || DEFMTL_SUITS(defmtl_K##i, defmtl_N##i, defmtl_M##i, defmtl_C##i, defmtl_S##i, (long long)defmtl_V##i) }; \
     DEFMTL_ASSERT(defmtl_suits_##i, DEFMTL_TOLD_KIND(i));
 
-/* ---- what is handed on of an argument, by how its position is sent: where the classes don't suit it is nothing */
-#define DEFMTL_PICKED(want, a, other) __builtin_choose_expr(want, a, other)
+/* ---- what is handed on of an argument, by how its position is sent */
 #define DEFMTL_ARG(i, a)                                                                                               \
-    DEFMTL_PICKED(defmtl_P##i <= DEFMTL_B8, DEFMTL_SCALAR(i, a, DEFMTL_PICKED(defmtl_D##i, a, 0)),                     \
-    DEFMTL_PICKED(defmtl_P##i == DEFMTL_TEXT, DEFMTL_PICKED(defmtl_C##i == 10, a, ""),                                 \
-    DEFMTL_PICKED(defmtl_P##i == DEFMTL_VALUE, DEFMTL_PICKED(defmtl_C##i == 17, a, (struct defmtl_value){0}),          \
-    DEFMTL_PICKED(defmtl_P##i < DEFMTL_VALUE, DEFMTL_PICKED(defmtl_C##i == 20, a, defmtl_make_slice(DEFMTL_PICKED(defmtl_C##i == 21, a, 0), sizeof(a))), \
-    DEFMTL_PICKED(defmtl_P##i == DEFMTL_LIST, DEFMTL_PICKED(defmtl_C##i == 18, a, (struct defmtl_list){0}),            \
-        defmtl_exactly(DEFMTL_PICKED(defmtl_C##i == 18, a, (struct defmtl_list){0}), (uint32_t)defmtl_N##i))))))
-#define DEFMTL_SCALAR(i, a, number)                                                                                    \
-    DEFMTL_PICKED(defmtl_K##i == DEFMTL_K_F64, defmtl_double_bits((double)number),                                     \
-    DEFMTL_PICKED(defmtl_P##i == DEFMTL_B8, (uint64_t)number >> 8 * defmtl_F##i,                                       \
-    DEFMTL_PICKED(defmtl_K##i == DEFMTL_K_F32, defmtl_float_bits((float)number),                                       \
-    DEFMTL_PICKED(defmtl_K##i == DEFMTL_K_ISTR, (uint32_t)(uintptr_t)DEFMTL_PICKED(defmtl_C##i == 16, a, (struct defmtl_istr){0}).entry, \
-    DEFMTL_PICKED(defmtl_K##i == DEFMTL_K_BOOL, (uint32_t)!!number,                                                    \
+    __builtin_choose_expr(defmtl_P##i <= DEFMTL_B8, DEFMTL_SCALAR(i, __builtin_choose_expr(defmtl_D##i, defmtl_arg_##i, 0)),              \
+    __builtin_choose_expr(defmtl_S##i > 0, defmtl_make_slice(__builtin_choose_expr(defmtl_C##i == 21, defmtl_arg_##i, 0), (uint32_t)defmtl_S##i), \
+    __builtin_choose_expr(defmtl_P##i == DEFMTL_ARRAY, defmtl_exactly(__builtin_choose_expr(defmtl_C##i == 18, defmtl_arg_##i, (struct defmtl_list){0}), (uint32_t)defmtl_N##i), \
+        __builtin_choose_expr(defmtl_C##i == DEFMTL_WIDE_CLASS, defmtl_make_slice(&defmtl_arg_##i, 16), defmtl_arg_##i))))
+#define DEFMTL_SCALAR(i, number)                                                                                       \
+    __builtin_choose_expr(defmtl_K##i == DEFMTL_K_F64, defmtl_double_bits((double)number),                                     \
+    __builtin_choose_expr(defmtl_P##i == DEFMTL_B8, (uint64_t)number >> 8 * defmtl_F##i,                                       \
+    __builtin_choose_expr(defmtl_K##i == DEFMTL_K_F32, defmtl_float_bits((float)number),                                       \
+    __builtin_choose_expr(defmtl_K##i == DEFMTL_K_ISTR, (uint32_t)(uintptr_t)__builtin_choose_expr(defmtl_C##i == 16, defmtl_arg_##i, (struct defmtl_istr){0}).entry, \
+    __builtin_choose_expr(defmtl_K##i == DEFMTL_K_BOOL, (uint32_t)!!number,                                                    \
         (uint32_t)((uint64_t)number >> 8 * defmtl_F##i) & (defmtl_C##i == 2 ? 0xffu : 0xffffffffu))))))
 
 /* ---- the stamp's text, which has one number */

@@ -29,6 +29,7 @@ constexpr int width(const char *&t) {
     const char *at = t;
     if (*at == '8') return t += 1, 0;
     if (*at == '1' && at[1] == '6') return t += 2, 1;
+    if (starts(at, "128")) return t += 3, 4;
     if (*at == '3' && at[1] == '2') return t += 2, 2;
     if (*at == '6' && at[1] == '4') return t += 2, 3;
     if (starts(at, "size")) return t += 4, 2;
@@ -43,7 +44,7 @@ constexpr int behind(const char *&t, const char *word, int kind) {
 
 /* The kind that is spelled at t, which goes on behind it; 0 is none. */
 constexpr int kind_at(const char *&t, int &n) {
-    constexpr unsigned char of_unsigned[] = {14, 11, 12, 13}, of_signed[] = {8, 5, 6, 7};
+    constexpr unsigned char of_unsigned[] = {14, 11, 12, 13, DEFMTL_K_U128}, of_signed[] = {8, 5, 6, 7, DEFMTL_K_I128};
     switch (*t) {
     case 'u': {
         int w = width(++t);
@@ -182,6 +183,7 @@ size<21> of(unsigned char *);
 size<21> of(const unsigned char *);
 size<16> of(defmtl_istr);
 size<20> of(defmtl_slice);
+size<DEFMTL_WIDE_CLASS> of(defmtl_wide);
 size<17> of(defmtl_value);
 size<18> of(defmtl_list);
 size<23> of(const void *);
@@ -218,6 +220,7 @@ template <int k, int n, int from, int as, class T> inline auto arg(const T &a) {
     else if constexpr (k == 2 && sizeof(T) == 1) return static_cast<uint32_t>(static_cast<unsigned char>(a));
     else if constexpr (as <= DEFMTL_B4) return static_cast<uint32_t>(a);
     else if constexpr (k == 10) return static_cast<const char *>(a);
+    else if constexpr (k > DEFMTL_K_BITS) return defmtl_make_slice(&a, 16);
     else if constexpr (k == 19) return defmtl_exactly(a, static_cast<uint32_t>(n));
     else if constexpr (k == 20 || k == 21) {
         if constexpr (sizeof(extent(*static_cast<const T *>(nullptr))) > 1) return defmtl_make_slice(a, sizeof(a));

@@ -79,10 +79,11 @@ template <int n, class place> struct first<n, place, true> {
 #define DEFMTL_PLAIN_NAME(n)
 #define DEFMTL_SYMBOL(n) defmtl_entry_##n
 #endif
-#define DEFMTL_ENTRY(n, tag, part, text)                                                                               \
-    extern const char DEFMTL_SYMBOL(n) __asm__(DEFMTL_LABEL(n, tag, text));                                            \
-    __asm__(".pushsection .defmt." part ",\"\"," DEFMTL_PROGBITS "\n\t.ifndef " DEFMTL_LABEL(n, tag, text) "\n"        \
-            DEFMTL_LABEL(n, tag, text) ":\n" DEFMTL_PLAIN_NAME(n) "\t.byte 0\n\t.endif\n\t.popsection");               \
+#define DEFMTL_ENTRY(n, tag, part, text) DEFMTL_ENTRY_(n, part, DEFMTL_LABEL(n, tag, text))
+#define DEFMTL_ENTRY_(n, part, label)                                                                                  \
+    extern const char DEFMTL_SYMBOL(n) __asm__(label);                                                                 \
+    __asm__(".pushsection .defmt." part ",\"\"," DEFMTL_PROGBITS "\n\t.ifndef " label "\n" label ":\n"                 \
+            DEFMTL_PLAIN_NAME(n) "\t.byte 0\n\t.endif\n\t.popsection");                                               \
     DEFMTL_KEEP_INDEX(n)
 
 #endif

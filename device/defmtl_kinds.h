@@ -23,6 +23,8 @@
 #define DEFMTL_K_BYTES 20
 #define DEFMTL_K_RAW 21
 #define DEFMTL_K_BITS 22
+#define DEFMTL_K_U128 24
+#define DEFMTL_K_I128 26
 
 /* How an argument is sent: numbers of one, two, four and eight bytes; a text; bytes with and without their number; a Format
  * value; Format values with and without their number. A call has four bits for each argument, the first one's lowest. */
@@ -47,7 +49,7 @@
 #define DEFMTL_TOLD_VARIANTS "defmtl: the text's variants and the lists of arguments differ in number"
 #define DEFMTL_TOLD_ENUM "defmtl: the text of an enum has two variants or more, without braces, parted by bars (in C at most 64)"
 #define DEFMTL_TOLD_KIND(i)                                                                                            \
-    "defmtl: the " DEFMTL_NTH_##i " argument is of another kind than the text's, or wider (cast it, or use SLICE, FMT, LIST, ISTR)"
+    "defmtl: the " DEFMTL_NTH_##i " argument is of another kind than the text's, or wider (cast it, or use SLICE, FMT, LIST, ISTR, WIDE)"
 #define DEFMTL_NTH_0 "first"
 #define DEFMTL_NTH_1 "second"
 #define DEFMTL_NTH_2 "third"
@@ -66,12 +68,13 @@
 #define DEFMTL_COMPARISON DEFMTL_K_I32 /* what C has where two values are compared */
 #endif
 #define DEFMTL_NEVER (-0x7fffffffffffffffLL - 1)
+#define DEFMTL_WIDE_CLASS 25 /* of WIDE(..) */
 #define DEFMTL_IS_UNSIGNED(c) (c >= 11 && c <= 14)
 /* the classes that suit a kind, a bit each */
 #define DEFMTL_CLASSES(k)                                                                                              \
     (k == 14 ? 0x4000 : k == 11 ? 0x4800 : k == 12 ? 0x5800 : k == 13 ? 0x7800 : k == 8 ? 0x100 : k == 5 ? 0x4120      \
      : k == 6 ? 0x4960 : k == 7 ? 0x59e0 : k == 1 ? 2 | 1 << DEFMTL_COMPARISON : k == 2 ? 0x1004 : k == 4 ? 0x18       \
-     : k == 19 ? 0x40000 : k == 20 ? 0x300000 : k == 22 ? 0x7800 : 1 << k)
+     : k == 19 ? 0x40000 : k == 20 ? 0x300000 : k == 22 ? 0x7800 : k > 22 ? 1 << DEFMTL_WIDE_CLASS : 1 << k)
 #define DEFMTL_FITS(k, c, V)                                                                                           \
     (V != DEFMTL_NEVER && (k == 13 || k == 22 ? V >= 0 : k == 7 ? c != 13 || V >= 0 : k == 2 ? V >= 0 && V < 0x110000  \
      : k > 10 && k < 15 ? V >> (8 << (k + 2 & 3)) == 0 : k > 4 && k < 9 && V >> ((8 << (k & 3)) - 1) == (V < 0 ? -1 : 0)))
@@ -86,4 +89,4 @@
 /* ---- how a kind is sent, by tables of four bits a kind; bit fields by the width of their window */
 #define DEFMTL_OP_OF(k, wide)                                                                                          \
     (k == DEFMTL_K_BITS ? (wide < 3 ? wide : wide < 5 ? DEFMTL_B4 : DEFMTL_B8)                                         \
-                        : (int)((k < 16 ? 0x0143250143243310ULL : 0x76a982ULL) >> 4 * (k & 15) & 15))
+                        : (int)((k < 16 ? 0x0143250143243310ULL : 0x7070076a982ULL) >> 4 * (k & 15) & 15))

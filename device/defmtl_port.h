@@ -1,5 +1,6 @@
 /* The port: what differs from firmware to firmware. Each setting can be given to the compiler, for all files alike
- * (-DDEFMTL_RING=4096); or copy this file into your project, change it there, and name it (-DDEFMTL_PORT_FILE='"my_port.h"'). */
+ * (-DDEFMTL_RING=4096); or write a port file, name it (-DDEFMTL_PORT_FILE='"my_port.h"'), and define settings there in front of an
+ * include of this one, as the files in ports/ do with the four functions. */
 #ifndef DEFMTL_PORT_H
 #define DEFMTL_PORT_H
 
@@ -26,7 +27,7 @@
 
 /* ---- what defmtl.c calls: a lock, a barrier, and a wait */
 
-#ifdef DEFMTL_PORT_FUNCTIONS
+#if defined(DEFMTL_PORT_FUNCTIONS) && !defined(DEFMTL_OWN_FUNCTIONS) /* a port file of yours may define all four itself */
 
 #if defined(__arm__) && defined(__ARM_ARCH_PROFILE) && __ARM_ARCH_PROFILE == 'M'
 

@@ -5,27 +5,16 @@
 #
 #   tests/device-proof.sh
 #
-# It needs frama-c with why3, z3 and cvc4 (Debian: frama-c-base, z3, cvc4), and says 'skipped: ..' where they are missing. The last line is
-# 'N passed, M failed'. PROCESSORS tells how many goals are tried side by side; all of them, where it isn't given.
-set -u
+# It needs frama-c with why3, z3 and cvc4 (Debian: frama-c-base, z3, cvc4). The last line is 'N passed, M failed'. PROCESSORS tells how many goals
+# are tried side by side; all of them, where it isn't given.
+. "$(dirname "$0")/runner.sh"
 [ $# -eq 0 ] || { echo "usage: tests/device-proof.sh"; exit 2; }
-device=$(realpath "$(dirname "$0")/../device") && wrong=$(realpath "$(dirname "$0")/device/wrong.py") || exit 2
-goals=335 goals_large=77
-passed=0 failed=0
-work=$(mktemp -d) || exit 2
-trap 'rm -rf "$work"' EXIT
-
-finish() { echo "$passed passed, $failed failed"; [ "$failed" -eq 0 ]; exit; }
-pass() { passed=$((passed + 1)); echo "ok: $1"; }
-fail() { failed=$((failed + 1)); echo "FAILED: $1"; }
-
-for pair in frama-c=frama-c-base why3=why3 z3=z3 cvc4=cvc4 python3=python3; do
-    command -v "${pair%%=*}" > /dev/null || { echo "skipped: no ${pair%%=*} on this machine (package ${pair#*=})"; finish; }
-done
+needs frama-c why3 z3 cvc4 python3
+device=$top/device wrong=$top/tests/device/wrong.py goals=335 goals_large=77
 cd "$work" || exit 2
 export HOME=$work
 why3 config detect > said 2>&1
-grep -q Z3 .why3.conf && grep -q CVC4 .why3.conf || { echo "skipped: why3 finds no z3 and cvc4 (packages z3, cvc4)"; finish; }
+grep -q Z3 .why3.conf && grep -q CVC4 .why3.conf || { skip "all: why3 finds no z3 and cvc4, which the packages z3 and cvc4 bring"; counts; }
 echo '#include "defmtl_core.h"' > core.c
 
 # prove SECONDS FLAG..: the last line that counts goals, as 'PROVED ALL'
@@ -67,4 +56,4 @@ for round in 0 1 2 3; do
         if grep -qE "\\[(Failed|Timeout|Unknown|Stepout)\\] Goal typed_${function}_" said; then pass "refused: $words"; else fail "not refused: $words"; fi
     done < wrongs
 done
-finish
+counts

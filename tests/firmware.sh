@@ -6,26 +6,11 @@
 #
 #   tests/firmware.sh PROGRAM
 #
-# It needs arm-none-eabi-gcc with newlib and qemu-system-arm (Debian: gcc-arm-none-eabi, libnewlib-arm-none-eabi,
-# qemu-system-arm), and says 'skipped: ..' where they are missing. The last line is 'N passed, M failed'.
-set -u
-[ $# -eq 1 ] || { echo "usage: tests/firmware.sh PROGRAM"; exit 2; }
-program=$(realpath "$1") && [ -x "$program" ] || { echo "there is no program $1"; exit 2; }
-sources=$(realpath "$(dirname "$0")/../device") || exit 2
-passed=0 failed=0
-work=$(mktemp -d) || exit 2
-trap 'rm -rf "$work"' EXIT
-
-finish() { echo "$passed passed, $failed failed"; [ "$failed" -eq 0 ]; exit; }
-pass() { passed=$((passed + 1)); echo "ok: $1"; }
-fail() { failed=$((failed + 1)); echo "FAILED: $1"; }
-
-# compare WHAT DUE GOT
-compare() { if cmp -s "$2" "$3"; then pass "$1"; else fail "$1"; diff "$2" "$3" | head -n 20; fi; }
-
-for tool in make arm-none-eabi-gcc qemu-system-arm od; do
-    command -v "$tool" > /dev/null || { echo "skipped: no $tool on this machine"; finish; }
-done
+# It needs make, arm-none-eabi-gcc with newlib and qemu-system-arm. The last line is 'N passed, M failed'.
+. "$(dirname "$0")/runner.sh"
+takes_program "$@"
+needs make arm-none-eabi-gcc qemu-system-arm od
+sources=$top/device
 
 # number PLACE: the four bytes at a place of the image as a number
 number() { od -An -tu4 -j "$1" -N 4 "$work/ram.bin" | tr -d ' '; }
@@ -59,14 +44,14 @@ try_firmware() {
     [ -s ram.bin ] || { fail "$what: the emulator saves the memory"; tail -n 5 said; return; }
 
     "$program" dump --table out/firmware.elf < ram.bin > got 2>&1
-    compare "$what: dump of the memory" "$due" got
+    same "$what: dump of the memory" "$due" got
 
     # the control block by its ID, then the up-buffer's place and its two offsets
     block=$(grep -obUaP 'SEGGER RTT\0\0\0\0\0\0' ram.bin | head -n 1 | cut -d : -f 1)
     start=$(($(number $((block + 28))) - 0x20000000)) write=$(number $((block + 36))) read=$(number $((block + 40)))
     tail -c +$((start + read + 1)) ram.bin | head -c $((write - read)) > recording.bin
     "$program" decode --table out/firmware.elf < recording.bin > got 2>&1
-    compare "$what: decode of the bytes in the ring" "$due" got
+    same "$what: decode of the bytes in the ring" "$due" got
 
     # nothing of the strings is in the device's memories
     arm-none-eabi-objcopy -O binary out/firmware.elf flash.bin
@@ -89,9 +74,9 @@ echo '#include "defmtl.h"' > other.c
 echo 'table elf cause 9 place 0' > due.mixed
 if arm-none-eabi-gcc -mcpu=cortex-m3 -mthumb -c other.c > said 2>&1 && make -s firmware PROFILE=2 CC='arm-none-eabi-gcc other.o' >> said 2>&1; then
     "$program" decode --table out/firmware.elf < recording.bin > got 2>&1
-    compare "files of both profiles: refused" due.mixed got
+    same "files of both profiles: refused" due.mixed got
 else
     fail "files of both profiles: the firmware is built"
     tail -n 5 said
 fi
-finish
+counts

@@ -47,7 +47,11 @@ class Statement:
     def other(self, n, kind):
         which = self.choose.choice(FORMATS)
         some = f"for (uint32_t k = 0; k < n{n}; k++) any_{which}(&a_{which}[{n}][k]);"
-        if kind == "bool":
+        if kind == "u128":
+            self.add(f"uint64_t h{n} = any(), l{n} = any();", f"WIDE(h{n}, l{n})", '0x%" PRIx64 "%016" PRIx64 "', f"h{n}, l{n}")
+        elif kind == "i128":
+            self.add(f"int64_t v{n} = (int64_t)any();", f"WIDE(v{n} < 0 ? -1 : 0, v{n})", '%" PRId64 "', f"v{n}")
+        elif kind == "bool":
             self.add(f"bool v{n} = any() & 1;", f"v{n}", "%s", f'v{n} ? "true" : "false"')
         elif kind == "char" and self.choose.random() < 0.5:
             self.add(f"char v{n} = (char)('A' + any() % 26);", f"v{n}", "'%c'", f"v{n}")
@@ -70,7 +74,7 @@ class Statement:
             self.add(f"uint32_t n{n} = {count}; {some}", f"LIST({which}, a_{which}[{n}], n{n})", "%s", f"list_{which}({n}, a_{which}[{n}], n{n})")
 
     def argument(self, n):
-        kinds = [*INTEGERS, "bool", "char", "str", "istr", "[u8]", "[u8; %d]" % self.choose.choice([1, 2, 7, 8, 64, 140]), "?", "[?]",
+        kinds = [*INTEGERS, "u128", "i128", "bool", "char", "str", "istr", "[u8]", "[u8; %d]" % self.choose.choice([1, 2, 7, 8, 64, 140]), "?", "[?]",
                  "[?; %d]" % self.choose.randrange(6), "bits", "bits"]
         kind = self.choose.choice(kinds)
         if kind == "bits":
