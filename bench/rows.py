@@ -105,7 +105,7 @@ class Tests:
             elif found["asked"] is not None:
                 place = closing(text, place - 1)
                 # (the last argument but one)
-                count += int(re.search(r",\s*(\d+),\s*[&\w:]+,?\s*$", text[found.end() : place])[1])
+                count += int(re.search(r",\s*(\d+),\s*[&\w:]+(\([\w:]+\))?,?\s*$", text[found.end() : place])[1])
             elif found["asserted"] is not None:
                 count += 1
                 place = closing(text, place - 1)

@@ -33,7 +33,7 @@ try() {
 # The words behind the name of a script; those that run no program need none.
 words_of() {
     case $1 in
-        device-proof.sh | launcher.sh | clauses.sh) ;;
+        device-proof.sh | launcher.sh | clauses.sh | pages.sh) ;;
         threads.sh) echo "$program 20" ;;
         device.sh) echo "$program 500" ;;
         damage.sh | fuzz.sh) echo "$program 1000" ;;
@@ -45,7 +45,7 @@ words_of() {
 {
     if [ $# -gt 0 ]; then scripts=("${@/%/.sh}"); else
         cd "$top/tests" || exit 2
-        scripts=(real-elf.sh firmware.sh device*.sh live.sh parallel.sh guide.sh explain.sh threads.sh brackets.sh failing-calls.sh refused-memory.sh damage.sh fuzz.sh launcher.sh clauses.sh)
+        scripts=(real-elf.sh firmware.sh device*.sh live.sh parallel.sh guide.sh explain.sh threads.sh brackets.sh failing-calls.sh refused-memory.sh damage.sh fuzz.sh launcher.sh clauses.sh pages.sh places.sh swap.sh looking.sh)
         cd "$top" || exit 2
     fi
     for it in "${scripts[@]}"; do

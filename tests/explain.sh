@@ -94,6 +94,14 @@ dump --table x --base 20000000 => --base: `20000000` is no address: write `0x` a
 dump --table x --up 16 => --up: `16` is none of 0 to 15
 run README.md => `README.md` is one word too many: a script comes from the standard input, `< README.md`
 decode --table x README.md => `README.md` is one word too many: a recording comes from the standard input, `< README.md`
+run --json --color => of --json and --color one at most
+run --color --json => of --json and --color one at most
+decode --table x --fail-on off => --fail-on: `off` is no level: trace, debug, info, warn or error
+decode --table x --fail-on => --fail-on takes LEVEL behind it
+dump --table x --live => --live doesn't go with dump; it goes with decode
+run --places f => --places doesn't go with run; it goes with decode and dump
+decode --table x --live=1 => --live takes nothing behind it
+print --json => --json doesn't go with print; it goes with decode, dump and run
 gen => gen takes a number from 1 to 4096 behind it
 gen 007 => `007` is no number from 1 to 4096 without a leading zero
 ROWS
@@ -122,4 +130,18 @@ while IFS= read -r row; do
 done < <(words)
 explained '`nowhere.elf`: there is no such file' decode --table nowhere.elf
 explained '`docs`: it is a folder' decode --table docs
+"$program" table < examples/hello.defmtl > "$work/hello.elf"
+explained '`nowhere`: there is no such file' decode --table "$work/hello.elf" --places nowhere
+explained '`nowhere.elf`: there is no such file' decode --table nowhere.elf --places nowhere
+printf '1 a\n01 b\n' > "$work/places"
+explained "line 2 of the file behind --places: The line isn't UTF-8, or has another form than an index, a space and a place." decode --table "$work/hello.elf" --places "$work/places"
+echo '65536 a' > "$work/places"
+explained 'line 1 of the file behind --places: The index is above 65,535.' decode --table "$work/hello.elf" --places "$work/places"
+truncate -s 67108865 "$work/large"
+explained "\`$work/large\`: it has more than 67,108,864 bytes" decode --table "$work/large"
+explained "\`$work/large\`: it has more than 67,108,864 bytes" dump --table "$work/hello.elf" --places "$work/large"
+head -c 4194305 /dev/zero | tr '\0' '\n' > "$work/script"
+explained 'the script has more than 4,194,304 bytes' print
+cp examples/hello.defmtl "$work/script"
+explained 'so many lines of this level or a more severe one were printed: --fail-on asks for this status' run --fail-on trace
 counts

@@ -38,82 +38,78 @@ case $1 in
 esac
 PROGRAM
 
-# Each crate that is proved is a line of $KIT/proved, each call one of $KIT/calls, and each of the prover one of $KIT/provers; $KIT/events says when each
-# proof begins and ends. $KIT/seconds says how long a proof takes, and $KIT/slow/NAME how long one takes that takes another time. A file $KIT/refuses
-# names a crate that can't be proved, and $KIT/killed/NAME how a crate's rt ends once. What `rt try` runs has a second; the real one has a minute.
+# `rt ci` proves the crates of crates.txt, lowest first, and keeps in $KIT/kept of what it proved each. Each that is proved is a line of $KIT/proved, each
+# call one of $KIT/calls, and what the folder of a call had is in $KIT/had. $KIT/seconds says how long a proof takes, and $KIT/slow/NAME how long one takes
+# that takes another time. A file $KIT/refuses names a crate that can't be proved, and $KIT/others has the names of those that another run proves just now.
+# What `rt try` runs has a second; the real one has a minute.
 cat > "$kit/bin/rt" << 'RT'
 #!/bin/bash
-KIT=${0%/bin/rt}
-[ ! -f "$KIT/home" ] || KIT=$(< "$KIT/home")
+KIT=
 echo "${PWD##*/} $*" >> "$KIT/calls"
-# (of a crate's own text and of those below, by the stamps of these)
-text() { (cat src/* && for each in $(sed -n "s/^${PWD##*/}\( [^:]*\)*://p" ../../crates.txt); do cat "../$each/out/rlib/stamp"; done) 2> /dev/null | cksum; }
-pause() { sleep "$1" & echo $! >> "$KIT/sleeps"; wait; }
+pause() { setpriv --pdeathsig KILL sleep "$1" & echo $! >> "$KIT/sleeps"; wait; }
+below() { sed -n "s/^$1\( [^:]*\)*://p" crates.txt | tr ' ' '\n' | grep -vx 'std\|'; }
+# What a crate is proved of: its line, its text, and those of the crates below it
+text() { local it; { grep "^$1[ :]" crates.txt; cat crates/"$1"/{src,specs,proofs}/*; for it in $(below "$1"); do text "$it"; done; } 2> /dev/null | cksum; }
 prove() {
-    local each
-    [ "$(cat out/rlib/stamp 2> /dev/null)" != "$(text)" ] || return 0
-    for each in $(sed -n "s/^$1\( [^:]*\)*://p" ../../crates.txt); do
-        [ "$each" = std ] || [ -f "../$each/out/rlib/stamp" ] || { echo "error: $each is not built"; return 1; }
+    local it
+    for it in $(below "$1"); do
+        [ -n "${proved[$it]}" ] || { echo "rt: $1 NOT PROVED: its library $it failed"; return; }
     done
-    [ -f "${0%/bin/rt}/rattle/logic" ] && [ -f "${0%/bin/rt}/toolchain/bin/clang" ] || { echo 'error: the kit is not whole'; return 1; }
-    grep -q 'Crate.stamp = functools.cache' "${0%/rt}/rtlib.py" || { echo 'error: a library is read more than once'; return 1; }
-    echo "begin $1" >> "$KIT/events"
-    rm -rf out/rlib; mkdir -p out/rlib
-    case $(cat "$KIT/killed/$1" 2> /dev/null) in
-        '') ;;
-        9) rm "$KIT/killed/$1"; kill -9 $$ ;;
-        *) read -r status < "$KIT/killed/$1"; rm "$KIT/killed/$1"; return "$status" ;;
-    esac
-    pause "$(cat "$KIT/slow/$1" 2> /dev/null || cat "$KIT/seconds")"
-    echo "end $1" >> "$KIT/events"
-    [ "$(cat "$KIT/refuses" 2> /dev/null)" != "$1" ] || { echo "error: $1 is not proved"; return 1; }
-    "${0%/rt}/rattle" build --crate-name "$1" --incremental 'out/a b' --links "$1=" -o "$2" || return
-    echo "$1" >> "$KIT/proved"
-    text > out/rlib/stamp
+    if [ "$(cat "$KIT/kept/$1" 2> /dev/null)" = "$(text "$1")" ]; then
+        echo "rt: $1 is kept: an earlier run on this machine proved the same files over the same libraries"
+    else
+        ! grep -qx "$1" "$KIT/others" || echo "rt: $1: another run on this machine is proving the same; waiting for it"
+        pause "$(cat "$KIT/slow/$1" 2> /dev/null || cat "$KIT/seconds")"
+        [ "$(cat "$KIT/refuses" 2> /dev/null)" != "$1" ] || { printf '== %s\nerror: %s is not proved\nrt: %s NOT PROVED\n' "$1" "$1" "$1"; return; }
+        echo "$1" >> "$KIT/proved"
+        text "$1" > "$KIT/kept/$1"
+        printf '== %s\ndone\nrt: %s proved\n' "$1" "$1"
+    fi
+    proved[$1]=1
 }
+declare -A proved
 case $1 in
     doc) echo "$KIT/START-HERE.md" ;;
     version) echo 'the kit' ;;
-    lib) prove "${PWD##*/}" "$PWD/out/rlib/${PWD##*/}.rlib" ;;
-    run)
-        [ -f ../defmt_run/out/rlib/stamp ] || { echo 'error: defmt_run is not built'; exit 1; }
-        prove defmt_cli out/defmt_cli.o || exit
-        sed "s/TEXT/proved $(cat ../defmt_run/src/lib.rt)/" "$KIT/program" > out/defmt_cli && chmod +x out/defmt_cli ;;
+    ci)
+        { [ $# -eq 1 ] && [ -d .git ] && [ -w "$TMPDIR" ]; } || { echo 'rt: this is no repository'; exit 2; }
+        find . -type f | sort > "$KIT/had" && cp crates.txt HANDLES "$KIT" || exit 2
+        for it in $(sed '/^#/d; s/[ :].*//' crates.txt); do prove "$it"; done
+        [ -n "${proved[defmt_cli]}" ] || { echo '5 passed, 1 failed'; exit 1; }
+        mkdir crates/defmt_cli/out && sed "s/TEXT/proved $(cat crates/defmt_run/src/lib.rt)/" "$KIT/program" > crates/defmt_cli/out/defmt_cli
+        chmod +x crates/defmt_cli/out/defmt_cli
+        printf 'rt: defmt_cli ran, and wrote what its file stdout has\n6 passed, 0 failed\n' ;;
     try)
         [ "$(cat "$KIT/refuses" 2> /dev/null)" != try ] || { echo 'error: the program is not read'; exit 2; }
-        sleep "$(cat "$KIT/seconds")"
+        { [ -f "${0%/bin/rt}/rattle/logic" ] && [ -f "${0%/bin/rt}/toolchain/bin/clang" ] && [ -f "${0%/rt}/rtlib.py" ]; } || { echo 'error: the kit is not whole'; exit 1; }
+        pause "$(cat "$KIT/seconds")"
         "${0%/bin/rt}/toolchain/bin/ld.lld" -o "$KIT/tried" defmt_run && timeout 1 "$KIT/tried" run < /dev/null ;;
 esac
 RT
-printf '#!/bin/bash\nprintf "%%s|" "$@" >> "%s"\necho >> "%s"\n' "$kit/provers" "$kit/provers" > "$kit/bin/rattle"
 cat > "$kit/toolchain/bin/ld.lld" << 'LINKER'
 #!/bin/bash
 sed "s/TEXT/unproved $(cat "../$3/src/lib.rt")/" "${0%/toolchain/*}/program" > "$2" && chmod +x "$2"
 LINKER
-chmod +x "$kit/bin/rt" "$kit/bin/rattle" "$kit/toolchain/bin/ld.lld"
-echo "$kit" > "$kit/home"
+chmod +x "$kit/bin/rt" "$kit/toolchain/bin/ld.lld"
 ln -s "$kit/bin/rt" "$work/path/rt"
 sed -i "s|^KIT=.*|KIT=$kit|" "$kit/bin/rt"
-# So many processors, and so much memory in GB
-printf '#!/bin/bash\ncat "%s"\n' "$kit/processors" > "$work/path/nproc"
-printf '#!/bin/bash\ncat "%s"\n' "$kit/memory" > "$work/path/awk"
-chmod +x "$work/path/nproc" "$work/path/awk"
 PATH=$work/path:$PATH
 
 # begin SECONDS: a repository in which nothing was built, and a proof takes so long
 begin() {
-    rm -rf "$work/top" "$kit/refuses" "$kit/slow" "$kit/killed"
-    mkdir "$kit/slow" "$kit/killed"
-    for it in calls provers proved events sleeps; do : > "$kit/$it"; done
-    echo "$1" > "$kit/seconds"; echo 4 > "$kit/processors"; echo 16 > "$kit/memory"
+    rm -rf "$work/top" "$kit/refuses" "$kit/slow" "$kit/kept" && mkdir "$kit/slow" "$kit/kept"
+    for it in calls proved others sleeps; do : > "$kit/$it"; done
+    echo "$1" > "$kit/seconds"
     mkdir "$work/top" && cd "$work/top" || exit 2
-    mkdir docs && cp -r "$top/defmtl" "$top/tools" . && cp "$top"/docs/{commands.txt,EXPLAIN.md,defmtl.1,defmtl.completion} docs || exit 2
+    mkdir -p docs/generated && cp -r "$top/defmtl" "$top/tools" . && cp "$top"/docs/{commands.txt,EXPLAIN.md,defmtl.1,defmtl.completion} docs || exit 2
     printf '%s\n' '# a comment' 'low:' 'left: low std' 'right: low' 'top: left right' 'defmt_run may_wait=9: top' 'defmt_cli: defmt_run' 'low_tests: low' 'aside: low' > crates.txt
     echo 'Handles allowed: none.' > HANDLES
     for it in low left right top defmt_run defmt_cli low_tests aside; do
         mkdir -p "crates/$it/src"
         printf 'one' > "crates/$it/src/lib.rt"
+        mkdir "crates/$it/must-fail" && touch "crates/$it/must-fail/wrong.edit" "crates/$it/README.md"
     done
+    touch crates/defmt_cli/{args,stdin,stdout}
 }
 
 # call WORD..: runs the launcher. Leaves its status, and what it wrote and said.
@@ -126,17 +122,15 @@ call() {
 calls() { grep -vc '^$\| doc$\| version$' "$kit/calls"; }
 proofs() { sort "$kit/proved" | tr '\n' ' '; }
 strays() {
-    find . ! -type d ! -path './crates/*/src/*' ! -path './crates/defmt_cli/out/rlib/*/stamp' ! -name crates.txt ! -name HANDLES ! -name defmtl \
-        ! -path './docs/*' ! -path './tools/*' \
-        ! -name 'defmt_cli*' ! -name launcher.lock
-    find . -name rooms -o -name out ! -path './crates/defmt_cli/*'
+    find . -type f ! -path './crates/*/src/*' ! -path './crates/*/must-fail/*' ! -name README.md ! -name crates.txt ! -name HANDLES ! -name defmtl \
+        ! -path './docs/*' ! -path './tools/*' ! -name args ! -name stdin ! -name stdout ! -name 'defmt_cli*' ! -name launcher.lock
+    find . -name out ! -path './crates/defmt_cli/*'
     find "$TMPDIR" -mindepth 1 -maxdepth 1
 }
 all_crates='defmt_cli defmt_run left low right top '
 
 # until_true WORD..: waits until a command succeeds, at most ten seconds
 until_true() { for ((turn = 0; turn < 200; turn++)); do "$@" > /dev/null 2>&1 && return; sleep 0.05; done; return 1; }
-# What a launcher leaves to the shell that stands by is removed a moment after it has ended.
 is_tidy() { [ -z "$(strays)" ]; }
 has_begun() { [ "$(wc -l < "$kit/sleeps")" -ge "$1" ]; }
 is_gone() { ! kill -0 "$1" 2> /dev/null; }
@@ -144,24 +138,21 @@ is_gone() { ! kill -0 "$1" 2> /dev/null; }
 # ---- the first build
 
 begin 0.1
-# (what a caller exports is not the prover's)
-export skips=1 words=other
 call words a 'b  c' '' < /dev/null
-unset skips words
 is 'a first build' "$status" 0
 is 'the words' "$wrote" $'words\na\nb  c'
 is 'each crate is proved once, test crates and those aside are not' "$(proofs)" "$all_crates"
 has 'the program is the proved one' "$said" 'proved one'
-has 'how far a build is' "$said" 'crate 2 of 6 is done: '
-has 'how long it will take' "$said" 'About '
-has 'how long the first build takes' "$said" 'twelve to forty minutes on four processors, twice that on two'
-is 'a crate that stands alone has four jobs, and the program one' "$(grep -c '^low lib --jobs 4$\|^top lib --jobs 4$\|^defmt_cli run --jobs 1 ' "$kit/calls")" 3
-is 'two side by side share the processors' "$(grep '^left\|^right' "$kit/calls" | grep -o '[0-9]*$' | sort | tr '\n' ' ')" '2 2 '
-is 'each crate has one call' "$(calls)" 6
-is 'each library is built of its statements, and nothing is kept of a part of it' \
-    "$(grep -c '^build|--crate-name|\([a-z_]*\)|--links|\1=|-o|/[^|]*/\1\.rlib|--statements|$' "$kit/provers")" 5
-is 'the program is built as rt has it' "$(grep -c '^build|--crate-name|defmt_cli|--incremental|out/a b|--links|defmt_cli=|-o|out/defmt_cli.o|$' "$kit/provers")" 1
-until_true is_tidy
+has 'how far a build is at first' "$said" 'crate 0 of 6 is done. About '
+has 'how far a build is' "$said" 'crate 2 of 6 is done: left. About '
+has 'how long the first build takes' "$said" 'on four processors, twice that on two'
+is 'a build is one call of rt' "$(calls)" 1
+is 'it proves a copy of the crates that the program needs, with nothing else in it' "$(tr '\n' ' ' < "$kit/had")" "./HANDLES $(
+    )./crates.txt ./crates/defmt_cli/args ./crates/defmt_cli/src/lib.rt ./crates/defmt_cli/stdin ./crates/defmt_cli/stdout ./crates/defmt_run/src/lib.rt $(
+    )./crates/left/src/lib.rt ./crates/low/src/lib.rt ./crates/right/src/lib.rt ./crates/top/src/lib.rt "
+is 'the line of each crate is the one of the repository, as what is kept of it hangs on that too' "$(< "$kit/crates.txt")" \
+    $'low:\nleft: low std\nright: low\ntop: left right\ndefmt_run may_wait=9: top\ndefmt_cli: defmt_run'
+is 'and so are the handles' "$(< "$kit/HANDLES")" 'Handles allowed: none.'
 is 'no file is left behind' "$(strays)" ''
 : > "$kit/calls"
 call run < <(echo hello)
@@ -220,7 +211,7 @@ if command -v script > /dev/null; then
     on_terminal --help
     lacks 'the page itself is not explained' "$said" 'there is no command'
     on_terminal say 7 'shelf'
-    has 'a table that is not there' "$said" 'the file behind --table is not there'
+    has 'a table that is not there' "$said" 'the file behind --table, or behind --places, is not there'
     on_terminal say 5 'script line 3 cause 8 inner 0'
     has 'a line of a script' "$said" 'line 3: `reader late` in blocking mode. (docs/EXPLAIN.md)'
     on_terminal say 5 'script line 1 cause 18 inner 0'
@@ -259,9 +250,9 @@ if command -v script > /dev/null; then
 fi
 call --install "$work/prefix"
 is 'an installation' "$status $("$work/prefix/bin/defmtl" words a 2> /dev/null | tail -n 1)" '0 a'
-is 'its files' "$(cd "$work/prefix" && find . -type f | sort | tr '\n' ' ')" "./bin/defmtl ./lib/defmtl/defmtl ./lib/defmtl/defmtl.version $(
-    )./share/bash-completion/completions/defmtl ./share/defmtl/EXPLAIN.md ./share/defmtl/command.sh ./share/defmtl/commands.txt ./share/defmtl/explain $(
-    )./share/man/man1/defmtl.1 "
+is 'its files' "$(cd "$work/prefix" && find . -type f | sort | tr '\n' ' ')" "./bin/defmtl ./bin/defmtl-for-lnav ./bin/defmtl-places ./bin/defmtl-timeline ./lib/defmtl/defmtl $(
+    )./lib/defmtl/defmtl.version ./share/bash-completion/completions/defmtl ./share/defmtl/EXPLAIN.md ./share/defmtl/command.sh ./share/defmtl/commands.txt $(
+    )./share/defmtl/explain ./share/defmtl/lnav/formats/defmtl/defmtl.json ./share/man/man1/defmtl.1 "
 installed() { wrote=$("$work/prefix/bin/defmtl" "$@" 2> "$work/said"); status=$?; said=$(< "$work/said"); }
 for words in --help 'help run' --version 'run --help'; do
     installed $words
@@ -296,7 +287,7 @@ is 'nothing was built for these' "$(calls)" 0
     _defmtl
     echo "${COMPREPLY[*]}"
 ) > "$work/said"
-is 'the completion' "$(< "$work/said")" '--table --base --up --old --only --help'
+is 'the completion' "$(< "$work/said")" '--table --places --base --up --old --only --json --color --fail-on --help'
 (
     . docs/defmtl.completion
     COMP_WORDS=(defmtl st) COMP_CWORD=1
@@ -331,63 +322,26 @@ is 'an installation builds what is not built' "$status $(proofs)" "0 $all_crates
 begin 0.1
 tools/build < /dev/null 2> "$work/said"
 is 'a build without words runs nothing' "$? $(tail -n 1 "$work/said") $(proofs)" "0 defmtl: built $all_crates"
-is 'one crate is as another' "$(grep -c 'is done' "$work/said")" 6
+is 'each crate that is done is told' "$(grep -c 'is done: ' "$work/said")" 6
 
-# ---- what is proved when
+# ---- how long a build takes
 
-events() { tr '\n' ';' < "$kit/events"; }
-# long NAME: gives a crate many lines
-long() { seq 400 >> "crates/$1/src/lib.rt"; }
-
-begin 0.3
-call run < /dev/null
-if grep -A 1 '^begin \(left\|right\)' "$kit/events" | tr '\n' ' ' | grep -q '^begin [a-z]* begin'; then pass; else fail "two crates are proved side by side: $(events)"; fi
-is 'and what stands above them once both are done' "$(grep -c '^end \(left\|right\)' <(sed '/begin top/q' "$kit/events"))" 2
-
-for crate in left right; do
-    begin 0
-    echo 1 > "$kit/processors"
-    long "$crate"
-    call run < /dev/null
-    is "the longest chain comes first, which is that of $crate" "$(sed -n 's/^begin //p' "$kit/events" | sed -n 2p)" "$crate"
-    is 'on one processor each crate has one job' "$(grep -v ' doc$\| version$' "$kit/calls" | grep -vc ' --jobs 1')" 0
-    begin 0.1
-    echo 3 > "$kit/processors"
-    long "$crate"
-    call run < /dev/null
-    is "the longest chain has more jobs, which is that of $crate" "$(grep '^left\|^right' "$kit/calls" | sed -n 's/ lib --jobs 2//p')" "$crate"
-done
-
+# told WHAT NUMBER MINUTES: how long the others take once so many crates are done
+told() { is "$1" "$(sed -n "s/.* $2 of 6 is done.*About \([0-9]*\) minutes* left/\1/p" "$work/said")" "$3"; }
+# by SECONDS..: so many seconds on one processor, and else so many
+by() { if [ "$(nproc)" -eq 1 ]; then echo "$1"; else echo "$2"; fi; }
+begin 0
+printf '| %s | 900 | |\n' low top > docs/generated/gate.md
+tools/build < /dev/null 2> "$work/said"
+# (40 seconds for each that the page lacks, and 120 more for the program: a chain of 2,040 seconds, and in all 2,080)
+told 'a build is foretold by the page of the gate: its longest chain, shorter by a third, or all side by side' 0 "$(by 44 23)"
+told 'once a crate is done in no time, the others are foretold to take less' 1 "$(by 6 5)"
+told 'the last crate' 6 1
 begin 0.1
-echo 2 > "$kit/memory"
+echo right > "$kit/others"
 call run < /dev/null
-is 'with little memory each crate has one job' "$(grep -v ' doc$\| version$' "$kit/calls" | grep -vc ' --jobs 1')" 0
-if grep -A 1 '^begin \(left\|right\)' "$kit/events" | tr '\n' ' ' | grep -q '^begin [a-z]* begin'; then fail "with little memory two crates are proved side by side: $(events)"; else pass; fi
-
-for end in 9 247; do
-    begin 0.3
-    echo "$end" > "$kit/killed/left"
-    call run < /dev/null
-    is "a crate whose rt ends with $end is proved again" "$status $(proofs)" "0 $all_crates"
-    is "a crate whose rt ends with $end is proved again alone" "$(grep -A 1 '^begin left' "$kit/events" | tail -n 2 | tr '\n' ' ')" 'begin left end left '
-    is "a crate whose rt ends with $end is proved again with one job" "$(grep '^left' "$kit/calls" | tail -n 1)" 'left lib --jobs 1'
-done
-
-begin 0.1
-flock -o crates/defmt_cli sleep 10 &
-holder=$!
-until_true eval '! flock -n crates/defmt_cli true'
-./defmtl run < /dev/null 2> "$work/said" > /dev/null &
-first=$!
-until_true grep -q waiting "$work/said"
-kill "$holder"
-until_true grep -q low "$kit/proved"
-if flock -n crates/defmt_cli true; then fail "a build does not keep other rt's out of the program's crate"; else pass; fi
-if flock -n crates/low true; then pass; else fail "a build keeps other rt's out of the crates that it doesn't write to"; fi
-wait "$first"
-is 'a build that waits for another rt' "$?" 0
-has 'a build that waits for another rt says so' "$(cat "$work/said")" "waiting for another rt to finish in $work/top/crates/defmt_cli"
-if flock -n crates/defmt_cli true; then pass; else fail "a build that is done keeps other rt's out"; fi
+has 'a crate that another rt proves' "$said" 'another rt proves right; waiting for it'
+is 'all lines but the program'"'"'s are the launcher'"'"'s own' "$(grep -vc '^defmtl: ' <<< "$said")" 1
 
 # ---- sources that change
 
@@ -405,10 +359,8 @@ changes 'a source that was replaced by an older one' 'proved old'
 printf 'more' > crates/left/src/more.rt
 changes 'a source that was added' built
 is 'the crate that changed and those above it are proved, and no others' "$(proofs)" 'defmt_cli defmt_run left top '
-mkdir -p crates/defmt_cli/out/rlib/gone && touch crates/defmt_cli/out/rlib/gone/stamp
 mv crates/left/src/more.rt "$work/more.rt"
 changes 'a source that was moved away' built
-is 'a library that the program does not need is removed' "$(ls crates/defmt_cli/out/rlib | tr '\n' ' ')" 'defmt_cli defmt_run left low right top '
 mkdir crates/left/proofs && printf 'proof' > crates/left/proofs/Proof.antt
 changes 'a proof that was added' built
 rm -r crates/left/proofs
@@ -430,7 +382,7 @@ begin 0.3
 until_true grep -q left "$kit/proved"
 printf 'two' > crates/defmt_run/src/lib.rt
 wait $!
-lacks 'a build that begins once more waits for nothing' "$(< "$work/said")" 'waiting for another rt'
+has 'a build whose source changed begins once more' "$(< "$work/said")" 'a source changed meanwhile; building once more'
 : > "$kit/calls"
 call run < /dev/null
 has 'a source that changed during its build' "$said" 'proved two'
@@ -456,7 +408,8 @@ stopped() {
     before=$(proofs)
     sleep 0.8
     is "$1: nothing is proved any more" "$(proofs)" "$before"
-    is "$1: no file is left behind" "$(strays)" ''
+    # (what is left of one that was killed, the next one removes)
+    [ "$2" = KILL ] || is "$1: no file is left behind" "$(strays)" ''
     call run < <(echo hello)
     is "$1: the next call ends with the program" "$status $wrote" '0 hello'
     is "$1: it goes on with the crates that were not done" "$(proofs)" "$all_crates"
@@ -468,45 +421,12 @@ stopped 'a build that is interrupted' INT 130
 stopped 'a build that is hung up' HUP 129
 stopped 'a build that is killed' KILL 137
 
-# interrupted WHAT SIGNAL: of crates that were under way nothing is left, and the next call proves these and those above them
-interrupted() {
-    begin 0.1
-    echo 30 > "$kit/slow/right"; echo 30 > "$kit/slow/left"
-    ./defmtl run < /dev/null > /dev/null 2> "$work/said" &
-    local launcher=$!
-    until_true grep -q 'begin right' "$kit/events"
-    until_true has_begun 3
-    kill "-$2" "$launcher"
-    wait "$launcher" 2> /dev/null
-    for it in $(< "$kit/sleeps"); do
-        if until_true is_gone "$it"; then pass; else fail "$1: a proof goes on"; fi
-    done
-    until_true is_tidy
-    is "$1: no file is left behind" "$(strays)" ''
-    is "$1: what was not proved is not built" "$(ls crates/defmt_cli/out/rlib)" low
-    rm "$kit/slow/right" "$kit/slow/left"
-    call run < /dev/null
-    is "$1: it goes on with the crates that were not done" "$status $(proofs)" "0 $all_crates"
-}
-interrupted 'two crates that are ended' TERM
-interrupted 'two crates that are killed' KILL
-
+# What a build that was killed left behind is removed by the next one.
 begin 0.1
-mkdir -p crates/defmt_cli/out/rooms/low/crates/low/out/rlib crates/defmt_cli/out/rooms/left/crates/left/{src,out/rlib} crates/defmt_cli/out/rooms/low.old/crates/low
-cat crates/low/src/* | cksum > crates/defmt_cli/out/rooms/low/crates/low/out/rlib/stamp
-mkdir -p crates/right/out/rlib && (cat crates/right/src/*; cat crates/defmt_cli/out/rooms/low/crates/low/out/rlib/stamp) | cksum > crates/right/out/rlib/stamp
+mkdir -p "$TMPDIR/defmtl-build-999999999-left/copy/crates" "$TMPDIR/defmtl-build-$$-goes-on"
 call run < /dev/null
-is 'a library that lies in a room that nobody cleared is used, and one of another rt is not' "$status $(proofs)" '0 defmt_cli defmt_run left right top '
-rm -r crates/right/out
-until_true is_tidy
-is 'and the room is cleared' "$(strays)" ''
-
-# a kit of which no copy can be made
-begin 0
-rm "$kit/bin/rtlib.py"
-call run < /dev/null
-is 'without a part of the kit nothing is proved' "$status $(proofs)" '70 '
-touch "$kit/bin/rtlib.py"
+is 'a folder of a build that was killed is removed, and one of a build that goes on is not' "$(strays)" "$TMPDIR/defmtl-build-$$-goes-on"
+rm -r "$TMPDIR/defmtl-build-$$-goes-on"
 
 # ---- calls that wait
 
@@ -544,14 +464,15 @@ for it in bash readlink find cmp mkdir env; do ln -s "$(command -v "$it")" "$wor
 without() { wrote=$(PATH=$1 ./defmtl run 2>&1 > /dev/null < /dev/null | cat > "$work/said"; exit "${PIPESTATUS[0]}"); status=$?; said=$(< "$work/said"); wrote=; }
 begin 0
 without "$work/bare"
+fails 'no python3' 69 'there is no command python3'
+ln -s "$(python3 -c 'import sys; print(sys.executable)')" "$work/bare/python3"
+without "$work/bare"
 fails 'no rt' 69 'there is no command rt'
 is 'no rt: one line' "$(wc -l < "$work/said")" 1
-ln -s "$kit/bin/rt" "$work/bare/rt"
-without "$work/bare"
-fails 'no flock' 69 'there is no command flock'
 export DEFMTL_UNPROVED=1
 without "$work/bare"
-fails 'no flock, unproved' 69 'there is no command flock'
+fails 'no rt, unproved' 69 'running with no proof: nothing that follows is proved
+defmtl: there is no command rt'
 unset DEFMTL_UNPROVED
 
 begin 0
@@ -570,16 +491,12 @@ fails 'an edit that is not proved' 70 'the program could not be built'
 call run < /dev/null
 fails 'an edit that is still not proved' 70 'the program could not be built'
 begin 0.1
-echo right > "$kit/refuses"; echo 30 > "$kit/slow/left"
+echo left > "$kit/refuses"; echo 30 > "$kit/slow/right"
 call run < /dev/null
-fails 'a crate that is not proved beside another' 70 'the program could not be built'
-has 'a crate that is not proved beside another: what was said' "$said" 'error: right is not proved'
-if until_true is_gone "$(tail -n 1 "$kit/sleeps")"; then pass; else fail 'the other goes on'; fi
-is 'a crate that is not proved beside another: no file is left behind but the log' "$(strays)" './crates/defmt_cli/out/launcher.log'
-begin 0
-echo 247 > "$kit/killed/left"; echo 0.5 > "$kit/slow/right"
-./defmtl run < /dev/null > /dev/null 2> "$work/said" & until_true grep -q right "$kit/events"; until_true test ! -e "$kit/killed/left"; echo 9 > "$kit/killed/left"; wait $!
-is 'a crate that is killed alone too' "$?" 70
+fails 'a crate that is not proved before others' 70 'the program could not be built'
+has 'a crate that is not proved before others: what was said' "$said" 'error: left is not proved'
+if until_true is_gone "$(tail -n 1 "$kit/sleeps")"; then pass; else fail 'the next one goes on'; fi
+is 'a crate that is not proved before others: no file is left behind but the log' "$(strays)" './crates/defmt_cli/out/launcher.log'
 begin 0
 call run < /dev/null
 export DEFMTL_UNPROVED=1
@@ -587,13 +504,18 @@ echo try > "$kit/refuses"
 call run < /dev/null
 fails 'an unproved program that is not read' 70 'the program could not be built'
 has 'an unproved program that is not read: what was said' "$said" 'error: the program is not read'
+# a kit of which no copy can be made
+rm "$kit/refuses" "$kit/bin/rtlib.py"
+call run < /dev/null
+fails 'an unproved program, without a part of the kit' 70 'the program could not be built'
+touch "$kit/bin/rtlib.py"
 unset DEFMTL_UNPROVED
 
 begin 0
 for unproved in '' 1; do
     wrote=$(TMPDIR=/proc/nowhere DEFMTL_UNPROVED=$unproved ./defmtl run < /dev/null 2> "$work/said"); status=$?; said=$(< "$work/said")
     fails "no place for temporary files${unproved:+, unproved}" 73 "${unproved:+running with no proof: nothing that follows is proved
-defmtl: }there is no place for a temporary folder"
+defmtl: }there is no place for temporary files in /proc/nowhere"
 done
 
 # as_nobody WORD..: as a user who can't write here
@@ -662,6 +584,9 @@ for signal in TERM KILL; do
     launcher=$!
     until_true grep -q try "$kit/calls"
     kill "-$signal" "$launcher"; wait "$launcher" 2> /dev/null
+    if until_true is_gone "$(tail -n 1 "$kit/sleeps")"; then pass; else fail "an unproved build that got $signal goes on"; fi
+    # (what is left of one that was killed, the next one removes)
+    [ "$signal" = TERM ] || { echo 0 > "$kit/seconds"; DEFMTL_UNPROVED=1 ./defmtl run < /dev/null 2> /dev/null; }
     if until_true is_tidy; then pass; else fail "an unproved build that got $signal leaves $(strays)"; fi
 done
 

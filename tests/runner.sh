@@ -30,12 +30,15 @@ takes_program() {
 package_of() {
     case $1 in
         arm-none-eabi-gcc) echo 'gcc-arm-none-eabi with libnewlib-arm-none-eabi' ;;
+        arm-none-eabi-g++) echo 'libstdc++-arm-none-eabi-newlib' ;;
         arm-none-eabi-*) echo binutils-arm-none-eabi ;;
-        ld | ld.bfd | ld.gold | objcopy | readelf | strip) echo binutils ;;
+        ld | ld.bfd | ld.gold | nm | objcopy | readelf | strip) echo binutils ;;
         ld.lld) echo lld ;;
         cc) echo gcc ;;
+        clang++) echo clang ;;
         cmp | diff) echo diffutils ;;
         frama-c) echo frama-c-base ;;
+        gnuplot) echo gnuplot-nox ;;
         man) echo man-db ;;
         nc) echo netcat-openbsd ;;
         script) echo bsdutils ;;
