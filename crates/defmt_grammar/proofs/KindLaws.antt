@@ -9,12 +9,14 @@ use Rattle.std.proofs.lemmas.List.{nil_from_length}
 use Rattle.std.proofs.lemmas.Option.{same_Some}
 use Rattle.std.proofs.lemmas.Slice.Eq.{bytes_eq-Decides}
 use Rattle.std.proofs.lemmas.Str.Parse.{tells_all_ascii_digits}
+use Rattle.defmt_grammar.specs.declared.language.Language.{Language}
+use Rattle.defmt_grammar.specs.declared.language.Language.TheVariants.{Base, Full}
 use Rattle.defmt_grammar.specs.declared.kind.KindFault.{KindFault}
 use Rattle.defmt_grammar.specs.declared.kind.KindFault.TheVariants.{Unknown, Range, Float}
 use Rattle.defmt_grammar.specs.declared.kind.Kind.{Kind}
 use Rattle.defmt_grammar.specs.declared.kind.Kind.TheVariants.{ByteArray, FormatArray, Bits}
 use Rattle.defmt_grammar.specs.Cut.{cut, behind, strip, skip_spaces, number_of, IsDecimal}
-use Rattle.defmt_grammar.specs.Kind.{kind_names, at_word, named_kind, KindShape, named, float, array, format_array, bits, IsCounted, SpellsShape, kind_in_range, SpellsKind, HasKindFault, ◌>>=◌, ◌or◌, count_of, bits_of, shape_of, kind_read, kind_of}
+use Rattle.defmt_grammar.specs.Kind.{kind_names, full_kind_names, at_word, named_kind, is_left_out, KindShape, named, float, array, format_array, bits, IsCounted, SpellsShape, kind_in_range, SpellsKind, HasKindFault, ◌>>=◌, ◌or◌, count_of, bits_of, shape_of, kind_read, kind_of}
 use Rattle.defmt_grammar.proofs.Cuts.{Lacks-append, Lacks-digits, Lacks-spaces, cut_again, cut_found, strip_again, strip_found, behind_again, behind_found, skip_again, skip_found, skip_digits, number_again, number_found}
 
 pub bind_some : {A B : Type 0} (o : Option A) (f : A → Option B) (y : B) → (o >>= f) ≡ Some y → (x : A) × (o ≡ Some x) × (f x ≡ Some y)
@@ -48,9 +50,9 @@ count_again front text n (sp, ds, spaces, digits, e) =
 
 -- ---- bits
 
-pub bits_found : (text : List ℕ) (p : ℕ × ℕ) → bits_of text ≡ Some p → (lo : ℕ) × (hi : ℕ) × SpellsShape text (bits lo hi) × (p ≡ (min lo (2 ^ 32 - 1), min hi (2 ^ 32 - 1)))
+pub bits_found : (language : Language) (text : List ℕ) (p : ℕ × ℕ) → bits_of text ≡ Some p → (lo : ℕ) × (hi : ℕ) × SpellsShape language text (bits lo hi) × (p ≡ (min lo (2 ^ 32 - 1), min hi (2 ^ 32 - 1)))
 unfolding bits_of
-bits_found text p h =
+bits_found language text p h =
     let a = bind_some (cut 46 text) (λ parts. number_of parts.0 >>= λ lo. behind 46 parts.1 >>= λ rest. number_of rest >>= λ hi. Some (lo, hi)) p h in
     let b = bind_some (number_of a.0.0) (λ lo. behind 46 a.0.1 >>= λ rest. number_of rest >>= λ hi. Some (lo, hi)) p a.2 in
     let c = bind_some (behind 46 a.0.1) (λ rest. number_of rest >>= λ hi. Some (b.0, hi)) p b.2 in
@@ -60,9 +62,9 @@ bits_found text p h =
     let whole : text ≡ a.0.0 ++ 46 ∷ (46 ∷ c.0) = (cut_found 46 text a.0 a.1).0 ∙ ap (λ (r : List ℕ). a.0.0 ++ 46 ∷ r) (behind_found 46 a.0.1 c.0 c.1) in
     (lo.0, hi.0, (a.0.0, c.0, lo.1, hi.1, whole), sym (same_Some _ _ d.2) ∙ ap (λ (x : ℕ). (x, d.0)) lo.2 ∙ ap (λ (x : ℕ). (min lo.0 (2 ^ 32 - 1), x)) hi.2)
 
-pub bits_again : (text : List ℕ) (lo hi : ℕ) → SpellsShape text (bits lo hi) → bits_of text ≡ Some (min lo (2 ^ 32 - 1), min hi (2 ^ 32 - 1))
+pub bits_again : (language : Language) (text : List ℕ) (lo hi : ℕ) → SpellsShape language text (bits lo hi) → bits_of text ≡ Some (min lo (2 ^ 32 - 1), min hi (2 ^ 32 - 1))
 unfolding bits_of
-bits_again text lo hi (low, high, l, h, e) =
+bits_again language text lo hi (low, high, l, h, e) =
     ap bits_of e ∙ rw (cut_again 46 low (46 ∷ high) (Lacks-digits 46 low (inl (omega arith)) l.digits), number_again low lo l, behind_again 46 high, number_again high hi h) refl
 
 -- ---- shapes
@@ -88,38 +90,45 @@ either_word text a b true q e f h = inl ((bytes_eq-Decides text a).0 e)
 either_word text a b false true e f h = inr ((bytes_eq-Decides text b).0 f)
 either_word text a b false false e f h = absurd cc
 
-abbrev Found : List ℕ → KindShape → Type 0
-Found text shape = (s : KindShape) × SpellsShape text s × (capped s ≡ shape)
+abbrev Found : Language → List ℕ → KindShape → Type 0
+Found language text shape = (s : KindShape) × SpellsShape language text s × (capped s ≡ shape)
 
-named_found : (text : List ℕ) (shape : KindShape) → option_map named (named_kind text) ≡ Some shape → Found text shape
-named_found text shape h = let k = map_some named (named_kind text) shape h in (named k.0, k.1, k.2)
+named_found : (language : Language) (text : List ℕ) (shape : KindShape) → option_map named (named_kind language text) ≡ Some shape → Found language text shape
+named_found language text shape h = let k = map_some named (named_kind language text) shape h in (named k.0, k.1, k.2)
 
-float_found : (text : List ℕ) (shape : KindShape) → cond (bytes_eq text (codes "f32") || bytes_eq text (codes "f64")) (Some float) None ≡ Some shape → Found text shape
-float_found text shape h =
+float_found : (language : Language) (text : List ℕ) (shape : KindShape) → cond (is_left_out language text) (Some float) None ≡ Some shape → Found language text shape
+float_found Full text shape h = absurd cc
+float_found Base text shape h =
     let g = guard_some (bytes_eq text (codes "f32") || bytes_eq text (codes "f64")) (Some float) shape h in
     (float, either_word text (codes "f32") (codes "f64") _ _ refl refl g.0, same_Some _ _ g.1)
 
-array_found : (text : List ℕ) (shape : KindShape) → option_map array (count_of (codes "[u8;") text) ≡ Some shape → Found text shape
-array_found text shape h = let k = map_some array (count_of (codes "[u8;") text) shape h in let c = count_found (codes "[u8;") text k.0 k.1 in (array c.0, c.1, ap array (sym c.2) ∙ k.2)
+array_found : (language : Language) (text : List ℕ) (shape : KindShape) → option_map array (count_of (codes "[u8;") text) ≡ Some shape → Found language text shape
+array_found language text shape h = let k = map_some array (count_of (codes "[u8;") text) shape h in let c = count_found (codes "[u8;") text k.0 k.1 in (array c.0, c.1, ap array (sym c.2) ∙ k.2)
 
-format_array_found : (text : List ℕ) (shape : KindShape) → option_map format_array (count_of (codes "[?;") text) ≡ Some shape → Found text shape
-format_array_found text shape h = let k = map_some format_array (count_of (codes "[?;") text) shape h in let c = count_found (codes "[?;") text k.0 k.1 in (format_array c.0, c.1, ap format_array (sym c.2) ∙ k.2)
+format_array_found : (language : Language) (text : List ℕ) (shape : KindShape) → option_map format_array (count_of (codes "[?;") text) ≡ Some shape → Found language text shape
+format_array_found language text shape h = let k = map_some format_array (count_of (codes "[?;") text) shape h in let c = count_found (codes "[?;") text k.0 k.1 in (format_array c.0, c.1, ap format_array (sym c.2) ∙ k.2)
 
-bits_shape_found : (text : List ℕ) (shape : KindShape) → option_map (λ (p : ℕ × ℕ). bits p.0 p.1) (bits_of text) ≡ Some shape → Found text shape
-bits_shape_found text shape h = let k = map_some (λ (p : ℕ × ℕ). bits p.0 p.1) (bits_of text) shape h in let c = bits_found text k.0 k.1 in (bits c.0 c.1, c.2, sym (ap (λ (p : ℕ × ℕ). bits p.0 p.1) c.3) ∙ k.2)
+bits_shape_found : (language : Language) (text : List ℕ) (shape : KindShape) → option_map (λ (p : ℕ × ℕ). bits p.0 p.1) (bits_of text) ≡ Some shape → Found language text shape
+bits_shape_found language text shape h = let k = map_some (λ (p : ℕ × ℕ). bits p.0 p.1) (bits_of text) shape h in let c = bits_found language text k.0 k.1 in (bits c.0 c.1, c.2, sym (ap (λ (p : ℕ × ℕ). bits p.0 p.1) c.3) ∙ k.2)
 
-pub shape_found : (text : List ℕ) (shape : KindShape) → shape_of text ≡ Some shape → Found text shape
+abbrev named_of : Language → List ℕ → Option KindShape
+named_of language text = option_map named (named_kind language text)
+
+abbrev float_of : Language → List ℕ → Option KindShape
+float_of language text = cond (is_left_out language text) (Some float) None
+
+pub shape_found : (language : Language) (text : List ℕ) (shape : KindShape) → shape_of language text ≡ Some shape → Found language text shape
 unfolding shape_of
-shape_found text shape h =
-    elim (or_some (option_map named (named_kind text) or cond (bytes_eq text (codes "f32") || bytes_eq text (codes "f64")) (Some float) None or option_map array (count_of (codes "[u8;") text) or option_map format_array (count_of (codes "[?;") text)) (option_map (λ (p : ℕ × ℕ). bits p.0 p.1) (bits_of text)) shape h) [
-      | inr e ↦ bits_shape_found text shape e
-      | inl h ↦ elim (or_some (option_map named (named_kind text) or cond (bytes_eq text (codes "f32") || bytes_eq text (codes "f64")) (Some float) None or option_map array (count_of (codes "[u8;") text)) (option_map format_array (count_of (codes "[?;") text)) shape h) [
-        | inr e ↦ format_array_found text shape e
-        | inl h ↦ elim (or_some (option_map named (named_kind text) or cond (bytes_eq text (codes "f32") || bytes_eq text (codes "f64")) (Some float) None) (option_map array (count_of (codes "[u8;") text)) shape h) [
-          | inr e ↦ array_found text shape e
-          | inl h ↦ elim (or_some (option_map named (named_kind text)) (cond (bytes_eq text (codes "f32") || bytes_eq text (codes "f64")) (Some float) None) shape h) [
-            | inr e ↦ float_found text shape e
-            | inl e ↦ named_found text shape e
+shape_found language text shape h =
+    elim (or_some (named_of language text or float_of language text or option_map array (count_of (codes "[u8;") text) or option_map format_array (count_of (codes "[?;") text)) (option_map (λ (p : ℕ × ℕ). bits p.0 p.1) (bits_of text)) shape h) [
+      | inr e ↦ bits_shape_found language text shape e
+      | inl h ↦ elim (or_some (named_of language text or float_of language text or option_map array (count_of (codes "[u8;") text)) (option_map format_array (count_of (codes "[?;") text)) shape h) [
+        | inr e ↦ format_array_found language text shape e
+        | inl h ↦ elim (or_some (named_of language text or float_of language text) (option_map array (count_of (codes "[u8;") text)) shape h) [
+          | inr e ↦ array_found language text shape e
+          | inl h ↦ elim (or_some (named_of language text) (float_of language text) shape h) [
+            | inr e ↦ float_found language text shape e
+            | inl e ↦ named_found language text shape e
           ]
         ]
       ]
@@ -134,6 +143,10 @@ no_word d ds [] low h = refl
 no_word d ds (([], kind) ∷ es) low h = no_word d ds es low (and_parts (ltb 57 0) _ h).1
 no_word d ds ((x ∷ xs, kind) ∷ es) low h = let k = and_parts (ltb 57 x) _ h in rw (differ d x low k.0) (no_word d ds es low k.1)
 
+begin_late : (language : Language) → list_all (λ e. ltb 57 (get_or e.0 0 0)) (kind_names language) ≡ true
+begin_late Base = refl
+begin_late Full = refl
+
 begins_with_digit : (ds : List ℕ) (n : ℕ) → IsDecimal ds n → (d : ℕ) × (rest : List ℕ) × (ds ≡ d ∷ rest) × (d ≤ 57) × (48 ≤ d)
 begins_with_digit [] n h = absurd (omega (arith, h.some))
 begins_with_digit (d ∷ rest) n h = let k = tells_all_ascii_digits.parts d rest h.digits in (d, rest, refl, k.0.1, k.0.0)
@@ -147,12 +160,6 @@ fourth a b c d e s p q r t = rw (p, q, r, t) refl
 fifth : (a b c d e : Option KindShape) (s : KindShape) → a ≡ None → b ≡ None → c ≡ None → d ≡ None → e ≡ Some s → (a or b or c or d or e) ≡ Some s
 fifth a b c d e s p q r t u = rw (p, q, r, t, u) refl
 
-abbrev named_of : List ℕ → Option KindShape
-named_of text = option_map named (named_kind text)
-
-abbrev float_of : List ℕ → Option KindShape
-float_of text = cond (bytes_eq text (codes "f32") || bytes_eq text (codes "f64")) (Some float) None
-
 other_front : (rest : List ℕ) → count_of (codes "[u8;") (codes "[?;" ++ rest) ≡ None
 unfolding count_of strip
 other_front rest = refl
@@ -161,30 +168,60 @@ digit_front : (front : List ℕ) (d : ℕ) (rest : List ℕ) → d ≤ 57 → co
 unfolding count_of strip
 digit_front front d rest low = rw (differ d 91 low refl) refl
 
-digit_float : (d : ℕ) (rest : List ℕ) → d ≤ 57 → float_of (d ∷ rest) ≡ None
-digit_float d rest low = rw (differ d 102 low refl) refl
+digit_float : (language : Language) (d : ℕ) (rest : List ℕ) → d ≤ 57 → float_of language (d ∷ rest) ≡ None
+digit_float Base d rest low = rw (differ d 102 low refl) refl
+digit_float Full d rest low = refl
 
-pub shape_again : (text : List ℕ) (shape : KindShape) → SpellsShape text shape → shape_of text ≡ Some (capped shape)
+-- no word of the full language alone begins with a bracket
+bracket_word : (language : Language) (rest : List ℕ) → at_word (91 ∷ rest) (full_kind_names language) ≡ None
+bracket_word Base rest = refl
+bracket_word Full rest = refl
+
+bracket_float : (language : Language) (rest : List ℕ) → float_of language (91 ∷ rest) ≡ None
+bracket_float Base rest = refl
+bracket_float Full rest = refl
+
+array_named : (language : Language) (rest : List ℕ) → named_of language (codes "[u8;" ++ rest) ≡ None
+array_named language rest = ap (option_map named) (bracket_word language (codes "u8;" ++ rest))
+
+format_array_named : (language : Language) (rest : List ℕ) → named_of language (codes "[?;" ++ rest) ≡ None
+format_array_named language rest = ap (option_map named) (bracket_word language (codes "?;" ++ rest))
+
+float_again : (language : Language) (text : List ℕ) → SpellsShape language text float → shape_of language text ≡ Some float
 unfolding shape_of
-shape_again text (named kind) h = rw h refl
-shape_again text float h = elim h [ inl e ↦ ap shape_of e | inr e ↦ ap shape_of e ]
-shape_again text (array n) h =
-    let e : text ≡ codes "[u8;" ++ (h.0 ++ (h.1 ++ codes "]")) = h.4 in
+float_again Base text (inl e) = ap (shape_of Base) e
+float_again Base text (inr e) = ap (shape_of Base) e
+float_again Full text h = absurd h
+
+pub shape_again : (language : Language) (text : List ℕ) (shape : KindShape) → SpellsShape language text shape → shape_of language text ≡ Some (capped shape)
+unfolding shape_of
+shape_again language text (named kind) h = rw h refl
+shape_again language text float h = float_again language text h
+shape_again language text (array n) h =
+    let rest = h.0 ++ (h.1 ++ codes "]") in
+    let e : text ≡ codes "[u8;" ++ rest = h.4 in
     let c : option_map array (count_of (codes "[u8;") text) ≡ Some (capped (array n)) = ap (option_map array) (count_again (codes "[u8;") text n h) in
-    third (named_of text) (float_of text) (option_map array (count_of (codes "[u8;") text)) (option_map format_array (count_of (codes "[?;") text)) (option_map (λ (p : ℕ × ℕ). bits p.0 p.1) (bits_of text)) (capped (array n)) (ap named_of e) (ap float_of e) c
-shape_again text (format_array n) h =
-    let e : text ≡ codes "[?;" ++ (h.0 ++ (h.1 ++ codes "]")) = h.4 in
-    let b : option_map array (count_of (codes "[u8;") text) ≡ None = ap (λ (t : List ℕ). option_map array (count_of (codes "[u8;") t)) e ∙ ap (option_map array) (other_front (h.0 ++ (h.1 ++ codes "]"))) in
+    third (named_of language text) (float_of language text) (option_map array (count_of (codes "[u8;") text)) (option_map format_array (count_of (codes "[?;") text)) (option_map (λ (p : ℕ × ℕ). bits p.0 p.1) (bits_of text)) (capped (array n))
+    (ap (named_of language) e ∙ array_named language rest)
+    (ap (float_of language) e ∙ bracket_float language (codes "u8;" ++ rest))
+    c
+shape_again language text (format_array n) h =
+    let rest = h.0 ++ (h.1 ++ codes "]") in
+    let e : text ≡ codes "[?;" ++ rest = h.4 in
+    let b : option_map array (count_of (codes "[u8;") text) ≡ None = ap (λ (t : List ℕ). option_map array (count_of (codes "[u8;") t)) e ∙ ap (option_map array) (other_front rest) in
     let c : option_map format_array (count_of (codes "[?;") text) ≡ Some (capped (format_array n)) = ap (option_map format_array) (count_again (codes "[?;") text n h) in
-    fourth (named_of text) (float_of text) (option_map array (count_of (codes "[u8;") text)) (option_map format_array (count_of (codes "[?;") text)) (option_map (λ (p : ℕ × ℕ). bits p.0 p.1) (bits_of text)) (capped (format_array n)) (ap named_of e) (ap float_of e) b c
-shape_again text (bits lo hi) h =
-    let f = ap (option_map (λ (p : ℕ × ℕ). bits p.0 p.1)) (bits_again text lo hi h) in
+    fourth (named_of language text) (float_of language text) (option_map array (count_of (codes "[u8;") text)) (option_map format_array (count_of (codes "[?;") text)) (option_map (λ (p : ℕ × ℕ). bits p.0 p.1) (bits_of text)) (capped (format_array n))
+    (ap (named_of language) e ∙ format_array_named language rest)
+    (ap (float_of language) e ∙ bracket_float language (codes "?;" ++ rest))
+    b c
+shape_again language text (bits lo hi) h =
+    let f = ap (option_map (λ (p : ℕ × ℕ). bits p.0 p.1)) (bits_again language text lo hi h) in
     let d = begins_with_digit h.0 lo h.2 in
     let rest = d.1 ++ (46 ∷ (46 ∷ h.1)) in
     let e : text ≡ d.0 ∷ rest = h.4 ∙ ap (λ (r : List ℕ). r ++ (46 ∷ (46 ∷ h.1))) d.2 in
-    fifth (named_of text) (float_of text) (option_map array (count_of (codes "[u8;") text)) (option_map format_array (count_of (codes "[?;") text)) (option_map (λ (p : ℕ × ℕ). bits p.0 p.1) (bits_of text)) (capped (bits lo hi))
-    (ap named_of e ∙ ap (option_map named) (no_word d.0 rest kind_names d.3 refl))
-    (ap float_of e ∙ digit_float d.0 rest d.3)
+    fifth (named_of language text) (float_of language text) (option_map array (count_of (codes "[u8;") text)) (option_map format_array (count_of (codes "[?;") text)) (option_map (λ (p : ℕ × ℕ). bits p.0 p.1) (bits_of text)) (capped (bits lo hi))
+    (ap (named_of language) e ∙ ap (option_map named) (no_word d.0 rest (kind_names language) d.3 (begin_late language)))
+    (ap (float_of language) e ∙ digit_float language d.0 rest d.3)
     (ap (λ (t : List ℕ). option_map array (count_of (codes "[u8;") t)) e ∙ ap (option_map array) (digit_front (codes "u8;") d.0 rest d.3))
     (ap (λ (t : List ℕ). option_map format_array (count_of (codes "[?;") t)) e ∙ ap (option_map format_array) (digit_front (codes "?;") d.0 rest d.3))
     f
@@ -226,9 +263,9 @@ capped_in_range (bits lo hi) = elim (cases_lt hi 129) [
 abbrev pub okay : Kind → Result Kind KindFault
 okay kind = Ok kind
 
-found_of : (text : List ℕ) (kind : Kind) (o : Option KindShape) → shape_of text ≡ o → kind_read o ≡ okay kind → SpellsKind text kind
-found_of text kind None e h = absurd cc
-found_of text kind (Some shape) e h = let k = shape_found text shape e in (k.0, k.1, sym (capped_in_range k.0) ∙ ap kind_in_range k.2 ∙ h)
+found_of : (language : Language) (text : List ℕ) (kind : Kind) (o : Option KindShape) → shape_of language text ≡ o → kind_read o ≡ okay kind → SpellsKind language text kind
+found_of language text kind None e h = absurd cc
+found_of language text kind (Some shape) e h = let k = shape_found language text shape e in (k.0, k.1, sym (capped_in_range k.0) ∙ ap kind_in_range k.2 ∙ h)
 
 not_either : (b : Bool) (kind : Kind) → cond b (okay kind) (Err Range) ≡ Err Unknown → ⊥
 not_either true kind h = cc
@@ -241,32 +278,32 @@ not_unknown (array n) h = not_either (leb n 65535) (ByteArray n) h
 not_unknown (format_array n) h = not_either (leb n 65535) (FormatArray n) h
 not_unknown (bits lo hi) h = not_either (ltb lo hi && leb hi 128) (Bits lo hi) h
 
-fault_of : (text : List ℕ) (fault : KindFault) (o : Option KindShape) → shape_of text ≡ o → kind_read o ≡ Err fault → HasKindFault text fault
-fault_of text Unknown None e h = λ shape spells. let k = shape_again text shape spells in absurd cc
-fault_of text Range None e h = absurd cc
-fault_of text Float None e h = absurd cc
-fault_of text Unknown (Some shape) e h = absurd (not_unknown shape h)
-fault_of text Range (Some shape) e h = let k = shape_found text shape e in (k.0, k.1, sym (capped_in_range k.0) ∙ ap kind_in_range k.2 ∙ h)
-fault_of text Float (Some shape) e h = let k = shape_found text shape e in (k.0, k.1, sym (capped_in_range k.0) ∙ ap kind_in_range k.2 ∙ h)
+fault_of : (language : Language) (text : List ℕ) (fault : KindFault) (o : Option KindShape) → shape_of language text ≡ o → kind_read o ≡ Err fault → HasKindFault language text fault
+fault_of language text Unknown None e h = λ shape spells. let k = shape_again language text shape spells in absurd cc
+fault_of language text Range None e h = absurd cc
+fault_of language text Float None e h = absurd cc
+fault_of language text Unknown (Some shape) e h = absurd (not_unknown shape h)
+fault_of language text Range (Some shape) e h = let k = shape_found language text shape e in (k.0, k.1, sym (capped_in_range k.0) ∙ ap kind_in_range k.2 ∙ h)
+fault_of language text Float (Some shape) e h = let k = shape_found language text shape e in (k.0, k.1, sym (capped_in_range k.0) ∙ ap kind_in_range k.2 ∙ h)
 
-unknown_of : (text : List ℕ) (o : Option KindShape) → shape_of text ≡ o → HasKindFault text Unknown → kind_read o ≡ Err Unknown
-unknown_of text None e h = refl
-unknown_of text (Some shape) e h = let k = shape_found text shape e in absurd (h k.0 k.1)
+unknown_of : (language : Language) (text : List ℕ) (o : Option KindShape) → shape_of language text ≡ o → HasKindFault language text Unknown → kind_read o ≡ Err Unknown
+unknown_of language text None e h = refl
+unknown_of language text (Some shape) e h = let k = shape_found language text shape e in absurd (h k.0 k.1)
 
-pub kind_found : (text : List ℕ) (kind : Kind) → kind_of text ≡ okay kind → SpellsKind text kind
+pub kind_found : (language : Language) (text : List ℕ) (kind : Kind) → kind_of language text ≡ okay kind → SpellsKind language text kind
 unfolding kind_of
-kind_found text kind h = found_of text kind (shape_of text) refl h
+kind_found language text kind h = found_of language text kind (shape_of language text) refl h
 
-pub kind_again : (text : List ℕ) (kind : Kind) → SpellsKind text kind → kind_of text ≡ okay kind
+pub kind_again : (language : Language) (text : List ℕ) (kind : Kind) → SpellsKind language text kind → kind_of language text ≡ okay kind
 unfolding kind_of
-kind_again text kind (shape, spells, e) = ap kind_read (shape_again text shape spells) ∙ capped_in_range shape ∙ e
+kind_again language text kind (shape, spells, e) = ap kind_read (shape_again language text shape spells) ∙ capped_in_range shape ∙ e
 
-pub fault_found : (text : List ℕ) (fault : KindFault) → kind_of text ≡ Err fault → HasKindFault text fault
+pub fault_found : (language : Language) (text : List ℕ) (fault : KindFault) → kind_of language text ≡ Err fault → HasKindFault language text fault
 unfolding kind_of
-fault_found text fault h = fault_of text fault (shape_of text) refl h
+fault_found language text fault h = fault_of language text fault (shape_of language text) refl h
 
-pub fault_again : (text : List ℕ) (fault : KindFault) → HasKindFault text fault → kind_of text ≡ Err fault
+pub fault_again : (language : Language) (text : List ℕ) (fault : KindFault) → HasKindFault language text fault → kind_of language text ≡ Err fault
 unfolding kind_of
-fault_again text Unknown h = unknown_of text (shape_of text) refl h
-fault_again text Range (shape, spells, e) = ap kind_read (shape_again text shape spells) ∙ capped_in_range shape ∙ e
-fault_again text Float (shape, spells, e) = ap kind_read (shape_again text shape spells) ∙ capped_in_range shape ∙ e
+fault_again language text Unknown h = unknown_of language text (shape_of language text) refl h
+fault_again language text Range (shape, spells, e) = ap kind_read (shape_again language text shape spells) ∙ capped_in_range shape ∙ e
+fault_again language text Float (shape, spells, e) = ap kind_read (shape_again language text shape spells) ∙ capped_in_range shape ∙ e

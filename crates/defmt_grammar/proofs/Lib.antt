@@ -1,4 +1,5 @@
 pub mod Cuts
+pub mod Words
 pub mod KindLaws
 pub mod HintLaws
 pub mod Leads
@@ -18,3 +19,4 @@ pub mod Wholes
 pub mod PiecesLaws
 pub mod PrintLaws
 pub mod ReadsBack
+pub mod BaseLaws

@@ -11,7 +11,8 @@ use Rattle.defmt_grammar.specs.declared.fault.Cause.{Cause}
 use Rattle.defmt_grammar.specs.declared.fault.Cause.TheVariants as causes
 use Rattle.defmt_grammar.specs.declared.fault.Fault.{Fault}
 use Rattle.defmt_grammar.specs.declared.fault.Mode.{Mode}
-use Rattle.defmt_grammar.specs.declared.fault.Mode.TheVariants.{Strict, Lenient}
+use Rattle.defmt_grammar.specs.declared.language.Language.{Language}
+use Rattle.defmt_grammar.specs.Language.{language_of, is_lenient}
 use Rattle.defmt_grammar.specs.declared.kind.Kind.{Kind}
 use Rattle.defmt_grammar.specs.declared.kind.Kind.TheVariants.{Format}
 use Rattle.defmt_grammar.specs.declared.kind.KindFault.{KindFault}
@@ -287,51 +288,54 @@ kind_at_err : (at : ℕ) (r : Result Kind KindFault) (f : Fault) → kind_at at 
 kind_at_err at (Ok k) f h = absurd cc
 kind_at_err at (Err k) f h = (k, refl, sym (err_is {A = Kind} (fault_at (cause_of k) at) f h))
 
-pub kind_part_found : (text : Option (List ℕ)) (at : ℕ) (kind : Kind) → kind_part_of text at ≡ Ok kind → SpellsKindPart text kind
-kind_part_found None at kind h = sym (okay_is Format kind h)
-kind_part_found (Some text) at kind h = kind_found text kind (kind_at_ok at (kind_of text) kind h)
+pub kind_part_found : (language : Language) (text : Option (List ℕ)) (at : ℕ) (kind : Kind) → kind_part_of language text at ≡ Ok kind → SpellsKindPart language text kind
+kind_part_found language None at kind h = sym (okay_is Format kind h)
+kind_part_found language (Some text) at kind h = kind_found language text kind (kind_at_ok at (kind_of language text) kind h)
 
-pub kind_part_again : (text : Option (List ℕ)) (at : ℕ) (kind : Kind) → SpellsKindPart text kind → kind_part_of text at ≡ Ok kind
-kind_part_again None at kind h = ap Ok (sym h)
-kind_part_again (Some text) at kind h = ap (kind_at at) (kind_again text kind h)
+pub kind_part_again : (language : Language) (text : Option (List ℕ)) (at : ℕ) (kind : Kind) → SpellsKindPart language text kind → kind_part_of language text at ≡ Ok kind
+kind_part_again language None at kind h = ap Ok (sym h)
+kind_part_again language (Some text) at kind h = ap (kind_at at) (kind_again language text kind h)
 
-pub kind_part_err : (text : Option (List ℕ)) (at : ℕ) (f : Fault) → kind_part_of text at ≡ Err f → (t : List ℕ) × (k : KindFault) × (text ≡ Some t) × HasKindFault t k × (f ≡ fault_at (cause_of k) at)
-kind_part_err None at f h = absurd cc
-kind_part_err (Some text) at f h = let k = kind_at_err at (kind_of text) f h in (text, k.0, refl, fault_found text k.0 k.1, k.2)
+pub kind_part_err : (language : Language) (text : Option (List ℕ)) (at : ℕ) (f : Fault) → kind_part_of language text at ≡ Err f → (t : List ℕ) × (k : KindFault) × (text ≡ Some t) × HasKindFault language t k × (f ≡ fault_at (cause_of k) at)
+kind_part_err language None at f h = absurd cc
+kind_part_err language (Some text) at f h = let k = kind_at_err at (kind_of language text) f h in (text, k.0, refl, fault_found language text k.0 k.1, k.2)
 
-spells_none : (text : List ℕ) → hint_of text ≡ None → SpellsNoHint text
-spells_none text e = λ hint spells. let k = hint_again text hint spells in absurd cc
+spells_none : (language : Language) (text : List ℕ) → hint_of language text ≡ None → SpellsNoHint language text
+spells_none language text e = λ hint spells. let k = hint_again language text hint spells in absurd cc
 
-reads_none : (text : List ℕ) (o : Option Hint) → hint_of text ≡ o → SpellsNoHint text → o ≡ None
-reads_none text None e h = refl
-reads_none text (Some hint) e h = absurd (h hint (hint_found text hint e))
+reads_none : (language : Language) (text : List ℕ) (o : Option Hint) → hint_of language text ≡ o → SpellsNoHint language text → o ≡ None
+reads_none language text None e h = refl
+reads_none language text (Some hint) e h = absurd (h hint (hint_found language text hint e))
 
-hint_at_found : (mode : Mode) (at : ℕ) (text : List ℕ) (o : Option Hint) (hint : Hint) → hint_of text ≡ o → hint_at mode at o ≡ Ok hint → SpellsHintPart mode (Some text) hint
-hint_at_found Strict at text (Some h) hint e k = hint_found text hint (e ∙ ap Some (okay_is h hint k))
-hint_at_found Strict at text None hint e k = absurd cc
-hint_at_found Lenient at text (Some h) hint e k = inl (hint_found text hint (e ∙ ap Some (okay_is h hint k)))
-hint_at_found Lenient at text None hint e k = inr (spells_none text e, sym (okay_is Plain hint k))
+-- where no hint is known, it is read as Plain, or refused
+unknown_found : (b : Bool) (at : ℕ) (hint : Hint) → cond b (done Plain) (failed (fault_at causes.Hint at)) ≡ Ok hint → (b ≡ true) × (hint ≡ Plain)
+unknown_found true at hint k = (refl, sym (okay_is Plain hint k))
+unknown_found false at hint k = absurd cc
+
+unknown_err : (b : Bool) (at : ℕ) (f : Fault) → cond b (done Plain) (failed (fault_at causes.Hint at)) ≡ Err f → (b ≡ false) × (f ≡ fault_at causes.Hint at)
+unknown_err true at f k = absurd cc
+unknown_err false at f k = (refl, sym (err_is {A = Hint} (fault_at causes.Hint at) f k))
+
+hint_at_found : (mode : Mode) (at : ℕ) (text : List ℕ) (o : Option Hint) (hint : Hint) → hint_of (language_of mode) text ≡ o → hint_at mode at o ≡ Ok hint → SpellsHintPart mode (Some text) hint
+hint_at_found mode at text (Some h) hint e k = inl (hint_found (language_of mode) text hint (e ∙ ap Some (okay_is h hint k)))
+hint_at_found mode at text None hint e k = let u = unknown_found (is_lenient mode) at hint k in inr (u.0, spells_none (language_of mode) text e, u.1)
 
 pub hint_part_found : (mode : Mode) (text : Option (List ℕ)) (at : ℕ) (hint : Hint) → hint_part_of mode text at ≡ Ok hint → SpellsHintPart mode text hint
-hint_part_found Strict None at hint h = sym (okay_is Plain hint h)
-hint_part_found Lenient None at hint h = sym (okay_is Plain hint h)
-hint_part_found mode (Some text) at hint h = hint_at_found mode at text (hint_of text) hint refl h
+hint_part_found mode None at hint h = sym (okay_is Plain hint h)
+hint_part_found mode (Some text) at hint h = hint_at_found mode at text (hint_of (language_of mode) text) hint refl h
 
 pub hint_part_again : (mode : Mode) (text : Option (List ℕ)) (at : ℕ) (hint : Hint) → SpellsHintPart mode text hint → hint_part_of mode text at ≡ Ok hint
-hint_part_again Strict None at hint h = ap Ok (sym h)
-hint_part_again Lenient None at hint h = ap Ok (sym h)
-hint_part_again Strict (Some text) at hint h = ap (hint_at Strict at) (hint_again text hint h)
-hint_part_again Lenient (Some text) at hint (inl h) = ap (hint_at Lenient at) (hint_again text hint h)
-hint_part_again Lenient (Some text) at hint (inr (none, plain)) = ap (hint_at Lenient at) (reads_none text (hint_of text) refl none) ∙ ap Ok (sym plain)
+hint_part_again mode None at hint h = ap Ok (sym h)
+hint_part_again mode (Some text) at hint (inl h) = ap (hint_at mode at) (hint_again (language_of mode) text hint h)
+hint_part_again mode (Some text) at hint (inr (lenient, none, plain)) = ap (hint_at mode at) (reads_none (language_of mode) text (hint_of (language_of mode) text) refl none) ∙ rw lenient (ap Ok (sym plain))
 
-hint_at_err : (mode : Mode) (at : ℕ) (text : List ℕ) (o : Option Hint) (f : Fault) → hint_of text ≡ o → hint_at mode at o ≡ Err f → SpellsNoHint text × (mode ≡ Strict) × (f ≡ fault_at causes.Hint at)
+hint_at_err : (mode : Mode) (at : ℕ) (text : List ℕ) (o : Option Hint) (f : Fault) → hint_of (language_of mode) text ≡ o → hint_at mode at o ≡ Err f → SpellsNoHint (language_of mode) text × (is_lenient mode ≡ false) × (f ≡ fault_at causes.Hint at)
 hint_at_err mode at text (Some h) f e k = absurd cc
-hint_at_err Lenient at text None f e k = absurd cc
-hint_at_err Strict at text None f e k = (spells_none text e, refl, sym (err_is {A = Hint} (fault_at causes.Hint at) f k))
+hint_at_err mode at text None f e k = let u = unknown_err (is_lenient mode) at f k in (spells_none (language_of mode) text e, u.0, u.1)
 
-pub hint_part_err : (mode : Mode) (text : Option (List ℕ)) (at : ℕ) (f : Fault) → hint_part_of mode text at ≡ Err f → (t : List ℕ) × (text ≡ Some t) × SpellsNoHint t × (mode ≡ Strict) × (f ≡ fault_at causes.Hint at)
+pub hint_part_err : (mode : Mode) (text : Option (List ℕ)) (at : ℕ) (f : Fault) → hint_part_of mode text at ≡ Err f → (t : List ℕ) × (text ≡ Some t) × SpellsNoHint (language_of mode) t × (is_lenient mode ≡ false) × (f ≡ fault_at causes.Hint at)
 hint_part_err mode None at f h = absurd cc
-hint_part_err mode (Some text) at f h = let k = hint_at_err mode at text (hint_of text) f refl h in (text, refl, k.0, k.1, k.2)
+hint_part_err mode (Some text) at f h = let k = hint_at_err mode at text (hint_of (language_of mode) text) f refl h in (text, refl, k.0, k.1, k.2)
 
 -- ---- parameters
 
@@ -369,7 +373,7 @@ abbrev after_kind : Mode → ℕ → List ℕ → Parts → ℕ → Kind → Res
 after_kind mode next inside w position kind = hint_part_of mode w.hint (length inside + 1 - hint_len w.hint) >>= after_hint next w.digits position kind
 
 abbrev after_position : Mode → ℕ → List ℕ → Parts → ℕ → Result (Param × ℕ) Fault
-after_position mode next inside w position = kind_part_of w.kind (length w.digits + 2) >>= after_kind mode next inside w position
+after_position mode next inside w position = kind_part_of (language_of mode) w.kind (length w.digits + 2) >>= after_kind mode next inside w position
 
 abbrev after_parts : Mode → ℕ → List ℕ → Parts → Result (Param × ℕ) Fault
 after_parts mode next inside w = position_of next w.digits >>= after_position mode next inside w
@@ -381,7 +385,7 @@ param_found mode next inside p h =
     let w = written_found inside a.0 a.1 in
     let b = bind_okay (position_of next a.0.digits) (after_position mode next inside a.0) p a.2 in
     let n = position_found next a.0.digits b.0 w.digits b.1 in
-    let c = bind_okay (kind_part_of a.0.kind (length a.0.digits + 2)) (after_kind mode next inside a.0 b.0) p b.2 in
+    let c = bind_okay (kind_part_of (language_of mode) a.0.kind (length a.0.digits + 2)) (after_kind mode next inside a.0 b.0) p b.2 in
     let d = bind_okay (hint_part_of mode a.0.hint (length inside + 1 - hint_len a.0.hint)) (after_hint next a.0.digits b.0 c.0) p c.2 in
     subst (λ (q : Param × ℕ). SpellsParam mode next inside q.0 q.1) (okay_is (made b.0 c.0 d.0 (next_of next a.0.digits)) p d.2)
     (record {
@@ -389,7 +393,7 @@ param_found mode next inside p h =
       writes = w;
       position = n.0;
       few = n.1;
-      kind = kind_part_found a.0.kind (length a.0.digits + 2) c.0 c.1;
+      kind = kind_part_found (language_of mode) a.0.kind (length a.0.digits + 2) c.0 c.1;
       hint = hint_part_found mode a.0.hint (length inside + 1 - hint_len a.0.hint) d.0 d.1;
       after_is = next_is next a.0.digits;
     })
@@ -400,11 +404,11 @@ param_again mode next inside p n s =
     let w = s.parts in
     let a : param_of mode next inside ≡ after_parts mode next inside w = ap (λ (r : Result Parts Fault). r >>= after_parts mode next inside) (written_again inside w s.writes) in
     let b : after_parts mode next inside w ≡ after_position mode next inside w p.position = ap (λ (r : Result ℕ Fault). r >>= after_position mode next inside w) (position_again next w.digits p.position s.writes.digits s.position s.few) in
-    let c : after_position mode next inside w p.position ≡ after_kind mode next inside w p.position p.kind = ap (λ (r : Result Kind Fault). r >>= after_kind mode next inside w p.position) (kind_part_again w.kind (length w.digits + 2) p.kind s.kind) in
+    let c : after_position mode next inside w p.position ≡ after_kind mode next inside w p.position p.kind = ap (λ (r : Result Kind Fault). r >>= after_kind mode next inside w p.position) (kind_part_again (language_of mode) w.kind (length w.digits + 2) p.kind s.kind) in
     let d : after_kind mode next inside w p.position p.kind ≡ after_hint next w.digits p.position p.kind p.hint = ap (λ (r : Result Hint Fault). r >>= after_hint next w.digits p.position p.kind) (hint_part_again mode w.hint (length inside + 1 - hint_len w.hint) p.hint s.hint) in
     a ∙ b ∙ c ∙ d ∙ ap (λ (k : ℕ). Ok (p, k)) (next_is next w.digits ∙ sym s.after_is)
 
-kind_err : (mode : Mode) (next : ℕ) (inside : List ℕ) (w : Parts) (n : ℕ) (kind : Kind) (f : Fault) → Writes inside w → IsPosition next w.digits n → n ≤ 15 → SpellsKindPart w.kind kind → after_kind mode next inside w n kind ≡ Err f → HasParamFault mode next inside f
+kind_err : (mode : Mode) (next : ℕ) (inside : List ℕ) (w : Parts) (n : ℕ) (kind : Kind) (f : Fault) → Writes inside w → IsPosition next w.digits n → n ≤ 15 → SpellsKindPart (language_of mode) w.kind kind → after_kind mode next inside w n kind ≡ Err f → HasParamFault mode next inside f
 kind_err mode next inside w n kind f writes position few spells h =
     elim (bind_err (hint_part_of mode w.hint (length inside + 1 - hint_len w.hint)) (after_hint next w.digits n kind) f h) [
       | inr a ↦ absurd (let k = a.2 in cc)
@@ -416,12 +420,12 @@ kind_err mode next inside w n kind f writes position few spells h =
 
 position_fault : (mode : Mode) (next : ℕ) (inside : List ℕ) (w : Parts) (n : ℕ) (f : Fault) → Writes inside w → IsPosition next w.digits n → n ≤ 15 → after_position mode next inside w n ≡ Err f → HasParamFault mode next inside f
 position_fault mode next inside w n f writes position few h =
-    elim (bind_err (kind_part_of w.kind (length w.digits + 2)) (after_kind mode next inside w n) f h) [
+    elim (bind_err (kind_part_of (language_of mode) w.kind (length w.digits + 2)) (after_kind mode next inside w n) f h) [
       | inl e ↦
-          let k = kind_part_err w.kind (length w.digits + 2) f e in
+          let k = kind_part_err (language_of mode) w.kind (length w.digits + 2) f e in
           let n2 : length w.digits + 2 ≡ 2 + length w.digits = omega arith in
           inr (inr (inr (inl (record { parts = w; writes = writes; number = n; position = position; few = few; text = k.0; kind = k.2; kind_fault = k.1; has = k.3; is = k.4 ∙ ap (fault_at (cause_of k.1)) n2 }))))
-      | inr a ↦ kind_err mode next inside w n a.0 f writes position few (kind_part_found w.kind (length w.digits + 2) a.0 a.1) a.2
+      | inr a ↦ kind_err mode next inside w n a.0 f writes position few (kind_part_found (language_of mode) w.kind (length w.digits + 2) a.0 a.1) a.2
     ]
 
 parts_err : (mode : Mode) (next : ℕ) (inside : List ℕ) (w : Parts) (f : Fault) → Writes inside w → after_parts mode next inside w ≡ Err f → HasParamFault mode next inside f
@@ -449,14 +453,14 @@ param_err_again mode next inside f (inr (inr (inl m))) =
 param_err_again mode next inside f (inr (inr (inr (inl k)))) =
     let a = ap (λ (r : Result Parts Fault). r >>= after_parts mode next inside) (written_again inside k.parts k.writes) in
     let b = ap (λ (r : Result ℕ Fault). r >>= after_position mode next inside k.parts) (position_again next k.parts.digits k.number k.writes.digits k.position k.few) in
-    let e : kind_part_of k.parts.kind (length k.parts.digits + 2) ≡ Err (fault_at (cause_of k.kind_fault) (length k.parts.digits + 2)) = ap (λ (t : Option (List ℕ)). kind_part_of t (length k.parts.digits + 2)) k.kind ∙ ap (kind_at (length k.parts.digits + 2)) (fault_again k.text k.kind_fault k.has) in
+    let e : kind_part_of (language_of mode) k.parts.kind (length k.parts.digits + 2) ≡ Err (fault_at (cause_of k.kind_fault) (length k.parts.digits + 2)) = ap (λ (t : Option (List ℕ)). kind_part_of (language_of mode) t (length k.parts.digits + 2)) k.kind ∙ ap (kind_at (length k.parts.digits + 2)) (fault_again (language_of mode) k.text k.kind_fault k.has) in
     let same : fault_at (cause_of k.kind_fault) (length k.parts.digits + 2) ≡ f = ap (fault_at (cause_of k.kind_fault)) (let n : length k.parts.digits + 2 ≡ 2 + length k.parts.digits = omega arith in n) ∙ sym k.is in
     a ∙ b ∙ ap (λ (r : Result Kind Fault). r >>= after_kind mode next inside k.parts k.number) e ∙ ap Err same
 param_err_again mode next inside f (inr (inr (inr (inr k)))) =
     let a = ap (λ (r : Result Parts Fault). r >>= after_parts mode next inside) (written_again inside k.parts k.writes) in
     let b = ap (λ (r : Result ℕ Fault). r >>= after_position mode next inside k.parts) (position_again next k.parts.digits k.number k.writes.digits k.position k.few) in
-    let c = ap (λ (r : Result Kind Fault). r >>= after_kind mode next inside k.parts k.number) (kind_part_again k.parts.kind (length k.parts.digits + 2) k.kind k.spells_kind) in
+    let c = ap (λ (r : Result Kind Fault). r >>= after_kind mode next inside k.parts k.number) (kind_part_again (language_of mode) k.parts.kind (length k.parts.digits + 2) k.kind k.spells_kind) in
     let place = length inside + 1 - hint_len k.parts.hint in
     let there : place ≡ 2 + length k.parts.digits + length (kind_part k.parts.kind) = ap (λ (t : Option (List ℕ)). length inside + 1 - hint_len t) k.hint ∙ hint_place inside k.parts k.text k.writes k.hint in
-    let e : hint_part_of mode k.parts.hint place ≡ Err (fault_at causes.Hint place) = ap (λ (m : Mode). hint_part_of m k.parts.hint place) k.strict ∙ ap (λ (t : Option (List ℕ)). hint_part_of Strict t place) k.hint ∙ ap (hint_at Strict place) (reads_none k.text (hint_of k.text) refl k.none) in
+    let e : hint_part_of mode k.parts.hint place ≡ Err (fault_at causes.Hint place) = ap (λ (t : Option (List ℕ)). hint_part_of mode t place) k.hint ∙ ap (hint_at mode place) (reads_none (language_of mode) k.text (hint_of (language_of mode) k.text) refl k.none) ∙ rw k.strict refl in
     a ∙ b ∙ c ∙ ap (λ (r : Result Hint Fault). r >>= after_hint next k.parts.digits k.number k.kind) e ∙ ap Err (ap (fault_at causes.Hint) there ∙ sym k.is)

@@ -8,28 +8,37 @@ use Rattle.std.proofs.lemmas.Bool.Decides.{nat_tests}
 use Rattle.std.proofs.lemmas.Fmt.{digits_decimal, digits_value-decimal, decimal_nonempty, first_decimal, decimal_digit, length-decimal-le}
 use Rattle.std.proofs.lemmas.Option.{same_Some, slice_get-map}
 use Rattle.std.proofs.lemmas.Str.Parse.{tells_all_ascii_digits}
-use Rattle.defmt_grammar.specs.declared.fault.Mode.TheVariants.{Strict}
+use Rattle.defmt_grammar.specs.declared.language.Language.{Language}
+use Rattle.defmt_grammar.specs.declared.language.Language.TheVariants as languages
+use Rattle.defmt_grammar.specs.Language.{language_of}
+use Rattle.defmt_grammar.specs.declared.fault.Mode.{Mode}
+use Rattle.defmt_grammar.specs.declared.fault.Mode.TheVariants.{Strict, Lenient, StrictFull, LenientFull}
 use Rattle.defmt_grammar.specs.declared.kind.Kind.{Kind}
-use Rattle.defmt_grammar.specs.declared.kind.Kind.TheVariants.{ByteArray, FormatArray, Bits, Uint, Int, Bool as BoolKind, Char, Str, Istr, Bytes, Format, FormatSlice}
+use Rattle.defmt_grammar.specs.declared.kind.Kind.TheVariants.{ByteArray, FormatArray, Bits, Uint, Int, Bool as BoolKind, Char, Str, Istr, Bytes, Format, FormatSlice, Float, Debug as DebugKind, Display, Sequence}
 use Rattle.defmt_grammar.specs.declared.kind.IntSize.TheVariants.{W8, W16, W32, W64, W128, Native}
+use Rattle.defmt_grammar.specs.declared.kind.FloatSize.TheVariants as floats
 use Rattle.defmt_grammar.specs.declared.hint.Base.{Base}
 use Rattle.defmt_grammar.specs.declared.hint.Base.TheVariants.{Hex, HexUpper, Binary, Octal}
 use Rattle.defmt_grammar.specs.declared.hint.Hint.{Hint}
-use Rattle.defmt_grammar.specs.declared.hint.Hint.TheVariants.{Plain, Debug, Radix, Ascii, Micros, Millis}
+use Rattle.defmt_grammar.specs.declared.hint.Hint.TheVariants.{Plain, Debug, Radix, Ascii, Micros, Millis, Iso, Clock, Pad}
+use Rattle.defmt_grammar.specs.declared.hint.IsoUnit.TheVariants as iso
+use Rattle.defmt_grammar.specs.declared.hint.ClockUnit.TheVariants as clock
 use Rattle.defmt_grammar.specs.declared.param.Param.{Param}
 use Rattle.defmt_grammar.specs.declared.piece.Piece.{Piece}
 use Rattle.defmt_grammar.specs.declared.piece.Piece.TheVariants as pieces
 use Rattle.defmt_grammar.specs.declared.piece.Use.{Use}
 use Rattle.defmt_grammar.specs.Cut.{behind, Lacks, IsDecimal}
-use Rattle.defmt_grammar.specs.Kind.{named, array, format_array, bits, IsCounted, SpellsKind}
-use Rattle.defmt_grammar.specs.Hint.{letter_of, alt_mark, IsWidth}
-use Rattle.defmt_grammar.specs.Param.{hint_part, IsPosition, next_number, HasLeadingZero, SpellsHintPart, SpellsParam}
+use Rattle.defmt_grammar.specs.Kind.{kind_names, named_kind, KindShape, named, float, array, format_array, bits, IsCounted, SpellsShape, kind_in_range, SpellsKind}
+use Rattle.defmt_grammar.specs.Hint.{letter_of, alt_mark, iso_name, clock_name, IsFill, IsWidth, SpellsHint}
+use Rattle.defmt_grammar.specs.Param.{hint_part, IsPosition, next_number, HasLeadingZero, SpellsKindPart, SpellsHintPart, SpellsParam}
 use Rattle.defmt_grammar.specs.Grammar.{IsBits, Token, char, hole, IsHole, SpellsTokens, with_char, joined, uses_of, Clash, NoClash, NoGap, Spells, AreSpelled}
 use Rattle.defmt_grammar.specs.Slots.{params_of}
 use Rattle.defmt_grammar.specs.Positions.{KindFits, HintFits, Fits, param_of_use}
-use Rattle.defmt_grammar.specs.Print.{kind_text, width_text, radix_text, hint_text, param_text, strict, doubled, printed}
+use Rattle.defmt_grammar.specs.Print.{kind_text, width_text, radix_text, hint_text, param_text, back, doubled, printed}
 use Rattle.defmt_grammar.proofs.Cuts.{own, Lacks-append, Lacks-digits}
-use Rattle.defmt_grammar.proofs.FitLaws.{PieceFits, tokens_fit, uses_params}
+use Rattle.defmt_grammar.proofs.FitLaws.{words_hold, ranged, windowed, param_fits, pieces_hold, uses_params}
+use Rattle.defmt_grammar.proofs.KindLaws.{okay}
+use Rattle.defmt_grammar.proofs.StrictLaws.{spells_fully}
 use Rattle.defmt_grammar.proofs.PlainLaws.{is_brace, is_plain}
 use Rattle.defmt_grammar.proofs.StepLaws.{then_tokens}
 use Rattle.defmt_grammar.proofs.ReadingLaws.{NoLiteralFirst, joined_chars, flushed_some}
@@ -69,32 +78,34 @@ counted front n h = (codes " ", decimal n, (refl, tt), decimal_is n (omega arith
 in_range : (n : ℕ) → n ≤ 65535 → leb n 65535 ≡ true
 in_range n h = grind (arith, nat_tests)
 
-pub kind_spelled : (kind : Kind) → KindFits kind → SpellsKind (kind_text kind) kind
-kind_spelled (ByteArray n) h = (array n, counted (codes "[u8;") n h, rw (in_range n h) refl)
-kind_spelled (FormatArray n) h = (format_array n, counted (codes "[?;") n h, rw (in_range n h) refl)
-kind_spelled (Bits lo hi) h =
-    let a : ltb lo hi ≡ true = (let k = h.0 in grind (arith, nat_tests)) in
-    let b : leb hi 128 ≡ true = (let k = h.1 in grind (arith, nat_tests)) in
-    (bits lo hi, (decimal lo, decimal hi, decimal_is lo (omega arith), decimal_is hi (omega arith), simp append_assoc), rw (a, b) refl)
-kind_spelled (Uint W8) h = (named (Uint W8), refl, refl)
-kind_spelled (Uint W16) h = (named (Uint W16), refl, refl)
-kind_spelled (Uint W32) h = (named (Uint W32), refl, refl)
-kind_spelled (Uint W64) h = (named (Uint W64), refl, refl)
-kind_spelled (Uint W128) h = (named (Uint W128), refl, refl)
-kind_spelled (Uint Native) h = (named (Uint Native), refl, refl)
-kind_spelled (Int W8) h = (named (Int W8), refl, refl)
-kind_spelled (Int W16) h = (named (Int W16), refl, refl)
-kind_spelled (Int W32) h = (named (Int W32), refl, refl)
-kind_spelled (Int W64) h = (named (Int W64), refl, refl)
-kind_spelled (Int W128) h = (named (Int W128), refl, refl)
-kind_spelled (Int Native) h = (named (Int Native), refl, refl)
-kind_spelled BoolKind h = (named BoolKind, refl, refl)
-kind_spelled Char h = (named Char, refl, refl)
-kind_spelled Str h = (named Str, refl, refl)
-kind_spelled Istr h = (named Istr, refl, refl)
-kind_spelled Bytes h = (named Bytes, refl, refl)
-kind_spelled Format h = (named Format, refl, refl)
-kind_spelled FormatSlice h = (named FormatSlice, refl, refl)
+-- the word of each kind of the table stands for it
+abbrev StandsFor : Language → Kind → Type 0
+StandsFor language kind = named_kind language (kind_text kind) ≡ Some kind
+
+names_stand : (language : Language) → AllByRecursion (λ e. StandsFor language e.1) (kind_names language)
+names_stand languages.Base = (refl, (refl, (refl, (refl, (refl, (refl, (refl, (refl, (refl, (refl, (refl, (refl, (refl, (refl, (refl, (refl, (refl, (refl, (refl, tt)))))))))))))))))))
+names_stand languages.Full = (refl, (refl, (refl, (refl, (refl, (refl, (refl, (refl, (refl, (refl, (refl, (refl, (refl, (refl, (refl, (refl, (refl, (refl, (refl, (refl, (refl, (refl, (refl, (refl, tt))))))))))))))))))))))))
+
+-- the spelling of a kind that some text spells
+abbrev KindBack : Language → Kind → Type 0
+KindBack language kind = SpellsKind language (kind_text kind) kind
+
+shape_back : (language : Language) (text : List ℕ) (shape : KindShape) (kind : Kind) → SpellsShape language text shape → kind_in_range shape ≡ okay kind → KindBack language kind
+shape_back language text (named k) kind s h = let e : k ≡ kind = cc in subst (KindBack language) e (named k, words_hold (StandsFor language) text (kind_names language) k (names_stand language) s, refl)
+shape_back language text float kind s h = absurd cc
+shape_back language text (array n) kind s h = let k = ranged n (leb n 65535) ByteArray kind refl h in subst (KindBack language) k.1 (array n, counted (codes "[u8;") n k.0, rw (in_range n k.0) refl)
+shape_back language text (format_array n) kind s h = let k = ranged n (leb n 65535) FormatArray kind refl h in subst (KindBack language) k.1 (format_array n, counted (codes "[?;") n k.0, rw (in_range n k.0) refl)
+shape_back language text (bits lo hi) kind s h =
+    let k = windowed lo hi (ltb lo hi) (leb hi 128) kind refl refl h in
+    let less = k.0 in
+    let within = k.1 in
+    let a : ltb lo hi ≡ true = grind (arith, nat_tests) in
+    let b : leb hi 128 ≡ true = grind (arith, nat_tests) in
+    subst (KindBack language) k.2 (bits lo hi, (decimal lo, decimal hi, decimal_is lo (omega arith), decimal_is hi (omega arith), simp append_assoc), rw (a, b) refl)
+
+kind_back : (language : Language) (text : Option (List ℕ)) (kind : Kind) → SpellsKindPart language text kind → KindBack language kind
+kind_back language None kind h = subst (KindBack language) (sym h) (named Format, refl, refl)
+kind_back language (Some text) kind (shape, s, h) = shape_back language text shape kind s h
 
 lacks_more : (c x : ℕ) (xs : List ℕ) (b : Bool) → eqb x c ≡ b → (list_all (λ y. not (eqb y c)) xs ≡ true → Lacks c xs) → (not b && list_all (λ y. not (eqb y c)) xs) ≡ true → Lacks c (x ∷ xs)
 lacks_more c x xs true e f h = absurd cc
@@ -134,6 +145,11 @@ kind_lacks Istr h = (lacks_test 58 (codes "istr") refl, lacks_test 125 (codes "i
 kind_lacks Bytes h = (lacks_test 58 (codes "[u8]") refl, lacks_test 125 (codes "[u8]") refl)
 kind_lacks Format h = (lacks_test 58 (codes "?") refl, lacks_test 125 (codes "?") refl)
 kind_lacks FormatSlice h = (lacks_test 58 (codes "[?]") refl, lacks_test 125 (codes "[?]") refl)
+kind_lacks (Float floats.W32) h = (lacks_test 58 (codes "f32") refl, lacks_test 125 (codes "f32") refl)
+kind_lacks (Float floats.W64) h = (lacks_test 58 (codes "f64") refl, lacks_test 125 (codes "f64") refl)
+kind_lacks DebugKind h = (lacks_test 58 (codes "__internal_Debug") refl, lacks_test 125 (codes "__internal_Debug") refl)
+kind_lacks Display h = (lacks_test 58 (codes "__internal_Display") refl, lacks_test 125 (codes "__internal_Display") refl)
+kind_lacks Sequence h = (lacks_test 58 (codes "__internal_FormatSequence") refl, lacks_test 125 (codes "__internal_FormatSequence") refl)
 
 -- ---- hints
 
@@ -142,12 +158,12 @@ unfolding behind
 starts_no_zero [] h = refl
 starts_no_zero (d ∷ ds) h = let k : eqb d 48 ≡ false = grind (arith, nat_tests) in rw k refl
 
+fill_spelled : (width : ℕ) → 1 ≤ width → width ≤ 255 → IsFill (48 ∷ decimal width) width
+fill_spelled w some h = (decimal w, refl, starts_no_zero (decimal w) (first_decimal w some (omega arith)), length-decimal-le 3 w (omega arith) (omega arith) (omega arith), decimal_is w (omega arith), h)
+
 pub width_spelled : (width : ℕ) → width ≤ 255 → IsWidth (width_text width) width
 width_spelled zero h = inl (refl, refl)
-width_spelled (suc n) h =
-    let k : eqb (suc n) 0 ≡ false = grind (arith, nat_tests) in
-    let w = suc n in
-    rw k (inr (decimal w, refl, starts_no_zero (decimal w) (first_decimal w (omega arith) (omega arith)), length-decimal-le 3 w (omega arith) (omega arith) (omega arith), decimal_is w (omega arith), h))
+width_spelled (suc n) h = let k : eqb (suc n) 0 ≡ false = grind (arith, nat_tests) in rw k (inr (fill_spelled (suc n) (omega arith) h))
 
 width_lacks : (width : ℕ) → width ≤ 255 → Lacks 125 (width_text width)
 width_lacks zero h = tt
@@ -174,6 +190,9 @@ hint_option Ascii = Some (codes "a")
 hint_option Micros = Some (codes "us")
 hint_option Millis = Some (codes "ms")
 hint_option (Radix base alt width) = Some (radix_text base alt width)
+hint_option (Iso unit) = Some (iso_name unit)
+hint_option (Clock unit) = Some (clock_name unit)
+hint_option (Pad width) = Some (48 ∷ decimal width)
 
 hint_is : (hint : Hint) → hint_part (hint_option hint) ≡ hint_text hint
 hint_is Plain = refl
@@ -182,14 +201,32 @@ hint_is Ascii = refl
 hint_is Micros = refl
 hint_is Millis = refl
 hint_is (Radix base alt width) = refl
+hint_is (Iso unit) = refl
+hint_is (Clock unit) = refl
+hint_is (Pad width) = refl
 
-hint_spelled : (hint : Hint) → HintFits hint → SpellsHintPart Strict (hint_option hint) hint
-hint_spelled Plain h = refl
-hint_spelled Debug h = refl
-hint_spelled Ascii h = refl
-hint_spelled Micros h = refl
-hint_spelled Millis h = refl
-hint_spelled (Radix base alt width) h = (width_text width, width_spelled width h, append_assoc (alt_mark alt) (width_text width) (letter_of base ∷ []))
+back_language : (mode : Mode) → language_of (back mode) ≡ language_of mode
+back_language Strict = refl
+back_language Lenient = refl
+back_language StrictFull = refl
+back_language LenientFull = refl
+
+-- a hint other than Plain is spelled by some text
+not_plain : (mode : Mode) (text : Option (List ℕ)) (hint : Hint) → SpellsHintPart mode text hint → (hint ≡ Plain → ⊥) → (t : List ℕ) × SpellsHint (language_of mode) t hint
+not_plain mode None hint h n = absurd (n h)
+not_plain mode (Some text) hint (inl h) n = (text, h)
+not_plain mode (Some text) hint (inr (lenient, none, h)) n = absurd (n h)
+
+hint_back : (mode : Mode) (text : Option (List ℕ)) (hint : Hint) → HintFits hint → SpellsHintPart mode text hint → SpellsHintPart (back mode) (hint_option hint) hint
+hint_back mode text Plain f h = refl
+hint_back mode text Debug f h = inl refl
+hint_back mode text Ascii f h = inl refl
+hint_back mode text Micros f h = inl refl
+hint_back mode text Millis f h = inl refl
+hint_back mode text (Radix base alt width) f h = inl (width_text width, width_spelled width f, append_assoc (alt_mark alt) (width_text width) (letter_of base ∷ []))
+hint_back mode text (Iso unit) f h = let k = not_plain mode text (Iso unit) h (λ e. cc) in inl (back_language mode ∙ k.1.0, refl)
+hint_back mode text (Clock unit) f h = let k = not_plain mode text (Clock unit) h (λ e. cc) in inl (back_language mode ∙ k.1.0, refl)
+hint_back mode text (Pad width) f h = let k = not_plain mode text (Pad width) h (λ e. cc) in inl (back_language mode ∙ k.1.0, fill_spelled width f.0 f.1)
 
 hint_lacks : (hint : Hint) → HintFits hint → Lacks 125 (hint_text hint)
 hint_lacks Plain h = tt
@@ -198,6 +235,12 @@ hint_lacks Ascii h = lacks_test 125 (codes ":a") refl
 hint_lacks Micros h = lacks_test 125 (codes ":us") refl
 hint_lacks Millis h = lacks_test 125 (codes ":ms") refl
 hint_lacks (Radix base alt width) h = (refl, radix_lacks base alt width h)
+hint_lacks (Iso iso.Seconds) h = lacks_test 125 (codes ":iso8601s") refl
+hint_lacks (Iso iso.Millis) h = lacks_test 125 (codes ":iso8601ms") refl
+hint_lacks (Clock clock.Seconds) h = lacks_test 125 (codes ":ts") refl
+hint_lacks (Clock clock.Millis) h = lacks_test 125 (codes ":tms") refl
+hint_lacks (Clock clock.Micros) h = lacks_test 125 (codes ":tus") refl
+hint_lacks (Pad width) h = (refl, (refl, decimal_lacks 125 width (inr (omega arith)) (let k = h.1 in omega arith)))
 
 -- ---- parameters
 
@@ -222,8 +265,9 @@ no_number : (ds : List ℕ) → 0 < length ds → 0 ≡ next_number 0 ds
 no_number [] h = absurd (omega arith)
 no_number (d ∷ ds) h = refl
 
-param_spelled : (p : Param) → Fits p → SpellsParam Strict 0 (inside_text p) p 0
-param_spelled p f =
+param_back : (mode : Mode) (next : ℕ) (inside : List ℕ) (p : Param) (after : ℕ) → SpellsParam mode next inside p after → SpellsParam (back mode) 0 (inside_text p) p 0
+param_back mode next inside p after s =
+    let f = param_fits mode next inside p after s in
     let digits = digits_decimal own p.position (let k = f.few in omega arith) in
     record {
       parts = record { digits = decimal p.position; kind = Some (kind_text p.kind); hint = hint_option p.hint };
@@ -235,10 +279,18 @@ param_spelled p f =
       };
       position = is_position p.position (decimal p.position) (decimal_is p.position (let k = f.few in omega arith));
       few = f.few;
-      kind = kind_spelled p.kind f.kind;
-      hint = hint_spelled p.hint f.hint;
+      kind = subst (λ (language : Language). KindBack language p.kind) (sym (back_language mode)) (kind_back (language_of mode) s.parts.kind p.kind s.kind);
+      hint = hint_back mode s.parts.hint p.hint f.hint s.hint;
       after_is = no_number (decimal p.position) (decimal_nonempty p.position (let k = f.few in omega arith));
     }
+
+-- a parameter is within its ranges, and its spelling spells it
+abbrev pub PieceBack : Mode → Piece → Type 0
+PieceBack mode (pieces.Literal cs) = Unit {0}
+PieceBack mode (pieces.Param p) = Fits p × SpellsParam (back mode) 0 (inside_text p) p 0
+
+pieces_back : (mode : Mode) (size next : ℕ) (text : List ℕ) (ts : List Token) (after : ℕ) (rest : List ℕ) → SpellsTokens mode size next text ts after rest → AllByRecursion (PieceBack mode) (joined ts)
+pieces_back mode = pieces_hold (PieceBack mode) mode (λ cs. tt) (λ next inside p after s. (param_fits mode next inside p after s, param_back mode next inside p after s))
 
 -- ---- tokens
 
@@ -247,21 +299,21 @@ tokens_of size [] = []
 tokens_of size (pieces.Literal cs ∷ ps) = map char cs ++ tokens_of size ps
 tokens_of size (pieces.Param p ∷ ps) = hole (size - length (param_text p ++ printed ps)) p ∷ tokens_of size ps
 
-literal_more : (c : ℕ) (cs rest : List ℕ) (b : Bool) → (eqb c 123 || eqb c 125) ≡ b → SpellsTokens Strict 0 0 (doubled cs ++ rest) (map char cs) 0 rest → SpellsTokens Strict 0 0 (cond b (c ∷ c ∷ doubled cs) (c ∷ doubled cs) ++ rest) (char c ∷ map char cs) 0 rest
-literal_more c cs rest true e h = (0, doubled cs ++ rest, (refl, inr (is_brace c e, refl)), h)
-literal_more c cs rest false e h = (0, doubled cs ++ rest, (refl, inl (is_plain c e, refl)), h)
+literal_more : (mode : Mode) (c : ℕ) (cs rest : List ℕ) (b : Bool) → (eqb c 123 || eqb c 125) ≡ b → SpellsTokens mode 0 0 (doubled cs ++ rest) (map char cs) 0 rest → SpellsTokens mode 0 0 (cond b (c ∷ c ∷ doubled cs) (c ∷ doubled cs) ++ rest) (char c ∷ map char cs) 0 rest
+literal_more mode c cs rest true e h = (0, doubled cs ++ rest, (refl, inr (is_brace c e, refl)), h)
+literal_more mode c cs rest false e h = (0, doubled cs ++ rest, (refl, inl (is_plain c e, refl)), h)
 
-literal_tokens : (cs rest : List ℕ) → SpellsTokens Strict 0 0 (doubled cs ++ rest) (map char cs) 0 rest
-literal_tokens [] rest = (refl, refl)
-literal_tokens (c ∷ cs) rest = literal_more c cs rest (eqb c 123 || eqb c 125) refl (literal_tokens cs rest)
+literal_tokens : (mode : Mode) (cs rest : List ℕ) → SpellsTokens mode 0 0 (doubled cs ++ rest) (map char cs) 0 rest
+literal_tokens mode [] rest = (refl, refl)
+literal_tokens mode (c ∷ cs) rest = literal_more mode c cs rest (eqb c 123 || eqb c 125) refl (literal_tokens mode cs rest)
 
 -- the size matters to parameters alone
-chars_any_size : (size : ℕ) (cs : List ℕ) (text rest : List ℕ) → SpellsTokens Strict 0 0 text (map char cs) 0 rest → SpellsTokens Strict size 0 text (map char cs) 0 rest
-chars_any_size size [] text rest h = h
-chars_any_size size (c ∷ cs) text rest h =
+chars_any_size : (mode : Mode) (size : ℕ) (cs : List ℕ) (text rest : List ℕ) → SpellsTokens mode 0 0 text (map char cs) 0 rest → SpellsTokens mode size 0 text (map char cs) 0 rest
+chars_any_size mode size [] text rest h = h
+chars_any_size mode size (c ∷ cs) text rest h =
     let z : h.0 ≡ 0 = h.2.0 in
-    let more : SpellsTokens Strict 0 0 h.1 (map char cs) 0 rest = subst (λ (n : ℕ). SpellsTokens Strict 0 n h.1 (map char cs) 0 rest) z h.3 in
-    (0, h.1, (refl, h.2.1), chars_any_size size cs h.1 rest more)
+    let more : SpellsTokens mode 0 0 h.1 (map char cs) 0 rest = subst (λ (n : ℕ). SpellsTokens mode 0 n h.1 (map char cs) 0 rest) z h.3 in
+    (0, h.1, (refl, h.2.1), chars_any_size mode size cs h.1 rest more)
 
 digits_first : (ds more : List ℕ) → all_ascii_digits ds ≡ true → 0 < length ds → behind 123 (ds ++ more) ≡ None
 unfolding behind
@@ -281,10 +333,10 @@ is_hole p rest f = record {
   no_close = Lacks-append 125 (decimal p.position) (61 ∷ (kind_text p.kind ++ hint_text p.hint)) (decimal_lacks 125 p.position (inr (omega arith)) (let k = f.few in omega arith)) (refl, Lacks-append 125 (kind_text p.kind) (hint_text p.hint) (kind_lacks p.kind f.kind).1 (hint_lacks p.hint f.hint));
 }
 
-pub printed_tokens : (size : ℕ) (ps : List Piece) → AllByRecursion PieceFits ps → SpellsTokens Strict size 0 (printed ps) (tokens_of size ps) 0 []
-printed_tokens size [] h = (refl, refl)
-printed_tokens size (pieces.Literal cs ∷ ps) h = then_tokens Strict size 0 0 0 (doubled cs ++ printed ps) (printed ps) [] (map char cs) (tokens_of size ps) (chars_any_size size cs (doubled cs ++ printed ps) (printed ps) (literal_tokens cs (printed ps))) (printed_tokens size ps h.1)
-printed_tokens size (pieces.Param p ∷ ps) h = (0, printed ps, (inside_text p, is_hole p (printed ps) h.0, param_spelled p h.0, refl), printed_tokens size ps h.1)
+pub printed_tokens : (mode : Mode) (size : ℕ) (ps : List Piece) → AllByRecursion (PieceBack mode) ps → SpellsTokens (back mode) size 0 (printed ps) (tokens_of size ps) 0 []
+printed_tokens mode size [] h = (refl, refl)
+printed_tokens mode size (pieces.Literal cs ∷ ps) h = then_tokens (back mode) size 0 0 0 (doubled cs ++ printed ps) (printed ps) [] (map char cs) (tokens_of size ps) (chars_any_size (back mode) size cs (doubled cs ++ printed ps) (printed ps) (literal_tokens (back mode) cs (printed ps))) (printed_tokens mode size ps h.1)
+printed_tokens mode size (pieces.Param p ∷ ps) h = (0, printed ps, (inside_text p, is_hole p (printed ps) h.0.0, h.0.1, refl), printed_tokens mode size ps h.1)
 
 -- ---- the pieces again
 
@@ -335,9 +387,9 @@ gap_kept us vs e n i v at_i position lt =
 
 -- ---- all of it
 
-pub spelled_again : (ps : List Piece) → AreSpelled ps → Spells (printed ps) strict ps
-spelled_again ps (text, mode, s) =
-    let fit : AllByRecursion PieceFits ps = subst (AllByRecursion PieceFits) s.joins (tokens_fit mode (length text) 0 text s.tokens s.after [] s.spelled) in
+pub spelled_again : (text : List ℕ) (mode : Mode) (ps : List Piece) → Spells text mode ps → Spells (printed ps) (back mode) ps
+spelled_again text mode ps s =
+    let each : AllByRecursion (PieceBack mode) ps = subst (AllByRecursion (PieceBack mode)) s.joins (pieces_back mode (length text) 0 text s.tokens s.after [] s.spelled) in
     let runs : NoRuns ps = subst NoRuns s.joins (joined_runs s.tokens) in
     let size = length (printed ps) in
     let again = joined_tokens size ps runs in
@@ -345,8 +397,14 @@ spelled_again ps (text, mode, s) =
     record {
       tokens = tokens_of size ps;
       after = 0;
-      spelled = printed_tokens size ps fit;
+      spelled = printed_tokens mode size ps each;
       joins = again;
       no_clash = clash_kept (uses_of s.tokens) (uses_of (tokens_of size ps)) same s.no_clash;
       no_gap = gap_kept (uses_of s.tokens) (uses_of (tokens_of size ps)) same s.no_gap;
     }
+
+pub spelled_fully : (ps : List Piece) → AreSpelled ps → Spells (printed ps) StrictFull ps
+spelled_fully ps (text, Strict, s) = spells_fully (printed ps) ps (spelled_again text Strict ps s)
+spelled_fully ps (text, Lenient, s) = spells_fully (printed ps) ps (spelled_again text Lenient ps s)
+spelled_fully ps (text, StrictFull, s) = spelled_again text StrictFull ps s
+spelled_fully ps (text, LenientFull, s) = spelled_again text LenientFull ps s

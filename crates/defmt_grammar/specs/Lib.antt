@@ -1,4 +1,5 @@
 pub mod Fault
+pub mod Language
 pub mod Kind
 pub mod Cut
 pub mod Hint

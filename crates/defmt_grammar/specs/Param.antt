@@ -11,7 +11,8 @@ use Rattle.defmt_grammar.specs.declared.fault.Cause.{Cause}
 use Rattle.defmt_grammar.specs.declared.fault.Cause.TheVariants as causes
 use Rattle.defmt_grammar.specs.declared.fault.Fault.{Fault}
 use Rattle.defmt_grammar.specs.declared.fault.Mode.{Mode}
-use Rattle.defmt_grammar.specs.declared.fault.Mode.TheVariants.{Strict, Lenient}
+use Rattle.defmt_grammar.specs.declared.language.Language.{Language}
+use Rattle.defmt_grammar.specs.Language.{language_of, is_lenient}
 use Rattle.defmt_grammar.specs.declared.kind.Kind.{Kind}
 use Rattle.defmt_grammar.specs.declared.kind.Kind.TheVariants.{Format}
 use Rattle.defmt_grammar.specs.declared.kind.KindFault.{KindFault}
@@ -63,18 +64,17 @@ next_number next [] = next + 1
 next_number next (d ∷ ds) = next
 
 -- no kind is Format
-abbrev pub SpellsKindPart : Option (List ℕ) → Kind → Type 0
-SpellsKindPart None kind = kind ≡ Format
-SpellsKindPart (Some text) kind = SpellsKind text kind
+abbrev pub SpellsKindPart : Language → Option (List ℕ) → Kind → Type 0
+SpellsKindPart language None kind = kind ≡ Format
+SpellsKindPart language (Some text) kind = SpellsKind language text kind
 
-abbrev pub SpellsNoHint : List ℕ → Type 0
-SpellsNoHint text = (hint : Hint) → SpellsHint text hint → ⊥
+abbrev pub SpellsNoHint : Language → List ℕ → Type 0
+SpellsNoHint language text = (hint : Hint) → SpellsHint language text hint → ⊥
 
 -- no hint is Plain; leniently, so is one that isn't known
 abbrev pub SpellsHintPart : Mode → Option (List ℕ) → Hint → Type 0
 SpellsHintPart mode None hint = hint ≡ Plain
-SpellsHintPart Strict (Some text) hint = SpellsHint text hint
-SpellsHintPart Lenient (Some text) hint = SpellsHint text hint ⊎ (SpellsNoHint text × (hint ≡ Plain))
+SpellsHintPart mode (Some text) hint = SpellsHint (language_of mode) text hint ⊎ ((is_lenient mode ≡ true) × SpellsNoHint (language_of mode) text × (hint ≡ Plain))
 
 -- what stands between the braces spells the parameter
 pub record SpellsParam (mode : Mode) (next : ℕ) (inside : List ℕ) (param : Param) (after : ℕ) : Type 0 where
@@ -82,7 +82,7 @@ pub record SpellsParam (mode : Mode) (next : ℕ) (inside : List ℕ) (param : P
   pub writes : Writes inside parts
   pub position : IsPosition next parts.digits param.position
   pub few : param.position ≤ 15
-  pub kind : SpellsKindPart parts.kind param.kind
+  pub kind : SpellsKindPart (language_of mode) parts.kind param.kind
   pub hint : SpellsHintPart mode parts.hint param.hint
   pub after_is : after ≡ next_number next parts.digits
 
@@ -125,7 +125,7 @@ pub record HasManyFault (next : ℕ) (inside : List ℕ) (fault : Fault) : Type 
   pub is : fault ≡ record { cause = causes.Many; at = 0 }
 
 -- a kind text with a fault
-pub record HasKindTextFault (next : ℕ) (inside : List ℕ) (fault : Fault) : Type 0 where
+pub record HasKindTextFault (mode : Mode) (next : ℕ) (inside : List ℕ) (fault : Fault) : Type 0 where
   pub parts : Parts
   pub writes : Writes inside parts
   pub number : ℕ
@@ -134,7 +134,7 @@ pub record HasKindTextFault (next : ℕ) (inside : List ℕ) (fault : Fault) : T
   pub text : List ℕ
   pub kind : parts.kind ≡ Some text
   pub kind_fault : KindFault
-  pub has : HasKindFault text kind_fault
+  pub has : HasKindFault (language_of mode) text kind_fault
   pub is : fault ≡ record { cause = cause_of kind_fault; at = 2 + length parts.digits }
 
 -- strictly, a hint text that spells none
@@ -145,16 +145,16 @@ pub record HasHintTextFault (mode : Mode) (next : ℕ) (inside : List ℕ) (faul
   pub position : IsPosition next parts.digits number
   pub few : number ≤ 15
   pub kind : Kind
-  pub spells_kind : SpellsKindPart parts.kind kind
+  pub spells_kind : SpellsKindPart (language_of mode) parts.kind kind
   pub text : List ℕ
   pub hint : parts.hint ≡ Some text
-  pub none : SpellsNoHint text
-  pub strict : mode ≡ Strict
+  pub none : SpellsNoHint (language_of mode) text
+  pub strict : is_lenient mode ≡ false
   pub is : fault ≡ record { cause = causes.Hint; at = 2 + length parts.digits + length (kind_part parts.kind) }
 
 -- the first fault of a parameter; each states that those in front of it don't stand
 abbrev pub HasParamFault : Mode → ℕ → List ℕ → Fault → Type 0
-HasParamFault mode next inside fault = HasZeroFault inside fault ⊎ (HasCharFault inside fault ⊎ (HasManyFault next inside fault ⊎ (HasKindTextFault next inside fault ⊎ HasHintTextFault mode next inside fault)))
+HasParamFault mode next inside fault = HasZeroFault inside fault ⊎ (HasCharFault inside fault ⊎ (HasManyFault next inside fault ⊎ (HasKindTextFault mode next inside fault ⊎ HasHintTextFault mode next inside fault)))
 
 -- ---- reading, as the code does it, on lists
 
@@ -204,18 +204,17 @@ abbrev pub kind_at : ℕ → Result Kind KindFault → Result Kind Fault
 kind_at at (Ok kind) = Ok kind
 kind_at at (Err fault) = Err (record { cause = cause_of fault; at = at })
 
-abbrev pub kind_part_of : Option (List ℕ) → ℕ → Result Kind Fault
-kind_part_of None at = Ok Format
-kind_part_of (Some text) at = kind_at at (kind_of text)
+abbrev pub kind_part_of : Language → Option (List ℕ) → ℕ → Result Kind Fault
+kind_part_of language None at = Ok Format
+kind_part_of language (Some text) at = kind_at at (kind_of language text)
 
 abbrev pub hint_at : Mode → ℕ → Option Hint → Result Hint Fault
 hint_at mode at (Some hint) = Ok hint
-hint_at Lenient at None = Ok Plain
-hint_at Strict at None = Err (record { cause = causes.Hint; at = at })
+hint_at mode at None = if is_lenient mode then Ok Plain else Err (record { cause = causes.Hint; at = at })
 
 abbrev pub hint_part_of : Mode → Option (List ℕ) → ℕ → Result Hint Fault
 hint_part_of mode None at = Ok Plain
-hint_part_of mode (Some text) at = hint_at mode at (hint_of text)
+hint_part_of mode (Some text) at = hint_at mode at (hint_of (language_of mode) text)
 
 abbrev pub hint_len : Option (List ℕ) → ℕ
 hint_len None = 0
@@ -225,6 +224,6 @@ unfoldable pub param_of : Mode → ℕ → List ℕ → Result (Param × ℕ) Fa
 param_of mode next inside = do
   w ← written_of inside
   position ← position_of next w.digits
-  kind ← kind_part_of w.kind (length w.digits + 2)
+  kind ← kind_part_of (language_of mode) w.kind (length w.digits + 2)
   hint ← hint_part_of mode w.hint (length inside + 1 - hint_len w.hint)
   Ok (record { position = position; kind = kind; hint = hint }, (if length w.digits == 0 then next + 1 else next))

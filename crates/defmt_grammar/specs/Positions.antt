@@ -23,6 +23,7 @@ KindFits kind = Unit {0}
 
 abbrev pub HintFits : Hint → Type 0
 HintFits (hints.Radix base alt width) = width ≤ 255
+HintFits (hints.Pad width) = (1 ≤ width) × (width ≤ 255)
 HintFits hint = Unit {0}
 
 pub record Fits (p : Param) : Type 0 where

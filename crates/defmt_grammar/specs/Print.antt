@@ -1,15 +1,16 @@
 -- The canonical spelling of pieces: every position and kind is written, each hint in its shortest form.
 use Rattle.std.specs.Prelude.{ℕ, List, [], ◌∷◌, ◌++◌, codes, Bool, if◌then◌else◌, ◌==◌, ◌||◌}
 use Rattle.std.specs.Fmt.{decimal}
-use Rattle.defmt_grammar.specs.Hint.{letter_of, alt_mark}
+use Rattle.defmt_grammar.specs.Hint.{letter_of, alt_mark, iso_name, clock_name}
 use Rattle.defmt_grammar.specs.declared.kind.Kind.{Kind}
-use Rattle.defmt_grammar.specs.declared.kind.Kind.TheVariants.{ByteArray, FormatArray, Bits, Uint, Int, Bool as BoolKind, Char, Str, Istr, Bytes, Format, FormatSlice}
+use Rattle.defmt_grammar.specs.declared.kind.Kind.TheVariants.{ByteArray, FormatArray, Bits, Uint, Int, Bool as BoolKind, Char, Str, Istr, Bytes, Format, FormatSlice, Float, Debug as DebugKind, Display, Sequence}
 use Rattle.defmt_grammar.specs.declared.kind.IntSize.TheVariants.{W8, W16, W32, W64, W128, Native}
+use Rattle.defmt_grammar.specs.declared.kind.FloatSize.TheVariants as floats
 use Rattle.defmt_grammar.specs.declared.hint.Base.{Base}
 use Rattle.defmt_grammar.specs.declared.hint.Hint.{Hint}
-use Rattle.defmt_grammar.specs.declared.hint.Hint.TheVariants.{Plain, Debug, Radix, Ascii, Micros, Millis}
+use Rattle.defmt_grammar.specs.declared.hint.Hint.TheVariants.{Plain, Debug, Radix, Ascii, Micros, Millis, Iso, Clock, Pad}
+use Rattle.defmt_grammar.specs.Language.{strict_of, language_of}
 use Rattle.defmt_grammar.specs.declared.fault.Mode.{Mode}
-use Rattle.defmt_grammar.specs.declared.fault.Mode.TheVariants.{Strict}
 use Rattle.defmt_grammar.specs.declared.param.Param.{Param}
 use Rattle.defmt_grammar.specs.declared.piece.Piece.{Piece}
 use Rattle.defmt_grammar.specs.declared.piece.Piece.TheVariants as pieces
@@ -35,6 +36,11 @@ kind_name Istr = codes "istr"
 kind_name Bytes = codes "[u8]"
 kind_name Format = codes "?"
 kind_name FormatSlice = codes "[?]"
+kind_name (Float floats.W32) = codes "f32"
+kind_name (Float floats.W64) = codes "f64"
+kind_name DebugKind = codes "__internal_Debug"
+kind_name Display = codes "__internal_Display"
+kind_name Sequence = codes "__internal_FormatSequence"
 kind_name (ByteArray n) = []
 kind_name (FormatArray n) = []
 kind_name (Bits lo hi) = []
@@ -61,14 +67,17 @@ hint_text Ascii = codes ":a"
 hint_text Micros = codes ":us"
 hint_text Millis = codes ":ms"
 hint_text (Radix base alt width) = codes ":" ++ radix_text base alt width
+hint_text (Iso unit) = codes ":" ++ iso_name unit
+hint_text (Clock unit) = codes ":" ++ clock_name unit
+hint_text (Pad width) = codes ":0" ++ decimal width
 
 -- a parameter with all of its parts
 abbrev pub param_text : Param → List ℕ
 param_text p = codes "{" ++ decimal p.position ++ codes "=" ++ kind_text p.kind ++ hint_text p.hint ++ codes "}"
 
--- the mode in which the spelling reads back
-abbrev pub strict : Mode
-strict = Strict
+-- the mode in which the spelling of what was read in a mode reads back: the strict one of its language
+abbrev pub back : Mode → Mode
+back mode = strict_of (language_of mode)
 
 -- a literal with its braces doubled
 abbrev pub doubled : List ℕ → List ℕ

@@ -2,18 +2,46 @@
 
 ghost use Rattle.std.specs.Prelude.{◌≡◌};
 ghost use Rattle.defmt_grammar.specs.Fault.{cause_number};
+ghost use Rattle.defmt_grammar.specs.Language.{language_of, is_lenient};
 ghost use Rattle.defmt_grammar.specs.declared.fault.GrammarFault.TheVariants.{Memory as MemoryFault};
 
+use crate::language::Language;
 use std::alloc::{AllocError, AllocFailed};
 
-/// What becomes of a hint that isn't known. The crate defmt-parser has these two modes, the second
-/// under the name `ForwardsCompatible`.
+/// The language of a text, and what becomes of a hint that isn't known. The crate defmt-parser has
+/// two modes for the latter, the second under the name `ForwardsCompatible`.
 #[derive(Clone, Copy)]
 pub enum Mode {
-    /// It is refused.
+    /// The base language; such a hint is refused.
     Strict,
-    /// It is read as `Hint::Plain`.
+    /// The base language; such a hint is read as `Hint::Plain`.
     Lenient,
+    /// The full language; such a hint is refused.
+    StrictFull,
+    /// The full language; such a hint is read as `Hint::Plain`.
+    LenientFull,
+}
+
+impl Mode {
+    // The language of the mode.
+    pub(crate) fn language(self) -> Language
+        ensures { result ≡ language_of self }
+    {
+        match self {
+            Mode::Strict | Mode::Lenient => Language::Base,
+            Mode::StrictFull | Mode::LenientFull => Language::Full,
+        }
+    }
+
+    // Whether a hint that isn't known is read as `Hint::Plain`.
+    pub(crate) fn is_lenient(self) -> bool
+        ensures { result ≡ is_lenient self }
+    {
+        match self {
+            Mode::Strict | Mode::StrictFull => false,
+            Mode::Lenient | Mode::LenientFull => true,
+        }
+    }
 }
 
 /// Why a text is refused, in this project's own numbering.
@@ -33,7 +61,7 @@ pub enum Cause {
     Gap,
     /// A position above 15.
     Many,
-    /// A kind of floating point, which this profile leaves out.
+    /// A kind of floating point, which the base language leaves out.
     Float,
 }
 

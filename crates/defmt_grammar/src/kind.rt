@@ -1,8 +1,9 @@
 //! Kinds of parameters.
 
 ghost use Rattle.std.specs.Prelude.{◌≡◌, ◌-◌, take, drop};
-ghost use Rattle.defmt_grammar.specs.Kind.{kind_names, at_word, named_kind, count_of, bits_of, array_len, kind_of};
+ghost use Rattle.defmt_grammar.specs.Kind.{base_kind_names, full_kind_names, at_word, named_kind, is_left_out, count_of, bits_of, array_len, kind_of};
 
+use crate::language::Language;
 use crate::parts::{behind, behind_text, cut, number_of, skip_spaces};
 
 /// Why a text is no kind.
@@ -22,6 +23,13 @@ pub enum IntSize {
     W64,
     W128,
     Native,
+}
+
+/// The width of a floating-point number in bits.
+#[derive(Clone, Copy, Debug, PartialEq, Eq)]
+pub enum FloatSize {
+    W32,
+    W64,
 }
 
 /// The type of a parameter's argument. The defmt book, "Type hints" and "Bitfields".
@@ -51,11 +59,21 @@ pub enum Kind {
     FormatArray(u16),
     /// `lo..hi`: the bits `lo` to `hi - 1` of a number, where `lo < hi` and `hi` is at most 128.
     Bits { lo: u8, hi: u8 },
+    /// `f32` and `f64`, in the full language.
+    Float(FloatSize),
+    /// `__internal_Debug`, in the full language: a text that the device made by `core::fmt::Debug`.
+    Debug,
+    /// `__internal_Display`, in the full language: a text that the device made by
+    /// `core::fmt::Display`.
+    Display,
+    /// `__internal_FormatSequence`, in the full language: values with format strings of their own,
+    /// one behind the other.
+    Sequence,
 }
 
 // The kind of an unsigned integer's name.
 fn unsigned_kind(text: &str) -> Option<Kind>
-    ensures { result ≡ at_word text.now (take 6 kind_names) }
+    ensures { result ≡ at_word text.now (take 6 base_kind_names) }
 {
     match text {
         "u8" => Some(Kind::Uint(IntSize::W8)),
@@ -70,7 +88,7 @@ fn unsigned_kind(text: &str) -> Option<Kind>
 
 // The kind of a signed integer's name.
 fn signed_kind(text: &str) -> Option<Kind>
-    ensures { result ≡ at_word text.now (take 6 (drop 6 kind_names)) }
+    ensures { result ≡ at_word text.now (take 6 (drop 6 base_kind_names)) }
 {
     match text {
         "i8" => Some(Kind::Int(IntSize::W8)),
@@ -85,7 +103,7 @@ fn signed_kind(text: &str) -> Option<Kind>
 
 // The kind of a text that is a word of its own, and names no integer.
 fn other_kind(text: &str) -> Option<Kind>
-    ensures { result ≡ at_word text.now (drop 12 kind_names) }
+    ensures { result ≡ at_word text.now (drop 12 base_kind_names) }
 {
     match text {
         "bool" => Some(Kind::Bool),
@@ -99,16 +117,45 @@ fn other_kind(text: &str) -> Option<Kind>
     }
 }
 
+// The kind of a word of the full language alone.
+fn full_kind(text: &str, language: Language) -> Option<Kind>
+    ensures { result ≡ at_word text.now (full_kind_names language) }
+{
+    match language {
+        Language::Base => None,
+        Language::Full => match text {
+            "f32" => Some(Kind::Float(FloatSize::W32)),
+            "f64" => Some(Kind::Float(FloatSize::W64)),
+            "__internal_Debug" => Some(Kind::Debug),
+            "__internal_Display" => Some(Kind::Display),
+            "__internal_FormatSequence" => Some(Kind::Sequence),
+            _ => None,
+        },
+    }
+}
+
 // The kind of a text that is a word of its own.
-fn named_kind(text: &str) -> Option<Kind>
-    ensures { result ≡ named_kind text.now }
+fn named_kind(text: &str, language: Language) -> Option<Kind>
+    ensures { result ≡ named_kind language text.now }
 {
     if let Some(kind) = unsigned_kind(text) {
         Some(kind)
     } else if let Some(kind) = signed_kind(text) {
         Some(kind)
+    } else if let Some(kind) = other_kind(text) {
+        Some(kind)
     } else {
-        other_kind(text)
+        full_kind(text, language)
+    }
+}
+
+// Whether a text is the name of a kind that the base language leaves out.
+fn is_left_out(text: &str, language: Language) -> bool
+    ensures { result ≡ is_left_out language text.now }
+{
+    match language {
+        Language::Base => text == "f32" || text == "f64",
+        Language::Full => false,
     }
 }
 
@@ -143,14 +190,14 @@ fn array_of(count: u32) -> Result<u16, KindFault>
     u16::try_from(count).map_err(|_| KindFault::Range)
 }
 
-/// The kind that a text spells.
+/// The kind that a text spells in a language.
 #[tactic(auto, unfolding(crate::specs::Kind::shape_of, crate::specs::Kind::kind_of))]
-pub fn kind_of(text: &str) -> Result<Kind, KindFault>
-    ensures { result ≡ kind_of text.now }
+pub fn kind_of(text: &str, language: Language) -> Result<Kind, KindFault>
+    ensures { result ≡ kind_of language text.now }
 {
-    if let Some(kind) = named_kind(text) {
+    if let Some(kind) = named_kind(text, language) {
         Ok(kind)
-    } else if text == "f32" || text == "f64" {
+    } else if is_left_out(text, language) {
         Err(KindFault::Float)
     } else if let Some(count) = count_of(text, "[u8;") {
         Ok(Kind::ByteArray(array_of(count)?))

@@ -7,6 +7,7 @@
 mod fault;
 mod hint;
 mod kind;
+mod language;
 mod param;
 mod parts;
 mod piece;
@@ -19,11 +20,12 @@ mod step;
 mod text;
 
 pub use fault::{Cause, GrammarFault, Memory, Mode};
-pub use hint::{Base, Hint};
-pub use kind::{IntSize, Kind};
+pub use hint::{Base, ClockUnit, Hint, IsoUnit};
+pub use kind::{FloatSize, IntSize, Kind};
+pub use language::Language;
 pub use param::Param;
 pub use piece::Piece;
-pub use pieces::{Pieces, one_answer, parse, slots_are_sound, strict_is_lenient};
+pub use pieces::{Pieces, base_is_full, one_answer, parse, slots_are_sound, strict_is_lenient};
 pub use printing::{print, reads_back};
 pub use slot::Slot;
 pub use text::Text;

@@ -8,6 +8,7 @@ ghost use Rattle.defmt_grammar.specs.Param.{both_now, viewed, view_written, writ
 use crate::fault::{Cause, Fault, Mode};
 use crate::hint::{Hint, hint_of};
 use crate::kind::{Kind, KindFault, kind_of};
+use crate::language::Language;
 use crate::parts::{behind, cut, number_of};
 
 /// A place for an argument: what stands between braces in a format string. The crate defmt-parser,
@@ -127,12 +128,12 @@ fn cause_of(fault: KindFault) -> Cause
 }
 
 // The kind that is written, which begins at this place, or `Kind::Format`.
-fn kind_part_of(text: Option<&str>, at: usize) -> Result<Kind, Fault>
-    ensures { result ≡ kind_part_of (option_copied text.entry) at }
+fn kind_part_of(text: Option<&str>, language: Language, at: usize) -> Result<Kind, Fault>
+    ensures { result ≡ kind_part_of language (option_copied text.entry) at }
 {
     match text {
         None => Ok(Kind::Format),
-        Some(text) => match kind_of(text) {
+        Some(text) => match kind_of(text, language) {
             Ok(kind) => Ok(kind),
             Err(fault) => Err(Fault {
                 cause: cause_of(fault),
@@ -148,10 +149,10 @@ fn hint_part_of(text: Option<&str>, mode: Mode, at: usize) -> Result<Hint, Fault
 {
     match text {
         None => Ok(Hint::Plain),
-        Some(text) => match (hint_of(text), mode) {
-            (Some(hint), _) => Ok(hint),
-            (None, Mode::Lenient) => Ok(Hint::Plain),
-            (None, Mode::Strict) => Err(Fault {
+        Some(text) => match hint_of(text, mode.language()) {
+            Some(hint) => Ok(hint),
+            None if mode.is_lenient() => Ok(Hint::Plain),
+            None => Err(Fault {
                 cause: Cause::Hint,
                 at,
             }),
@@ -179,7 +180,7 @@ pub fn param_of(inside: &str, mode: Mode, next: u8) -> Result<(Param, u8), Fault
 {
     let written = written_of(inside)?;
     let position = position_of(written.digits, next)?;
-    let kind = kind_part_of(written.kind, written.digits.len() + 2)?;
+    let kind = kind_part_of(written.kind, mode.language(), written.digits.len() + 2)?;
     let hint_at = inside.len() + 1 - hint_len(written.hint);
     let hint = hint_part_of(written.hint, mode, hint_at)?;
     let next = if written.digits.is_empty() {

@@ -4,6 +4,8 @@ ghost use Rattle.std.specs.Prelude.{◌≡◌, ◌<◌, ◌≤◌, ◌^◌, List
 ghost use Rattle.defmt_grammar.specs.declared.fault.Cause.{Cause as Causes};
 ghost use Rattle.defmt_grammar.specs.declared.piece.Piece.{Piece as AnyPiece};
 ghost use Rattle.defmt_grammar.specs.declared.fault.Mode.{Mode as Modes};
+ghost use Rattle.defmt_grammar.specs.declared.language.Language.{Language as Languages};
+ghost use Rattle.defmt_grammar.specs.Language.{strict_of, lenient_of};
 ghost use Rattle.defmt_grammar.specs.Grammar.{Spells, HasFault, IsRefused, SameFault, AreSpelled};
 ghost use Rattle.defmt_grammar.specs.Pieces.{Parses, GivesOnly, RefusesOnly};
 ghost use Rattle.defmt_grammar.specs.Slots.{slots_of, uses_at, IsSound, AllUsed, SlotsAreSound};
@@ -163,10 +165,16 @@ pub fn one_answer()
     ensures first { (text : List ℕ) (mode : Modes) (c d : Causes) (a b : ℕ) → HasFault text mode c a → HasFault text mode d b → SameFault c d a b }
 {}
 
-/// What a text spells strictly it spells leniently.
+/// What a text spells strictly it spells leniently, in each language.
 pub fn strict_is_lenient()
+    ensures { (language : Languages) (text : List ℕ) (ps : List AnyPiece) → Spells text (strict_of language) ps
+        → Spells text (lenient_of language) ps }
+{}
+
+/// What a text spells strictly in the base language it spells in the full one.
+pub fn base_is_full()
     ensures { (text : List ℕ) (ps : List AnyPiece) → Spells text Mode.Strict ps
-        → Spells text Mode.Lenient ps }
+        → Spells text Mode.StrictFull ps }
 {}
 
 /// Pieces that some text spells have at most 16 slots. A window lies within 16 bytes and holds each

@@ -1,15 +1,16 @@
 //! The canonical spelling.
 
-ghost use Rattle.std.specs.Prelude.{◌≡◌, ◌∷◌, [], ◌++◌, OnOk, IfOk, List};
+ghost use Rattle.std.specs.Prelude.{◌≡◌, ◌∷◌, [], ◌++◌, OnOk, IfOk, List, ℕ};
 ghost use Rattle.defmt_grammar.specs.Print.{kind_name, kind_text, radix_text, hint_text, param_text, doubled, piece_text, printed};
 ghost use Rattle.defmt_grammar.specs.Grammar.{Spells, AreSpelled};
 ghost use Rattle.defmt_grammar.specs.declared.piece.Piece.{Piece as AnyPiece};
-ghost use Rattle.defmt_grammar.specs.Print.{strict};
-ghost use Rattle.defmt_grammar.specs.Hint.{letter_of};
+ghost use Rattle.defmt_grammar.specs.declared.fault.Mode.{Mode as Modes};
+ghost use Rattle.defmt_grammar.specs.Print.{back};
+ghost use Rattle.defmt_grammar.specs.Hint.{letter_of, iso_name, clock_name};
 
-use crate::fault::Memory;
-use crate::hint::{Base, Hint};
-use crate::kind::{IntSize, Kind};
+use crate::fault::{Memory, Mode};
+use crate::hint::{Base, ClockUnit, Hint, IsoUnit};
+use crate::kind::{FloatSize, IntSize, Kind};
 use crate::param::Param;
 use crate::parts::behind;
 use crate::piece::Piece;
@@ -42,6 +43,11 @@ fn kind_name(kind: Kind) -> &'static str
         Kind::Bytes => "[u8]",
         Kind::Format => "?",
         Kind::FormatSlice => "[?]",
+        Kind::Float(FloatSize::W32) => "f32",
+        Kind::Float(FloatSize::W64) => "f64",
+        Kind::Debug => "__internal_Debug",
+        Kind::Display => "__internal_Display",
+        Kind::Sequence => "__internal_FormatSequence",
         Kind::ByteArray(_) | Kind::FormatArray(_) | Kind::Bits { .. } => "",
     }
 }
@@ -96,6 +102,27 @@ fn print_radix(out: &mut Text, base: Base, alt: bool, width: u8) -> Result<(), M
     out.push_str(base_letter(base))
 }
 
+// The word of a date and time.
+fn iso_name(unit: IsoUnit) -> &'static str
+    ensures { result.now ≡ iso_name unit }
+{
+    match unit {
+        IsoUnit::Seconds => "iso8601s",
+        IsoUnit::Millis => "iso8601ms",
+    }
+}
+
+// The word of a clock.
+fn clock_name(unit: ClockUnit) -> &'static str
+    ensures { result.now ≡ clock_name unit }
+{
+    match unit {
+        ClockUnit::Seconds => "ts",
+        ClockUnit::Millis => "tms",
+        ClockUnit::Micros => "tus",
+    }
+}
+
 // Appends a hint with its colon, or nothing where it is plain.
 fn print_hint(out: &mut Text, hint: Hint) -> Result<(), Memory>
     ensures { OnOk result (out.new ≡ out.old ++ hint_text hint) }
@@ -109,6 +136,18 @@ fn print_hint(out: &mut Text, hint: Hint) -> Result<(), Memory>
         Hint::Radix { base, alt, width } => {
             out.push_str(":")?;
             print_radix(out, base, alt, width)
+        }
+        Hint::Iso(unit) => {
+            out.push_str(":")?;
+            out.push_str(iso_name(unit))
+        }
+        Hint::Clock(unit) => {
+            out.push_str(":")?;
+            out.push_str(clock_name(unit))
+        }
+        Hint::Pad(width) => {
+            out.push_str(":0")?;
+            out.push_number(u16::from(width))
         }
     }
 }
@@ -170,7 +209,9 @@ pub fn print(alloc: Global, pieces: &Pieces) -> Result<Text, Memory>
     Ok(out)
 }
 
-/// What is printed is read back: the canonical spelling of pieces that some text spells spells them.
+/// What is printed is read back: the canonical spelling of pieces that a text spells in a mode spells
+/// them in the strict mode of its language, and that of pieces that some text spells in the full one.
 pub fn reads_back()
-    ensures { (ps : List AnyPiece) → AreSpelled ps → Spells (printed ps) strict ps }
+    ensures same { (text : List ℕ) (mode : Modes) (ps : List AnyPiece) → Spells text mode ps → Spells (printed ps) (back mode) ps }
+    ensures full { (ps : List AnyPiece) → AreSpelled ps → Spells (printed ps) Mode.StrictFull ps }
 {}
