@@ -5,7 +5,7 @@ use Rattle.std.proofs.lemmas.Bool.Decides.{nat_tests}
 use Rattle.std.proofs.lemmas.List.Recursion.{is_count_by}
 use Rattle.std.proofs.lemmas.Str.Pattern.{IsSplitOnceResult, split_parts}
 use Rattle.std.proofs.lemmas.Bool.{ne_eqb}
-use Rattle.defmt_grammar.specs.declared.fault.Mode.TheVariants.{Lenient}
+use Rattle.defmt_grammar.specs.declared.fault.Mode.{Mode}
 use Rattle.defmt_grammar.specs.declared.piece.Piece.{Piece}
 use Rattle.defmt_intern.specs.Body.{with_char, variants, forms_of, one_body, forms_body, cut_body, HasNoBar, StartsWith}
 use Rattle.defmt_intern.specs.declared.parsed.Parsed.TheVariants as bodies
@@ -61,22 +61,22 @@ variants_alone [] e = refl
 variants_alone (c ∷ cs) e = alone c cs (eqb c 124) (variants_there cs) (variants_alone cs) e
 
 -- a text without `|`
-pub body_uncut : (text : List ℕ) → length (variants text) ≡ 1 → cut_body (variants text) ≡ one_body (pieces_of Lenient text)
+pub body_uncut : (mode : Mode) (text : List ℕ) → length (variants text) ≡ 1 → cut_body mode (variants text) ≡ one_body (pieces_of mode text)
 unfolding cut_body
-body_uncut text e = ap cut_body (variants_alone text e)
+body_uncut mode text e = ap (cut_body mode) (variants_alone text e)
 
 -- a text that `|` cuts
-cut_some : (vs : List (List ℕ)) → 2 ≤ length vs → cut_body vs ≡ cond (leb (length vs) 255) (forms_body (forms_of vs)) bodies.Unsupported
+cut_some : (mode : Mode) (vs : List (List ℕ)) → 2 ≤ length vs → cut_body mode vs ≡ cond (leb (length vs) 255) (forms_body (forms_of mode vs)) bodies.Unsupported
 unfolding cut_body
-cut_some [] h = absurd (omega arith)
-cut_some (v ∷ []) h = absurd (omega arith)
-cut_some (v ∷ w ∷ vs) h = refl
+cut_some mode [] h = absurd (omega arith)
+cut_some mode (v ∷ []) h = absurd (omega arith)
+cut_some mode (v ∷ w ∷ vs) h = refl
 
-pub body_cut : (text : List ℕ) → 2 ≤ length (variants text) → length (variants text) ≤ 255 → cut_body (variants text) ≡ forms_body (forms_of (variants text))
-body_cut text h le = let few : leb (length (variants text)) 255 ≡ true = grind (arith, nat_tests) in cut_some (variants text) h ∙ rw few refl
+pub body_cut : (mode : Mode) (text : List ℕ) → 2 ≤ length (variants text) → length (variants text) ≤ 255 → cut_body mode (variants text) ≡ forms_body (forms_of mode (variants text))
+body_cut mode text h le = let few : leb (length (variants text)) 255 ≡ true = grind (arith, nat_tests) in cut_some mode (variants text) h ∙ rw few refl
 
-pub body_many : (text : List ℕ) → 255 < length (variants text) → cut_body (variants text) ≡ bodies.Unsupported
-body_many text h = let many : leb (length (variants text)) 255 ≡ false = grind (arith, nat_tests) in cut_some (variants text) (omega arith) ∙ rw many refl
+pub body_many : (mode : Mode) (text : List ℕ) → 255 < length (variants text) → cut_body mode (variants text) ≡ bodies.Unsupported
+body_many mode text h = let many : leb (length (variants text)) 255 ≡ false = grind (arith, nat_tests) in cut_some mode (variants text) (omega arith) ∙ rw many refl
 
 -- ---- how far the variants are read
 
@@ -91,22 +91,22 @@ behind_one : (forms : List (List Piece)) (ps : List Piece) (o : Option (List (Li
 behind_one forms ps None = refl
 behind_one forms ps (Some more) = ap Some (sym (append_assoc forms (ps ∷ []) more))
 
-pub goes_on : (forms : List (List Piece)) (rest variant after : List ℕ) (ps : List Piece) → rest ≡ variant ++ 124 ∷ after → HasNoBar variant → pieces_of Lenient variant ≡ Some ps → behind_forms (forms ++ ps ∷ []) (forms_of (variants after)) ≡ behind_forms forms (forms_of (variants rest))
-goes_on forms rest variant after ps e bare spelled =
+pub goes_on : (mode : Mode) (forms : List (List Piece)) (rest variant after : List ℕ) (ps : List Piece) → rest ≡ variant ++ 124 ∷ after → HasNoBar variant → pieces_of mode variant ≡ Some ps → behind_forms (forms ++ ps ∷ []) (forms_of mode (variants after)) ≡ behind_forms forms (forms_of mode (variants rest))
+goes_on mode forms rest variant after ps e bare spelled =
     let cut : variants rest ≡ variant ∷ variants after = ap variants e ∙ variants_more variant after bare in
-    let first : forms_of (variants rest) ≡ joined_forms (Some ps) (forms_of (variants after)) = ap forms_of cut ∙ ap (λ (o : Option (List Piece)). joined_forms o (forms_of (variants after))) spelled in
-    sym (ap (behind_forms forms) first ∙ behind_one forms ps (forms_of (variants after)))
+    let first : forms_of mode (variants rest) ≡ joined_forms (Some ps) (forms_of mode (variants after)) = ap (forms_of mode) cut ∙ ap (λ (o : Option (List Piece)). joined_forms o (forms_of mode (variants after))) spelled in
+    sym (ap (behind_forms forms) first ∙ behind_one forms ps (forms_of mode (variants after)))
 
-pub stops : (forms : List (List Piece)) (rest variant after : List ℕ) → rest ≡ variant ++ 124 ∷ after → HasNoBar variant → pieces_of Lenient variant ≡ None → behind_forms forms (forms_of (variants rest)) ≡ None
-stops forms rest variant after e bare none =
+pub stops : (mode : Mode) (forms : List (List Piece)) (rest variant after : List ℕ) → rest ≡ variant ++ 124 ∷ after → HasNoBar variant → pieces_of mode variant ≡ None → behind_forms forms (forms_of mode (variants rest)) ≡ None
+stops mode forms rest variant after e bare none =
     let cut : variants rest ≡ variant ∷ variants after = ap variants e ∙ variants_more variant after bare in
-    ap (behind_forms forms) (ap forms_of cut ∙ ap (λ (o : Option (List Piece)). joined_forms o (forms_of (variants after))) none)
+    ap (behind_forms forms) (ap (forms_of mode) cut ∙ ap (λ (o : Option (List Piece)). joined_forms o (forms_of mode (variants after))) none)
 
-pub ends : (forms : List (List Piece)) (rest : List ℕ) (ps : List Piece) → HasNoBar rest → pieces_of Lenient rest ≡ Some ps → behind_forms forms (forms_of (variants rest)) ≡ Some (forms ++ ps ∷ [])
-ends forms rest ps bare spelled = ap (behind_forms forms) (ap forms_of (variants_one rest bare) ∙ ap (λ (o : Option (List Piece)). joined_forms o (Some [])) spelled)
+pub ends : (mode : Mode) (forms : List (List Piece)) (rest : List ℕ) (ps : List Piece) → HasNoBar rest → pieces_of mode rest ≡ Some ps → behind_forms forms (forms_of mode (variants rest)) ≡ Some (forms ++ ps ∷ [])
+ends mode forms rest ps bare spelled = ap (behind_forms forms) (ap (forms_of mode) (variants_one rest bare) ∙ ap (λ (o : Option (List Piece)). joined_forms o (Some [])) spelled)
 
-pub ends_none : (forms : List (List Piece)) (rest : List ℕ) → HasNoBar rest → pieces_of Lenient rest ≡ None → behind_forms forms (forms_of (variants rest)) ≡ None
-ends_none forms rest bare none = ap (behind_forms forms) (ap forms_of (variants_one rest bare) ∙ ap (λ (o : Option (List Piece)). joined_forms o (Some [])) none)
+pub ends_none : (mode : Mode) (forms : List (List Piece)) (rest : List ℕ) → HasNoBar rest → pieces_of mode rest ≡ None → behind_forms forms (forms_of mode (variants rest)) ≡ None
+ends_none mode forms rest bare none = ap (behind_forms forms) (ap (forms_of mode) (variants_one rest bare) ∙ ap (λ (o : Option (List Piece)). joined_forms o (Some [])) none)
 
 -- ---- the first `|`
 

@@ -1,4 +1,5 @@
 pub mod BodyLaws
+pub mod EntriesLaws
 pub mod NameLaws
 pub mod PieceLaws
 mod FaultLaws

@@ -8,6 +8,8 @@ use Rattle.std.proofs.lemmas.Bool.Decides.{Decides-and, Decides-or, Decides-like
 use Rattle.std.proofs.lemmas.Option.{same_Some, slice_get_within}
 use Rattle.defmt_grammar.specs.declared.fault.Fault.{Fault}
 use Rattle.defmt_grammar.specs.declared.fault.Mode.{Mode}
+use Rattle.defmt_grammar.specs.declared.kind.FloatSize.{FloatSize}
+use Rattle.defmt_grammar.specs.declared.kind.FloatSize.TheVariants as floats
 use Rattle.defmt_grammar.specs.declared.kind.IntSize.{IntSize}
 use Rattle.defmt_grammar.specs.declared.kind.IntSize.TheVariants as sizes
 use Rattle.defmt_grammar.specs.declared.kind.Kind.{Kind}
@@ -19,7 +21,7 @@ use Rattle.defmt_grammar.specs.Step.{Read, run, hole as hole_step, step_of}
 use Rattle.defmt_grammar.proofs.StepLaws.{next_token, then_tokens, step_spells, step_fails, token_shorter}
 use Rattle.defmt_grammar.proofs.ReadingLaws.{run_shorter}
 use Rattle.defmt_grammar.proofs.Unique.{one_reading, spells_one, spells_no_fault}
-use Rattle.defmt_intern.specs.Pieces.{with_more, tokens_by, is_size, is_kind, is_bits, go_together, agree, all_agree, occurs, all_occur, is_gapless, pieces_by, pieces_of}
+use Rattle.defmt_intern.specs.Pieces.{with_more, tokens_by, is_size, is_float_size, is_kind, is_bits, go_together, agree, all_agree, occurs, all_occur, is_gapless, pieces_by, pieces_of}
 
 -- ---- a text is tokens, or has a first fault
 
@@ -81,6 +83,11 @@ size-Decides sizes.W128 sizes.W128 = (λ _. refl, λ _. refl)
 size-Decides sizes.Native sizes.Native = (λ _. refl, λ _. refl)
 size-Decides s t = (λ e. absurd (true≢false (sym e)), λ e. absurd cc)
 
+float_size-Decides : (s t : FloatSize) → Decides (is_float_size s t) (s ≡ t)
+float_size-Decides floats.W32 floats.W32 = (λ _. refl, λ _. refl)
+float_size-Decides floats.W64 floats.W64 = (λ _. refl, λ _. refl)
+float_size-Decides s t = (λ e. absurd (true≢false (sym e)), λ e. absurd cc)
+
 bits_same : (a b c d : ℕ) → (a ≡ c) × (b ≡ d) → kinds.Bits a b ≡ kinds.Bits c d
 bits_same a b c d e = ap (λ (n : ℕ). kinds.Bits n b) e.0 ∙ ap (kinds.Bits c) e.1
 
@@ -99,6 +106,10 @@ kind-Decides (kinds.ByteArray m) (kinds.ByteArray n) = Decides-like (m == n) (λ
 kind-Decides kinds.Format kinds.Format = (λ _. refl, λ _. refl)
 kind-Decides kinds.FormatSlice kinds.FormatSlice = (λ _. refl, λ _. refl)
 kind-Decides (kinds.FormatArray m) (kinds.FormatArray n) = Decides-like (m == n) (λ e. ap kinds.FormatArray e) (λ e. let f : m ≡ n = cc in f) (eqb-Decides m n)
+kind-Decides (kinds.Float s) (kinds.Float t) = Decides-like (is_float_size s t) (λ e. ap kinds.Float e) (λ e. let f : s ≡ t = cc in f) (float_size-Decides s t)
+kind-Decides kinds.Debug kinds.Debug = (λ _. refl, λ _. refl)
+kind-Decides kinds.Display kinds.Display = (λ _. refl, λ _. refl)
+kind-Decides kinds.Sequence kinds.Sequence = (λ _. refl, λ _. refl)
 kind-Decides (kinds.Bits a b) (kinds.Bits c d) =
     Decides-like (a == c && b == d) (bits_same a b c d) (bits_parts a b c d)
     (Decides-and (a == c) (b == d) (eqb-Decides a c) (eqb-Decides b d))

@@ -1,12 +1,12 @@
 -- The index of the timestamp's entry.
 use Rattle.std.proofs.Common.{◌≡◌, ℕ, Bool, true, false, cond, ◌||◌, nat_lt, List, [], ◌∷◌, Option, Some, None, refl, sym, ap, ◌∙◌, arith}
-use Rattle.std.specs.FinMap as map
 use Rattle.std.specs.FinMap.{contains_key-keys}
 use Rattle.std.specs.List.{find, list_any}
 use Rattle.std.specs.Ordering.{nat_cmp, eq_by_cmp}
 use Rattle.std.specs.Prelude.{is_some}
 use Rattle.std.proofs.lemmas.Bool.{and_from, and_parts, lt-ltb}
 use Rattle.std.proofs.lemmas.Bool.Decides.{nat_tests}
+use Rattle.defmt_intern.specs.Entries as map
 use Rattle.defmt_intern.specs.Stamp.{is_timestamp, has_stamp, is_stamp_at, stamp_of}
 use Rattle.defmt_intern.specs.Table.{Map, IsStamp, IsLawful, StampIs}
 use Rattle.defmt_intern.specs.declared.entry.Entry.{Entry}
@@ -62,7 +62,7 @@ passes t i lawful s = and_from (nat_lt i 65536) (has_stamp (map.get t i)) (lt-lt
 
 -- where none is found, there is none
 none_there : (t : Map) (i : ℕ) → find (is_stamp_at t) (map.keys t) ≡ no_index → IsLawful t → IsStamp t i → ⊥
-none_there t i f lawful s = not_found (is_stamp_at t) (map.keys t) i f (sym (contains_key-keys t i) ∙ ap is_some s.there) (passes t i lawful s)
+none_there t i f lawful s = not_found (is_stamp_at t) (map.keys t) i f (sym (contains_key-keys t.entries i) ∙ ap is_some s.there) (passes t i lawful s)
 
 some_there : (t : Map) (i : ℕ) → find (is_stamp_at t) (map.keys t) ≡ some_index i → IsStamp t i
 some_there t i f = is_there t i (found (is_stamp_at t) (map.keys t) i f)

@@ -2,42 +2,40 @@
 use Rattle.std.proofs.Common.{◌≡◌, ◌≢◌, ◌≤◌, ◌<◌, ◌+◌, ◌^◌, ◌⊎◌, inl, inr, ℕ, true, false, List, [], length, Option, Some, None, is_eq, refl, sym, ap, subst, ◌∙◌, arith, nat_cmp, Bor, Result, Ok, Err, MatchOption}
 use Rattle.std.specs.Prelude.{SomeIff, ⊤, IsSome, is_some}
 use Rattle.std.specs.Option.{option_copied}
-use Rattle.std.specs.Cmp.{nat_cmp_total}
-use Rattle.std.specs.FinMap.{get-empty, get-insert, len-empty}
 use Rattle.std.proofs.lemmas.Bool.{cases_eq, cases_lt}
 use Rattle.std.proofs.lemmas.Bool.Decides.{nat_tests}
+use Rattle.defmt_grammar.specs.declared.language.Language.{Language}
 use Rattle.defmt_intern.specs.declared.putting.Cause.{Cause}
 use Rattle.defmt_intern.specs.declared.table.TableFault.{TableFault}
 use Rattle.defmt_intern.specs.declared.entry.Entry.{Entry}
 use Rattle.defmt_intern.specs.declared.entry.Tag.TheVariants.{Timestamp}
 use Rattle.defmt_intern.specs.Table.{Map, Slot, IsStamp, IsLawful, StampIs, IsKept, IsWhole, IsSecond, EntryRefused, InsertRefused, AddRefused, IsGreatest, IsNext, Puts, PutsUnlessMemory, cause_number}
-use Rattle.std.specs.FinMap as map
+use Rattle.defmt_intern.specs.Entries as map
+use Rattle.defmt_intern.proofs.EntriesLaws.{get-empty_of, get-insert, len-empty_of}
 use Rattle.defmt_intern.specs.declared.table.TableFault.TheVariants as faults
 
 pub here : (table : Map) (k : ℕ) (v : Entry) → map.get (map.insert table k v) k ≡ Some v
-here table k v = get-insert nat_cmp_total table k v k ∙ (let t : is_eq (nat_cmp k k) ≡ true = grind (arith, nat_tests) in rw t refl)
+here table k v = get-insert table k v k ∙ (let t : is_eq (nat_cmp k k) ≡ true = grind (arith, nat_tests) in rw t refl)
 
 pub apart : (table : Map) (k : ℕ) (v : Entry) (q : ℕ) → q ≢ k → map.get (map.insert table k v) q ≡ map.get table q
-apart table k v q n = get-insert nat_cmp_total table k v q ∙ (let t : is_eq (nat_cmp q k) ≡ false = grind (arith, nat_tests) in rw t refl)
+apart table k v q n = get-insert table k v q ∙ (let t : is_eq (nat_cmp q k) ≡ false = grind (arith, nat_tests) in rw t refl)
 
-pub put_is : (old new : Map) (k : ℕ) (v : Entry) {table : Map} → new ≡ map.insert old k v → old ≡ table → new ≡ map.insert table k v
-put_is old new k v e same = e ∙ ap (λ (t : Map). map.insert t k v) same
+nothing : (language : Language) (q : ℕ) (e : Entry) → map.get (map.empty_of language) q ≡ Some e → ⊥
+nothing language q e h = let k : map.get (map.empty_of language) q ≡ None = get-empty_of language q in cc
 
-nothing : (q : ℕ) (e : Entry) → map.get {R = nat_cmp} map.empty q ≡ Some e → ⊥
-nothing q e h = let k : map.get {X = Entry} {R = nat_cmp} map.empty q ≡ None = get-empty nat_cmp q in cc
-
-pub whole_empty : (slots : List Slot) → slots ≡ [] → IsWhole slots 0 None
-whole_empty slots e = subst (λ (xs : List Slot). IsWhole xs 0 None) (sym e) (record {
+pub whole_empty : (language : Language) (slots : List Slot) → slots ≡ [] → IsWhole language slots 0 None
+whole_empty language slots e = subst (λ (xs : List Slot). IsWhole language xs 0 None) (sym e) (record {
   kept = record {
     lawful = record {
-      small = λ i entry h. absurd (nothing i entry h);
-      short = λ i entry h. absurd (nothing i entry h);
-      one_stamp = λ i j a b. absurd (nothing i a.entry a.there);
+      small = λ i entry h. absurd (nothing language i entry h);
+      short = λ i entry h. absurd (nothing language i entry h);
+      one_stamp = λ i j a b. absurd (nothing language i a.entry a.there);
     };
-    stamp_is = λ i a. absurd (nothing i a.entry a.there);
+    stamp_is = λ i a. absurd (nothing language i a.entry a.there);
   };
-  counted = sym (len-empty nat_cmp Entry);
+  counted = sym (len-empty_of language);
   few = omega arith;
+  read = λ k d l. absurd (omega (arith, l));
 })
 
 same_entry : (a b : Entry) → Some a ≡ Some b → a ≡ b
@@ -107,14 +105,14 @@ no_refusal table v short one cause (inr x) = one x.2
 abbrev FreeNext : Map → ℕ → Type 0
 FreeNext table n = IsNext table n × (IsSome (map.get table n) → ⊥) × (IsGreatest table 65535 → ⊥)
 
-pub nowhere : (q : ℕ) → IsSome (map.get {X = Entry} {R = nat_cmp} map.empty q) → ⊥
-nowhere q h = let k : map.get {X = Entry} {R = nat_cmp} map.empty q ≡ None = get-empty nat_cmp q in let g : is_some (map.get {X = Entry} {R = nat_cmp} map.empty q) ≡ false = ap is_some k in absurd cc
+nowhere : (language : Language) (q : ℕ) → IsSome (map.get (map.empty_of language) q) → ⊥
+nowhere language q h = let k : map.get (map.empty_of language) q ≡ None = get-empty_of language q in let g : is_some (map.get (map.empty_of language) q) ≡ false = ap is_some k in absurd cc
 
-empty_next : FreeNext map.empty 1
-empty_next = (inl (refl, refl), nowhere 1, (λ g. nowhere 65535 g.0))
+empty_next : (language : Language) → FreeNext (map.empty_of language) 1
+empty_next language = (inl (refl, refl), nowhere language 1, (λ g. nowhere language 65535 g.0))
 
-pub next_none : (table : Map) → table ≡ map.empty → FreeNext table 1
-next_none table e = subst (λ (t : Map). FreeNext t 1) (sym e) empty_next
+pub next_none : (language : Language) (table : Map) → table ≡ map.empty_of language → FreeNext table 1
+next_none language table e = subst (λ (t : Map). FreeNext t 1) (sym e) (empty_next language)
 
 next_by : (table : Map) (g : ℕ) (r : Option ℕ) → IsGreatest table g → g < 65536 → SomeIff r (g + 1 < 65536) (g + 1) → MatchOption r (IsGreatest table 65535) (FreeNext table)
 next_by table g None top small h = subst (IsGreatest table) (let k : g ≡ 65535 = elim (cases_lt (g + 1) 65536) [ inl l ↦ absurd (h l) | inr le ↦ omega arith ] in k) top

@@ -1,5 +1,6 @@
 pub mod Body
 pub mod Catalog
+pub mod Entries
 pub mod Pieces
 pub mod Name
 pub mod Stamp

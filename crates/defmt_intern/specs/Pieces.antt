@@ -3,6 +3,8 @@ use Rattle.std.specs.Prelude.{◌-◌, ◌==◌, ◌&&◌, ◌||◌, ℕ, zero, 
 use Rattle.std.specs.List.{list_all, list_any}
 use Rattle.defmt_grammar.specs.declared.fault.Fault.{Fault}
 use Rattle.defmt_grammar.specs.declared.fault.Mode.{Mode}
+use Rattle.defmt_grammar.specs.declared.kind.FloatSize.{FloatSize}
+use Rattle.defmt_grammar.specs.declared.kind.FloatSize.TheVariants as floats
 use Rattle.defmt_grammar.specs.declared.kind.IntSize.{IntSize}
 use Rattle.defmt_grammar.specs.declared.kind.IntSize.TheVariants as sizes
 use Rattle.defmt_grammar.specs.declared.kind.Kind.{Kind}
@@ -50,6 +52,11 @@ is_size sizes.W128 sizes.W128 = true
 is_size sizes.Native sizes.Native = true
 is_size s t = false
 
+abbrev pub is_float_size : FloatSize → FloatSize → Bool
+is_float_size floats.W32 floats.W32 = true
+is_float_size floats.W64 floats.W64 = true
+is_float_size s t = false
+
 -- two kinds are the same
 abbrev pub is_kind : Kind → Kind → Bool
 is_kind (kinds.Uint s) (kinds.Uint t) = is_size s t
@@ -64,6 +71,10 @@ is_kind kinds.Format kinds.Format = true
 is_kind kinds.FormatSlice kinds.FormatSlice = true
 is_kind (kinds.FormatArray m) (kinds.FormatArray n) = m == n
 is_kind (kinds.Bits lo hi) (kinds.Bits low high) = lo == low && hi == high
+is_kind (kinds.Float s) (kinds.Float t) = is_float_size s t
+is_kind kinds.Debug kinds.Debug = true
+is_kind kinds.Display kinds.Display = true
+is_kind kinds.Sequence kinds.Sequence = true
 is_kind k l = false
 
 abbrev pub is_bits : Kind → Bool

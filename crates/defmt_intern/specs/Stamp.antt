@@ -1,8 +1,8 @@
 -- Which entry of a table is the timestamp's (defmt book, "Timestamps").
 use Rattle.std.specs.Prelude.{ℕ, Bool, true, false, nat_lt, ◌&&◌, Option, Some, None}
-use Rattle.std.specs.FinMap as map
 use Rattle.std.specs.List.{find}
-use Rattle.defmt_intern.specs.Table.{Map}
+use Rattle.defmt_intern.specs.Entries.{Map}
+use Rattle.defmt_intern.specs.Entries as map
 use Rattle.defmt_intern.specs.declared.entry.Entry.{Entry}
 use Rattle.defmt_intern.specs.declared.entry.Tag.{Tag}
 use Rattle.defmt_intern.specs.declared.entry.Tag.TheVariants as tags

@@ -1,19 +1,21 @@
--- The entries of a table: a finite map from indexes to entries (defmt book, "Interning": the table of format strings and their indexes).
+-- What holds of the entries of a table, and how they are put there (defmt book, "Interning": the table of format strings and their indexes).
 use Rattle.std.specs.Prelude.{◌≡◌, ◌≤◌, ◌<◌, ◌+◌, ◌^◌, ◌⊎◌, ℕ, List, [], ◌∷◌, length, map as map_list, Box, Option, Some, None, IsSome, Result, Ok, Err}
 use Rattle.std.specs.declared.alloc.Global.{Global}
 use Rattle.std.specs.Ordering.{nat_cmp}
-use Rattle.std.specs.FinMap as map
+use Rattle.std.specs.FinMap as std
+use Rattle.std.specs.List.{All}
+use Rattle.defmt_grammar.specs.declared.language.Language.{Language}
 use Rattle.defmt_intern.specs.declared.entry.Entry.{Entry}
 use Rattle.defmt_intern.specs.declared.entry.Tag.TheVariants.{Timestamp}
+use Rattle.defmt_intern.specs.Body.{body_of}
+pub use Rattle.defmt_intern.specs.Entries.{Map}
+use Rattle.defmt_intern.specs.Entries as map
 use Rattle.defmt_intern.specs.declared.kept.Kept.{Kept}
 use Rattle.defmt_intern.specs.declared.putting.Cause.{Cause}
 use Rattle.defmt_intern.specs.declared.putting.Cause.TheVariants as causes
 use Rattle.defmt_intern.specs.declared.table.TableFault.{TableFault}
 use Rattle.defmt_intern.specs.declared.table.TableFault.TheVariants as faults
 use Rattle.std.specs.Prelude.{⊤}
-
-abbrev pub Map : Type 0
-Map = map.FinMap nat_cmp Entry
 
 -- a place for what is kept at one index
 abbrev pub Slot : Type 0
@@ -32,9 +34,20 @@ listed index [] = []
 listed index (None ∷ rest) = listed (index + 1) rest
 listed index (Some entry ∷ rest) = (index, entry) ∷ listed (index + 1) rest
 
--- the map of what is kept in the slots of the indexes from 0 on
-abbrev pub map_of : List Slot → Map
-map_of slots = map.from_entries (listed 0 (entries_in slots))
+-- what is kept in the slots of the indexes from 0 on
+abbrev pub kept_in : List Slot → std.FinMap nat_cmp Entry
+kept_in slots = std.from_entries (listed 0 (entries_in slots))
+
+abbrev pub map_of : Language → List Slot → Map
+map_of language slots = map.from_entries language (listed 0 (entries_in slots))
+
+-- what is kept there was read in this language
+abbrev pub IsReadIn : Language → Slot → Type 0
+IsReadIn language None = Unit {0}
+IsReadIn language (Some kept) = kept.value.parsed ≡ body_of language kept.value.entry
+
+abbrev pub AreReadIn : Language → List Slot → Type 0
+AreReadIn language slots = All (IsReadIn language) slots
 
 abbrev pub cause_number : Cause → ℕ
 cause_number causes.Full = 1
@@ -64,18 +77,24 @@ pub record IsKept (table : Map) (stamp : Option ℕ) : Type 0 where
   pub lawful : IsLawful table
   pub stamp_is : StampIs table stamp
 
--- what holds of the slots of a table, of the count of its entries and of its timestamp's index
-pub record IsWhole (slots : List Slot) (count : ℕ) (stamp : Option ℕ) : Type 0 where
-  pub kept : IsKept (map_of slots) stamp
-  pub counted : count ≡ map.len (map_of slots)
+-- what holds of the slots of a table of a language, of the count of its entries and of its timestamp's index
+pub record IsWhole (language : Language) (slots : List Slot) (count : ℕ) (stamp : Option ℕ)
+    : Type 0 where
+  pub kept : IsKept (map_of language slots) stamp
+  pub counted : count ≡ map.len (map_of language slots)
   pub few : length slots ≤ 65536
+  pub read : AreReadIn language slots
+
+abbrev pub IsGreatestIn : std.FinMap nat_cmp Entry → ℕ → Type 0
+IsGreatestIn kept i = IsSome (std.get kept i) × ((j : ℕ) → IsSome (std.get kept j) → j ≤ i)
 
 abbrev pub IsGreatest : Map → ℕ → Type 0
-IsGreatest table i = IsSome (map.get table i) × ((j : ℕ) → IsSome (map.get table j) → j ≤ i)
+IsGreatest table i = IsGreatestIn table.entries i
 
 -- the greatest index plus 1, or 1 in an empty table
 abbrev pub IsNext : Map → ℕ → Type 0
-IsNext table n = ((table ≡ map.empty) × (n ≡ 1)) ⊎ ((i : ℕ) × IsGreatest table i × (n ≡ i + 1))
+IsNext table n = ((table ≡ map.empty_of table.language) × (n ≡ 1))
+    ⊎ ((i : ℕ) × IsGreatest table i × (n ≡ i + 1))
 
 abbrev pub IsLong : Entry → Type 0
 IsLong entry = 4096 < length entry.text

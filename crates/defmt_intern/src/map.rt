@@ -1,9 +1,9 @@
 //! The entries of a table by their indexes.
 
-ghost use Rattle.std.specs.Prelude.{◌≡◌, ◌≤◌, IfOk, MatchOption, None, Some, option_map};
+ghost use Rattle.std.specs.Prelude.{◌≡◌, ◌≤◌, IfOk, IfSome, MatchOption, None, Some, option_map};
 ghost use Rattle.std.specs.Option.{option_copied};
-ghost use Rattle.std.specs.FinMap as map;
 ghost use Rattle.defmt_intern.specs.Body.{body_of};
+ghost use Rattle.defmt_intern.specs.Entries as map;
 ghost use Rattle.defmt_intern.specs.Stamp.{stamp_of};
 ghost use Rattle.defmt_intern.specs.Table.{IsLawful};
 
@@ -11,16 +11,18 @@ use crate::entry::Entry;
 use crate::keeping::{copy_slots, kept_at};
 use crate::kept::Kept;
 use crate::parsed::Parsed;
+use defmt_grammar::Language;
 use dl_io::Memory;
 use std::alloc::Global;
 use std::marker::Model;
 
-// A finite map from indexes to entries.
+// A finite map from indexes to entries of a language.
 //
 // No text in it has more than 4,096 bytes, and at most one entry is a timestamp's.
 #[derive(Drop)]
 pub(crate) struct EntryMap {
     pub(crate) alloc: Global,
+    pub(crate) language: Language,
     // What is kept at each index from 0 on.
     pub(crate) slots: Vec<Option<Box<Kept>>>,
     // How many entries there are.
@@ -29,27 +31,26 @@ pub(crate) struct EntryMap {
 }
 
 impl Model for EntryMap {
-    ghost use Rattle.std.specs.FinMap as map;
-    ghost use Rattle.std.specs.Coded.{coded_ℕ};
-    ghost use Rattle.defmt_intern.specs.contracts.entry.Entry.{the_row as entry_row};
+    ghost use Rattle.defmt_intern.specs.Entries as map;
     ghost use Rattle.defmt_intern.specs.Table.{Map, IsWhole, map_of};
 
     ghost Value = { Map };
 
-    ghost coded = { map.code coded_ℕ entry_row.coded };
+    ghost coded = { map.code };
 
-    ghost view = { λ t. map_of t.slots.items };
+    ghost view = { λ t. map_of t.language t.slots.items };
 
-    ghost invariant = { λ t. IsWhole t.slots.items t.count t.stamp };
+    ghost invariant = { λ t. IsWhole t.language t.slots.items t.count t.stamp };
 }
 
 impl EntryMap {
-    /// An empty map. Takes no memory.
-    pub fn new(alloc: Global) -> EntryMap
-        ensures { result ≡ map.empty }
+    /// An empty map of a language. Takes no memory.
+    pub fn new(alloc: Global, language: Language) -> EntryMap
+        ensures { result ≡ map.empty_of language }
     {
         EntryMap {
             alloc,
+            language,
             slots: Vec::new(alloc),
             count: 0,
             stamp: None,
@@ -63,9 +64,18 @@ impl EntryMap {
         let _ = &self.slots;
     }
 
+    /// The language of the texts. Takes no memory.
+    pub fn language(&self) -> Language
+        ensures { result ≡ self.now.language }
+    {
+        self.language
+    }
+
     // What is kept at an index.
     fn kept(&self, index: u16) -> Option<&Kept>
-        ensures { option_map (λ kept. kept.now.entry) result ≡ map.get self.now index }
+        ensures entry { option_map (λ kept. kept.now.entry) result ≡ map.get self.now index }
+        ensures read { IfSome result
+            (λ kept. kept.now.parsed ≡ body_of self.now.language kept.now.entry) }
     {
         kept_at(self.slots.as_slice(), index)
     }
@@ -82,7 +92,8 @@ impl EntryMap {
 
     /// What the text of the entry at an index stands for. It was parsed when the entry was put there. Takes no memory.
     pub fn parsed(&self, index: u16) -> Option<&Parsed>
-        ensures { option_copied result ≡ option_map body_of (map.get self.now index) }
+        ensures { option_copied result
+            ≡ option_map (body_of self.now.language) (map.get self.now index) }
     {
         match self.kept(index) {
             Some(kept) => Some(&kept.parsed),
@@ -93,7 +104,8 @@ impl EntryMap {
     /// The entry at an index, and what its text stands for. Takes no memory.
     pub fn look(&self, index: u16) -> Option<(&Entry, &Parsed)>
         ensures { MatchOption result (map.get self.now index ≡ None)
-            (λ p. (map.get self.now index ≡ Some p.0.now) × (p.1.now ≡ body_of p.0.now)) }
+            (λ p. (map.get self.now index ≡ Some p.0.now)
+            × (p.1.now ≡ body_of self.now.language p.0.now)) }
     {
         match self.kept(index) {
             Some(kept) => Some((&kept.entry, &kept.parsed)),
@@ -126,13 +138,14 @@ impl EntryMap {
         }
     }
 
-    /// A map with the same entries.
+    /// A map of the same language with the same entries.
     pub fn copy(&self) -> Result<EntryMap, Memory>
         ensures { IfOk result (λ copy. copy ≡ self.now) }
     {
         Ok(EntryMap {
             alloc: self.alloc,
-            slots: copy_slots(self.alloc, self.slots.as_slice())?,
+            language: self.language,
+            slots: copy_slots(self.alloc, self.slots.as_slice(), self.language)?,
             count: self.count,
             stamp: self.stamp,
         })

@@ -10,7 +10,7 @@ ghost use Rattle.defmt_intern.specs.Body.{variants, forms_of, one_body, cut_body
 ghost use Rattle.defmt_intern.specs.Pieces.{pieces_of};
 
 use crate::entry::{Entry, Tag};
-use defmt_grammar::{GrammarFault, Mode, Pieces, parse};
+use defmt_grammar::{GrammarFault, Language, Mode, Pieces, parse};
 use dl_io::Memory;
 use std::alloc::Global;
 use std::marker::Model;
@@ -63,7 +63,7 @@ impl Forms {
     }
 }
 
-/// What an entry's text stands for, in the lenient reading (an unknown hint counts as none).
+/// What an entry's text stands for, in the lenient reading of a language (an unknown hint counts as none).
 #[derive(Drop)]
 pub enum Parsed {
     /// The tag is `Other`, the text is refused, or it has more than 255 variants.
@@ -87,11 +87,11 @@ pub fn pieces_are_spelled()
 {}
 
 // The pieces of a text, `None` where it is refused.
-fn pieces_of(alloc: Global, text: &str) -> Result<Option<Pieces>, Memory>
+fn pieces_of(alloc: Global, text: &str, mode: Mode) -> Result<Option<Pieces>, Memory>
     requires { length text.now < 2 ^ 32 }
-    ensures { IfOk result (λ pieces. pieces ≡ pieces_of Mode.Lenient text.now) }
+    ensures { IfOk result (λ pieces. pieces ≡ pieces_of mode text.now) }
 {
-    match parse(alloc, text, Mode::Lenient) {
+    match parse(alloc, text, mode) {
         Ok(pieces) => Ok(Some(pieces)),
         Err(GrammarFault::Refused { .. }) => Ok(None),
         Err(GrammarFault::Memory) => Err(Memory),
@@ -107,20 +107,20 @@ pub fn cut_variant(text: &str) -> Option<(&str, &str)>
 }
 
 // The pieces of each variant, `None` where one is refused.
-fn forms_of(alloc: Global, text: &str) -> Result<Option<Forms>, Memory>
+fn forms_of(alloc: Global, text: &str, mode: Mode) -> Result<Option<Forms>, Memory>
     requires { length text.now < 2 ^ 32 }
-    ensures { IfOk result (λ forms. forms ≡ forms_of (variants text.now)) }
+    ensures { IfOk result (λ forms. forms ≡ forms_of mode (variants text.now)) }
 {
     let mut forms = Forms::new(alloc);
     let mut rest = text;
     'variants: while let Some((variant, after)) = cut_variant(rest) {
-        let Some(pieces) = pieces_of(alloc, variant)? else {
+        let Some(pieces) = pieces_of(alloc, variant, mode)? else {
             return Ok(None);
         };
         forms.push(pieces)?;
         rest = after;
     }
-    let Some(pieces) = pieces_of(alloc, rest)? else {
+    let Some(pieces) = pieces_of(alloc, rest, mode)? else {
         return Ok(None);
     };
     forms.push(pieces)?;
@@ -135,24 +135,24 @@ pub fn count_bars(text: &str) -> usize
 }
 
 // What an uncut text stands for.
-fn one_body(alloc: Global, text: &str) -> Result<Parsed, Memory>
+fn one_body(alloc: Global, text: &str, mode: Mode) -> Result<Parsed, Memory>
     requires { length text.now < 2 ^ 32 }
-    ensures { IfOk result (λ body. body ≡ one_body (pieces_of Mode.Lenient text.now)) }
+    ensures { IfOk result (λ body. body ≡ one_body (pieces_of mode text.now)) }
 {
-    Ok(match pieces_of(alloc, text)? {
+    Ok(match pieces_of(alloc, text, mode)? {
         Some(pieces) => Parsed::One(pieces),
         None => Parsed::Unsupported,
     })
 }
 
 // What a text stands for that `|` cuts.
-fn cut_body(alloc: Global, text: &str) -> Result<Parsed, Memory>
+fn cut_body(alloc: Global, text: &str, mode: Mode) -> Result<Parsed, Memory>
     requires { length text.now < 2 ^ 32 }
-    ensures { IfOk result (λ body. body ≡ cut_body (variants text.now)) }
+    ensures { IfOk result (λ body. body ≡ cut_body mode (variants text.now)) }
 {
     match count_bars(text) {
-        0 => one_body(alloc, text),
-        1..=254 => Ok(match forms_of(alloc, text)? {
+        0 => one_body(alloc, text, mode),
+        1..=254 => Ok(match forms_of(alloc, text, mode)? {
             Some(forms) => Parsed::Variants(forms),
             None => Parsed::Unsupported,
         }),
@@ -160,16 +160,17 @@ fn cut_body(alloc: Global, text: &str) -> Result<Parsed, Memory>
     }
 }
 
-/// What the entry's text stands for.
-pub fn body_of(alloc: Global, entry: &Entry) -> Result<Parsed, Memory>
+/// What the entry's text stands for in a language.
+pub fn body_of(alloc: Global, entry: &Entry, language: Language) -> Result<Parsed, Memory>
     requires { length entry.now.text < 2 ^ 32 }
-    ensures { IfOk result (λ body. body ≡ body_of entry.now) }
+    ensures { IfOk result (λ body. body ≡ body_of language entry.now) }
 {
     let text = entry.text.as_str();
+    let mode = language.lenient();
     match entry.tag {
         Tag::Other(_) => Ok(Parsed::Unsupported),
         Tag::Interned => Ok(Parsed::Raw),
-        Tag::Prim | Tag::Derived | Tag::Write => cut_body(alloc, text),
-        _ => one_body(alloc, text),
+        Tag::Prim | Tag::Derived | Tag::Write => cut_body(alloc, text, mode),
+        _ => one_body(alloc, text, mode),
     }
 }

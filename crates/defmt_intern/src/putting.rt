@@ -1,8 +1,8 @@
 //! How entries are put into a table.
 
 ghost use Rattle.std.specs.Prelude.{◌≡◌, ℕ, IsSome, MatchOption};
-ghost use Rattle.std.specs.FinMap as map;
 ghost use Rattle.defmt_intern.specs.Body.{body_of};
+ghost use Rattle.defmt_intern.specs.Entries as map;
 ghost use Rattle.defmt_intern.specs.Table.{IsGreatest, IsNext, InsertRefused, AddRefused, EntryRefused, Puts, PutsUnlessMemory, Adds, RefusesOnly, cause_number};
 
 use crate::entry::Entry;
@@ -65,6 +65,7 @@ impl EntryMap {
     // Keeps an entry at a free index.
     fn put(&mut self, index: u16, kept: Kept) -> Result<(), TableFault>
         requires free { IsSome (map.get self.old index) → ⊥ }
+        requires read { kept.parsed ≡ body_of self.old.language kept.entry }
         requires admitted { (cause : ℕ) → EntryRefused self.old kept.entry cause → ⊥ }
         ensures { PutsUnlessMemory self.old index kept.entry result self.new }
     {
@@ -91,7 +92,7 @@ impl EntryMap {
                 cause: cause.number(),
             });
         }
-        let kept = kept_of(self.alloc, entry)?;
+        let kept = kept_of(self.alloc, entry, self.language)?;
         self.put(index, kept)
     }
 
@@ -102,7 +103,7 @@ impl EntryMap {
         entry: Entry,
         parsed: Parsed,
     ) -> Result<(), TableFault>
-        requires { parsed ≡ body_of entry }
+        requires { parsed ≡ body_of self.old.language entry }
         ensures answer { Puts self.old index entry
             (InsertRefused self.old index entry) result self.new }
         ensures refused { (cause : ℕ) → InsertRefused self.old index entry cause
@@ -147,7 +148,7 @@ impl EntryMap {
                 cause: cause.number(),
             });
         }
-        let kept = kept_of(self.alloc, entry)?;
+        let kept = kept_of(self.alloc, entry, self.language)?;
         self.put(index, kept)?;
         Ok(index)
     }

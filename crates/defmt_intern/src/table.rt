@@ -2,8 +2,8 @@
 
 ghost use Rattle.std.specs.Prelude.{◌≡◌, ◌≤◌, ℕ, Option, IfOk, MatchOption, None, Some, option_map};
 ghost use Rattle.std.specs.Option.{option_copied};
-ghost use Rattle.std.specs.FinMap as map;
 ghost use Rattle.defmt_intern.specs.Body.{body_of};
+ghost use Rattle.defmt_intern.specs.Entries as map;
 ghost use Rattle.defmt_intern.specs.Stamp.{stamp_of};
 ghost use Rattle.defmt_intern.specs.Table.{Map, IsLawful, StampIs, InsertRefused, AddRefused, Puts, Adds, RefusesOnly};
 ghost use Rattle.defmt_intern.specs.declared.table.Profile.TheVariants.{One};
@@ -11,6 +11,7 @@ ghost use Rattle.defmt_intern.specs.declared.table.Profile.TheVariants.{One};
 use crate::entry::Entry;
 use crate::map::{Entries, EntryMap};
 use crate::parsed::Parsed;
+use defmt_grammar::Language;
 use dl_io::Memory;
 use std::alloc::{AllocFailed, Global};
 use std::marker::Model;
@@ -56,7 +57,8 @@ pub enum Profile {
     Two,
 }
 
-/// The string table: a profile, and a finite map from indexes to entries.
+/// The string table: a profile, a language, and a finite map from indexes to entries. It keeps what each text stands for, as
+/// the lenient reading of its language has it.
 ///
 /// No text in it has more than 4,096 bytes, and at most one entry is a timestamp's.
 pub struct Table {
@@ -85,13 +87,21 @@ impl Model for Table {
 }
 
 impl Table {
-    /// An empty table of profile One. Takes no memory.
+    /// An empty table of the base language and of profile One. Takes no memory.
     pub fn new(alloc: Global) -> Table
         ensures entries { result.entries ≡ map.empty }
         ensures profile { result.profile ≡ One }
     {
+        Table::of_language(alloc, Language::Base)
+    }
+
+    /// An empty table of a language and of profile One. Takes no memory.
+    pub fn of_language(alloc: Global, language: Language) -> Table
+        ensures entries { result.entries ≡ map.empty_of language }
+        ensures profile { result.profile ≡ One }
+    {
         Table {
-            entries: EntryMap::new(alloc),
+            entries: EntryMap::new(alloc, language),
             profile: Profile::One,
         }
     }
@@ -108,6 +118,13 @@ impl Table {
         ensures { result ≡ self.now.profile }
     {
         self.profile
+    }
+
+    /// The language of the table's texts. Takes no memory.
+    pub fn language(&self) -> Language
+        ensures { result ≡ self.now.entries.language }
+    {
+        self.entries.language()
     }
 
     /// Gives the table another profile. Takes no memory.
@@ -127,7 +144,8 @@ impl Table {
 
     /// What the text of the entry at an index stands for. It was parsed when the entry was put there. Takes no memory.
     pub fn parsed(&self, index: u16) -> Option<&Parsed>
-        ensures { option_copied result ≡ option_map body_of (map.get self.now.entries index) }
+        ensures { option_copied result
+            ≡ option_map (body_of self.now.entries.language) (map.get self.now.entries index) }
     {
         self.entries.parsed(index)
     }
@@ -135,7 +153,8 @@ impl Table {
     /// The entry at an index, and what its text stands for. Takes no memory.
     pub fn look(&self, index: u16) -> Option<(&Entry, &Parsed)>
         ensures { MatchOption result (map.get self.now.entries index ≡ None)
-            (λ p. (map.get self.now.entries index ≡ Some p.0.now) × (p.1.now ≡ body_of p.0.now)) }
+            (λ p. (map.get self.now.entries index ≡ Some p.0.now)
+            × (p.1.now ≡ body_of self.now.entries.language p.0.now)) }
     {
         self.entries.look(index)
     }
@@ -183,7 +202,7 @@ impl Table {
         entry: Entry,
         parsed: Parsed,
     ) -> Result<(), TableFault>
-        requires { parsed ≡ body_of entry }
+        requires { parsed ≡ body_of self.old.entries.language entry }
         // As those of `insert`.
         ensures answer { Puts self.old.entries index entry
             (InsertRefused self.old.entries index entry) result self.new.entries }
@@ -207,7 +226,7 @@ impl Table {
         self.entries.add(entry)
     }
 
-    /// A table with the same entries and the same profile.
+    /// A table of the same language with the same entries and the same profile.
     pub fn copy(&self) -> Result<Table, Memory>
         ensures { IfOk result (λ copy. copy ≡ self.now) }
     {

@@ -8,6 +8,8 @@ mod files;
 #[cfg(test)]
 mod headers;
 #[cfg(test)]
+mod linked;
+#[cfg(test)]
 mod markers;
 #[cfg(test)]
 mod places;

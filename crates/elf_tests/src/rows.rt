@@ -1,10 +1,11 @@
 //! The rows of the tests, by what is asked of their inputs.
 use crate::dumps::{put_cuts, put_dumps, put_segments};
 use crate::headers::put_answer_to_header;
+use crate::linked::put_answer_to_symbols;
 use crate::markers::put_answer_to_markers;
 use crate::places::put_places;
-use crate::tables::put_answer_to_symbols;
 use crate::{symbols, tables};
+use defmt_grammar::Language;
 use std::alloc::Global;
 use std::test::Fail;
 use test_rows::Question;
@@ -20,6 +21,7 @@ pub enum Kind {
     TableReadBack,
     TableAnswerToDamage,
     AnswerToSymbols,
+    AnswerInFull,
     Segments,
     Dumps,
     Cuts,
@@ -36,7 +38,8 @@ impl Question for Kind {
             Self::SymbolAnswerToDamage => symbols::put_answer_to_damage(alloc, input, out),
             Self::TableReadBack => tables::put_read_back(alloc, input, out),
             Self::TableAnswerToDamage => tables::put_answer_to_damage(alloc, input, out),
-            Self::AnswerToSymbols => put_answer_to_symbols(alloc, input, out),
+            Self::AnswerToSymbols => put_answer_to_symbols(alloc, input, Language::Base, out),
+            Self::AnswerInFull => put_answer_to_symbols(alloc, input, Language::Full, out),
             Self::Segments => put_segments(alloc, input, out),
             Self::Dumps => put_dumps(alloc, input, out),
             Self::Cuts => put_cuts(alloc, input, out),

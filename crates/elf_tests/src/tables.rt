@@ -1,7 +1,7 @@
-//! Tables that are written and read back, those of linked files, and refusals.
-use crate::files::{Linked, REFUSED, damage, put_unlike};
+//! Tables that are written and read back, and refusals.
+use crate::files::{REFUSED, damage};
 use crate::rows::Kind;
-use defmt_grammar::Text;
+use defmt_grammar::{Language, Text};
 use defmt_intern::{Entry, Profile, Table, Tag};
 use dl_io::Bytes;
 use elf_table::{LoadFault, is_writable, read_table, write_table};
@@ -15,8 +15,12 @@ fn put_word(word: &str, out: &mut String) -> Result<(), Fail> {
     put_str(out, word)
 }
 
+// An entry without a tag stands for a name that can't be read.
 fn put_entry(index: u16, entry: &Entry, out: &mut String) -> Result<(), Fail> {
     write!(out, "; {index}")?;
+    if entry.tag.name().is_empty() {
+        return put_word("unread", out);
+    }
     put_word(entry.tag.name(), out)?;
     put_word(entry.package.as_str(), out)?;
     put_word(entry.disambiguator.as_str(), out)?;
@@ -49,12 +53,17 @@ fn put_refusal(fault: LoadFault, out: &mut String) -> Result<(), Fail> {
     }
 }
 
-// The table of a file, or its refusal.
-fn put_table(alloc: Global, file: &[u8], out: &mut String) -> Result<(), Fail> {
+/// Puts the table of a language that a file names, or its refusal.
+pub fn put_table(
+    alloc: Global,
+    file: &[u8],
+    language: Language,
+    out: &mut String,
+) -> Result<(), Fail> {
     if file.len() >= 1 << 32 {
         return Err(Fail::new("the file is too long"));
     }
-    match read_table(alloc, file) {
+    match read_table(alloc, file, language) {
         Ok(table) => put_listing(&table, out),
         Err(fault) => put_refusal(fault, out),
     }
@@ -137,7 +146,7 @@ two
 
 pub fn put_read_back(alloc: Global, lines: &str, out: &mut String) -> Result<(), Fail> {
     let file = written(alloc, lines)?;
-    put_table(alloc, file.as_slice(), out)
+    put_table(alloc, file.as_slice(), Language::Base, out)
 }
 
 #[test]
@@ -168,128 +177,11 @@ at 163 78 = 0 entries";
 pub fn put_answer_to_damage(alloc: Global, text: &str, out: &mut String) -> Result<(), Fail> {
     let mut file = written(alloc, "1 defmt_info hello")?.into_vec();
     damage(alloc, &mut file, text)?;
-    put_table(alloc, &file, out)
+    put_table(alloc, &file, Language::Base, out)
 }
 
 #[test]
 fn a_damaged_file_is_refused_with_its_cause_and_place(rt: HostRuntime) -> Result<(), Fail> {
     each_line(rt.alloc(), REFUSED, 16, &Kind::TableAnswerToDamage)?;
     each_line(rt.alloc(), NAMES, 3, &Kind::TableAnswerToDamage)
-}
-
-// The first symbols of each linked file: one of a section, one of a mapping, and the first marker.
-const FRONT: &str = "3 0\n3 0 $d\n3 0 \"_defmt_version_ = 4\"\n";
-
-// The other symbols of a linked file, each with its section, value and name, and what is read in files of both classes.
-const LINKED: &str = r#"65521 0 _defmt_encoding_ = rzcobs
-3 3 {"package":"app","tag":"defmt_info","data":"hello","disambiguator":"7","crate_name":"app","x":[1,{"y":null}]}
-3 3 main
-=
-1 entries; 3 defmt_info app 7 hello
-
-65521 0 "_defmt_encoding_ = rzcobs"
-3 3 {"package":"app","tag":"defmt_info","data":"hello","disambiguator":"7","crate_name":"app","x":[1,{"y":null}]}
-3 2 {"package":"app","tag":"defmt_timestamp","data":"{=u64}","disambiguator":"7"}
-=
-2 entries, stamp 2; 2 defmt_timestamp app 7 {=u64}; 3 defmt_info app 7 hello
-
-65521 0 _defmt_encoding_ = rzcobs
-3 3 {"package":"app","tag":"defmt_info","data":"hello","disambiguator":"7","crate_name":"app","x":[1,{"y":null}]}
-3 3 {"package":"app","tag":"defmt_info","data":"hello","disambiguator":"7","crate_name":"app","x":[1,{"y":null}]}
-=
-cause 2 symbol 1
-
-65521 0 _defmt_encoding_ = rzcobs
-3 65536 {"package":"app","tag":"defmt_info","data":"hello","disambiguator":"7","crate_name":"app","x":[1,{"y":null}]}
-3 3 {"package":"app","data":"hello","disambiguator":"7"}
-=
-cause 6 symbol 0
-
-65521 0 _defmt_encoding_ = rzcobs
-3 65535 {"package":"app","tag":"defmt_info","data":"hello","disambiguator":"7","crate_name":"app","x":[1,{"y":null}]}
-3 65536 {"package":"app","data":"hello","disambiguator":"7"}
-=
-cause 3 symbol 1
-
-65521 0 _defmt_encoding_ = rzcobs
-3 1 {"package":"app","tag":"defmt_timestamp","data":"{=u64}","disambiguator":"7"}
-3 2 {"package":"app","tag":"defmt_timestamp","data":"{=u64}","disambiguator":"7"}
-=
-cause 5 symbol 1
-
-65521 0 _defmt_encoding_ = raw
-3 1 {"package":"app","data":"hello","disambiguator":"7"}
-3 2 {"package":"app","tag":"defmt_timestamp","data":"{=u64}","disambiguator":"7"}
-=
-cause 8 Nothing 0
-
-65521 0 _defmt_encoding_ = rzcobs
-65521 0 "_defmt_profile_ = 2"
-3 3 {"package":"app","tag":"defmt_info","data":"hello","disambiguator":"7","crate_name":"app","x":[1,{"y":null}]}
-=
-1 entries of profile Two; 3 defmt_info app 7 hello
-
-65521 0 _defmt_encoding_ = rzcobs
-65521 0 _defmt_profile_ = 3
-3 1 {"package":"app","data":"hello","disambiguator":"7"}
-=
-cause 9 Nothing 0"#;
-
-fn push_linked(linked: &mut Linked, lines: &str) -> Result<(), Fail> {
-    linked.begin(FRONT)?;
-    linked.push_lines(lines)
-}
-
-fn put_linked(alloc: Global, wide: bool, lines: &str, file: &mut Vec<u8>) -> Result<(), Fail> {
-    let mut linked = Linked::new(alloc, wide);
-    push_linked(&mut linked, lines)?;
-    linked.put_file(file)
-}
-
-fn put_table_in_linked(
-    alloc: Global,
-    wide: bool,
-    lines: &str,
-    out: &mut String,
-) -> Result<(), Fail> {
-    let mut file = Vec::new(alloc);
-    put_linked(alloc, wide, lines, &mut file)?;
-    put_table(alloc, &file, out)
-}
-
-pub fn put_answer_to_symbols(alloc: Global, lines: &str, out: &mut String) -> Result<(), Fail> {
-    put_table_in_linked(alloc, false, lines, out)?;
-    let mut wide = String::new(alloc);
-    put_table_in_linked(alloc, true, lines, &mut wide)?;
-    put_unlike(wide.as_str(), out)
-}
-
-#[test]
-fn linked_files_of_both_classes_name_their_table(rt: HostRuntime) -> Result<(), Fail> {
-    each_block(rt.alloc(), LINKED, 9, &Kind::AnswerToSymbols)
-}
-
-// The second symbol's text has 4,097 bytes.
-fn put_long_text(alloc: Global, lines: &mut String) -> Result<(), Fail> {
-    let text = "a".repeat(alloc, 4097)?;
-    let first =
-        r#"3 3 {"package":"app","tag":"defmt_info","data":"hello","disambiguator":"7","crate_name":"app","x":[1,{"y":null}]}"#;
-    write!(
-        lines,
-        "65521 0 _defmt_encoding_ = rzcobs\n{first}\n3 9 {{\"package\":\"p\",\"tag\":\"defmt_str\",\"disambiguator\":\"d\",\"data\":\"{text}\"}}"
-    )?;
-    Ok(())
-}
-
-fn put_answer_to_long_text(alloc: Global, out: &mut String) -> Result<(), Fail> {
-    let mut lines = String::new(alloc);
-    put_long_text(alloc, &mut lines)?;
-    put_table_in_linked(alloc, false, lines.as_str(), out)
-}
-
-#[test]
-fn a_text_of_4097_bytes_is_refused(rt: HostRuntime) -> Result<(), Fail> {
-    let mut told = String::new(rt.alloc());
-    put_answer_to_long_text(rt.alloc(), &mut told)?;
-    expect(told.as_str(), "cause 4 symbol 1")
 }

@@ -8,7 +8,7 @@ use Rattle.defmt_intern.proofs.parsed.forms_of.Given as goal
 abbrev pub invariant-variants : goal.invariant-variants
 invariant-variants l = record {
   utf8 : shadow (Utf8 l.rest);
-  read : behind_forms l.forms (forms_of (variants l.rest)) ≡ forms_of (variants l.text);
+  read : behind_forms l.forms (forms_of l.fn.mode (variants l.rest)) ≡ forms_of l.fn.mode (variants l.text);
   shorter : length l.rest ≤ length l.text;
 }
 

@@ -1,5 +1,5 @@
 use Rattle.std.proofs.Common.{ℕ, inl, inr, refl, ap, sym, subst, ◌∙◌}
-use Rattle.std.specs.FinMap as map
+use Rattle.defmt_intern.specs.Entries as map
 use Rattle.defmt_intern.specs.declared.entry.Entry.{Entry}
 use Rattle.defmt_intern.specs.Table.{EntryRefused}
 use Rattle.defmt_intern.proofs.TableLaws.{is_short, may_add, one_refusal_to_add}
@@ -9,12 +9,12 @@ pub kept_of-requires : goal.kept_of-requires
 kept_of-requires c = is_short c.args.self.now c.args.entry c.in_default-refusal.ensures
 
 pub put-requires-clause-admitted : goal.put-requires-clause-admitted
-put-requires-clause-admitted c = subst (λ (e : Entry). (cause : ℕ) → EntryRefused c.args.self.now e cause → ⊥) (sym c.in_ok-kept.ensures) c.in_default-refusal.ensures
+put-requires-clause-admitted c = subst (λ (e : Entry). (cause : ℕ) → EntryRefused c.args.self.now e cause → ⊥) (sym c.in_ok-kept.ensures.entry) c.in_default-refusal.ensures
 
 pub returns-clause-answer : goal.returns-clause-answer
 returns-clause-answer c = (
   c.in-Some.ensures.0,
-  c.in_ok-put.ensures ∙ ap (map.insert c.args.self.now c.in-Some.index) c.in_ok-kept.ensures,
+  c.in_ok-put.ensures ∙ ap (map.insert c.args.self.now c.in-Some.index) c.in_ok-kept.ensures.entry,
   may_add c.args.self.now c.args.entry c.in-Some.ensures.2 c.in_default-refusal.ensures,
 )
 

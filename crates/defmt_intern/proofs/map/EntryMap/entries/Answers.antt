@@ -6,4 +6,4 @@ pub invariant_of-result : goal.invariant_of-result
 invariant_of-result c = omega (arith, ap length c.as_slice.ensures.value, c.self.invariant.few)
 
 pub returns : goal.returns
-returns c = entries_are c.self.inside.slots.items c.as_slice.result.now c.args.self.now c.self.view_is c.as_slice.ensures.value
+returns c = entries_are c.self.inside.language c.self.inside.slots.items c.as_slice.result.now c.args.self.now c.self.view_is c.as_slice.ensures.value

@@ -15,11 +15,11 @@ put-requires-clause-free c = free_there c.args.self.now c.args.index c.args.entr
 
 pub put-requires-clause-admitted : goal.put-requires-clause-admitted
 put-requires-clause-admitted c =
-    subst (λ (e : Entry). (cause : ℕ) → EntryRefused c.args.self.now e cause → ⊥) (sym c.in_ok-kept.ensures) (admitted c.args.self.now c.args.index c.args.entry c.in_default.ensures)
+    subst (λ (e : Entry). (cause : ℕ) → EntryRefused c.args.self.now e cause → ⊥) (sym c.in_ok-kept.ensures.entry) (admitted c.args.self.now c.args.index c.args.entry c.in_default.ensures)
 
 pub returns-clause-answer : goal.returns-clause-answer
 returns-clause-answer c =
-    let done = subst (λ (e : Entry). PutsUnlessMemory c.args.self.now c.args.index e c.put.result c.put.new.self) c.in_ok-kept.ensures c.put.ensures in
+    let done = subst (λ (e : Entry). PutsUnlessMemory c.args.self.now c.args.index e c.put.result c.put.new.self) c.in_ok-kept.ensures.entry c.put.ensures in
     puts c.args.self.now c.args.index c.args.entry c.put.result c.put.new.self c.in_default.ensures done
 
 pub returns-clause-refused : goal.returns-clause-refused

@@ -7,7 +7,6 @@ returns-in-Some-clause-refused c = λ cause r. one_refusal c.args.self.now c.arg
 pub invariant_of-kept : goal.invariant_of-kept
 invariant_of-kept c = record {
   short = is_short c.args.self.now c.args.entry (admitted c.args.self.now c.args.index c.args.entry c.in_default.ensures);
-  is_body = c.requires;
 }
 
 pub put-requires-clause-free : goal.put-requires-clause-free

@@ -1,5 +1,5 @@
 use Rattle.std.proofs.Common.{◌∙◌, ap, arith}
-use Rattle.std.specs.FinMap as map
+use Rattle.defmt_intern.specs.Entries as map
 use Rattle.defmt_intern.specs.Table.{Map}
 use Rattle.defmt_intern.proofs.Slots.{few_kept}
 use Rattle.defmt_intern.proofs.map.EntryMap.len.Goals as goal

@@ -3,7 +3,7 @@ use Rattle.defmt_intern.specs.Body.{body_of}
 use Rattle.defmt_intern.proofs.map.EntryMap.parsed.Goals as goal
 
 pub returns-in-Some : goal.returns-in-Some
-returns-in-Some c = ap Some c.in-Some.kept.now.is_body ∙ ap (option_map body_of) c.in-Some.ensures
+returns-in-Some c = ap Some c.in-Some.ensures.read ∙ ap (option_map (body_of c.args.self.now.language)) c.in-Some.ensures.entry
 
 pub returns-in-None : goal.returns-in-None
-returns-in-None c = ap (option_map body_of) c.in-None.ensures
+returns-in-None c = ap (option_map (body_of c.args.self.now.language)) c.in-None.ensures.entry

@@ -1,5 +1,5 @@
 use Rattle.std.proofs.Common.{◌∙◌, sym}
-use Rattle.std.specs.FinMap as map
+use Rattle.defmt_intern.specs.Entries as map
 use Rattle.defmt_intern.proofs.TableLaws.{none_there, refused_by_entry}
 use Rattle.defmt_intern.proofs.map.EntryMap.refusal_at.Goals as goal
 
