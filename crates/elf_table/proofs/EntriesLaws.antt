@@ -2,12 +2,13 @@
 use Rattle.std.proofs.Common.{◌≡◌, ◌<◌, ℕ, zero, suc, Bool, true, false, cond, List, [], ◌∷◌, Some, refl, sym, ap, subst, ◌∙◌, arith, nat_cmp, is_eq, is_lt, T}
 use Rattle.std.specs.Prelude.{slice_get}
 use Rattle.std.proofs.lemmas.Bool.Decides.{nat_tests}
-use Rattle.std.specs.FinMap as map
-use Rattle.std.specs.FinMap.{find, is_sorted, entries_sorted, get-entries}
+use Rattle.std.specs.FinMap.{find, is_sorted}
 use Rattle.std.specs.FinMap.Entries.{below_all}
 use Rattle.std.proofs.lemmas.Bool.{and_parts}
 use Rattle.defmt_intern.specs.declared.entry.Entry.{Entry}
-use Rattle.defmt_intern.specs.Table.{Map}
+use Rattle.defmt_intern.specs.Entries.{Map}
+use Rattle.defmt_intern.specs.Entries as map
+use Rattle.defmt_intern.proofs.EntriesLaws.{entries_sorted, get-entries}
 
 abbrev Pairs : Type 0
 Pairs = List (ℕ × Entry)

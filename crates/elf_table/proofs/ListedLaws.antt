@@ -5,15 +5,14 @@ use Rattle.std.specs.List.{All, sum_by}
 use Rattle.std.proofs.lemmas.Option.{slice_get-map, slice_get-get_or, get_or_from_slice_get, slice_get_within}
 use Rattle.std.proofs.lemmas.List.Elements.{All-map, All-push, All-same}
 use Rattle.std.proofs.lemmas.List.Sums.{sum_by-cons, sum_by-append}
-use Rattle.std.specs.FinMap as map
-use Rattle.std.specs.FinMap.{len-entries, len-empty, get-entries, entries-insert, find}
+use Rattle.std.specs.FinMap.{find}
 use Rattle.std.specs.FinMap.Entries.{put, by_order}
-use Rattle.std.specs.Cmp.{nat_cmp_total}
+use Rattle.defmt_grammar.specs.declared.language.Language.{Language}
+use Rattle.defmt_intern.specs.Entries as map
+use Rattle.defmt_intern.proofs.EntriesLaws.{len-entries, len-empty_of, get-entries, entries-insert}
 use Rattle.defmt_intern.specs.declared.entry.Entry.{Entry}
-use Rattle.defmt_intern.specs.Name.{Names}
 use Rattle.defmt_intern.specs.Table.{Map, IsLawful}
 use Rattle.defmt_intern.specs.declared.table.Profile.{Profile}
-use Rattle.defmt_intern.proofs.NameLaws.{one_name}
 use Rattle.elf_section.specs.Listed.{Lists, Carries}
 use Rattle.elf_section.specs.Symbol.{PlainSymbol, plain, plain_all}
 use Rattle.elf_section.specs.declared.symbols.Symbol.{Symbol}
@@ -21,6 +20,8 @@ use Rattle.std.proofs.lemmas.List.{map-append}
 use Rattle.elf_section.specs.Written.{IsWritable, AreBraced}
 use Rattle.elf_table.specs.Names.{At, NameCheck, has_entry, is_small, is_single, is_short, is_one_stamp, Holds, IsTableOf, NamesTable}
 use Rattle.elf_table.specs.Listed.{symbol_of, symbols_in, entry_size, item_size, size_of, AreSpelled, IsNamed}
+use Rattle.elf_table.specs.Said.{Says}
+use Rattle.elf_table.proofs.SaidLaws.{names_say, one_said}
 use Rattle.elf_table.proofs.EntriesLaws.{entry_rises, entry_there, entry_place}
 use Rattle.elf_table.proofs.NameTextLaws.{name_has_no_zero, name_len}
 
@@ -52,7 +53,7 @@ pub record Known (table : Map) (p : ℕ) (s : PlainSymbol) : Type 0 where
   pub place : slice_get (map.entries table) p ≡ Some item
   pub value : item.0 ≡ s.value
   pub there : map.get table s.value ≡ Some item.1
-  pub names : Names s.name item.1
+  pub names : Says table.language s.name item.1
 
 module _ (table : Map) (lawful : IsLawful table) (spelled : AreSpelled table) (named : All IsNamed (map.entries table)) where
   known : (p : ℕ) (s : PlainSymbol) → At (symbols_in table) p s → Known table p s
@@ -64,7 +65,7 @@ module _ (table : Map) (lawful : IsLawful table) (spelled : AreSpelled table) (n
         place = o.there;
         value = ap (λ (x : PlainSymbol). x.value) o.is;
         there = ap (map.get table) (sym (ap (λ (x : PlainSymbol). x.value) o.is)) ∙ got;
-        names = subst (λ (x : PlainSymbol). Names x.name o.item.1) o.is (all_at IsNamed (map.entries table) p o.item named o.there (spelled o.item.0 o.item.1 got));
+        names = subst (λ (x : PlainSymbol). Says table.language x.name o.item.1) o.is (names_say table.language (symbol_of o.item).name o.item.1 (all_at IsNamed (map.entries table) p o.item named o.there (spelled o.item.0 o.item.1 got)));
       }
 
   small : (p : ℕ) (s : PlainSymbol) → At (symbols_in table) p s → s.value < 2 ^ 16
@@ -76,35 +77,36 @@ module _ (table : Map) (lawful : IsLawful table) (spelled : AreSpelled table) (n
       let m = known q t b in
       omega (arith, entry_rises table p q k.item m.item l k.place m.place, k.value, m.value)
 
-  holds : (check : NameCheck) → Holds (symbols_in table) check
+  holds : (check : NameCheck) → Holds table.language (symbols_in table) check
   holds (has_entry p) = λ s at. let k = known p s at in (k.item.1, k.names)
   holds (is_small p) = λ s at. let b = small p s at in omega arith
   holds (is_single p) = λ s at q t less at' e. let r = rises q p t s less at' at in absurd (omega (arith, r, e))
-  holds (is_short p) = λ s e at names. let k = known p s at in subst (λ (x : Entry). length x.text ≤ 4096) (one_name s.name k.item.1 e k.names names) (lawful.short s.value k.item.1 k.there)
+  holds (is_short p) = λ s e at names. let k = known p s at in subst (λ (x : Entry). length x.text ≤ 4096) (one_said table.language s.name k.item.1 e k.names names) (lawful.short s.value k.item.1 k.there)
   holds (is_one_stamp p) = λ s e at names is q t f less at' names' is'.
       let k = known p s at in
       let m = known q t at' in
       let r = rises q p t s less at' at in
-      let same = one_name s.name k.item.1 e k.names names in
-      let same' = one_name t.name m.item.1 f m.names names' in
+      let same = one_said table.language s.name k.item.1 e k.names names in
+      let same' = one_said table.language t.name m.item.1 f m.names names' in
       let one = lawful.one_stamp s.value t.value (record { entry = k.item.1; there = k.there; is_stamp = ap (λ (x : Entry). x.tag) same ∙ is }) (record { entry = m.item.1; there = m.there; is_stamp = ap (λ (x : Entry). x.tag) same' ∙ is' }) in
       absurd (omega (arith, r, one))
 
-  only : (i : ℕ) (e : Entry) → map.get table i ≡ Some e → (p : ℕ) × (s : PlainSymbol) × At (symbols_in table) p s × (s.value ≡ i) × Names s.name e
+  only : (i : ℕ) (e : Entry) → map.get table i ≡ Some e → (p : ℕ) × (s : PlainSymbol) × At (symbols_in table) p s × (s.value ≡ i) × Says table.language s.name e
   only i e h =
       let o = entry_place table i e h in
       let at : At (symbols_in table) o.0 (symbol_of (i, e)) = slice_get-map symbol_of (map.entries table) o.0 ∙ ap (option_map symbol_of) o.1 in
-      (o.0, symbol_of (i, e), at, refl, all_at IsNamed (map.entries table) o.0 (i, e) named o.1 (spelled i e h))
+      (o.0, symbol_of (i, e), at, refl, names_say table.language (symbol_of (i, e)).name e (all_at IsNamed (map.entries table) o.0 (i, e) named o.1 (spelled i e h)))
 
-  table_listed : IsTableOf (symbols_in table) table
+  table_listed : IsTableOf table.language (symbols_in table) table
   table_listed = record {
+    spoken = refl;
     passes = holds;
-    each = λ p s e at names. let k = known p s at in k.there ∙ ap Some (one_name s.name k.item.1 e k.names names);
+    each = λ p s e at names. let k = known p s at in k.there ∙ ap Some (one_said table.language s.name k.item.1 e k.names names);
     only = only;
   }
 
 pub names_table : (t : Map) (profile : Profile) → IsLawful t → AreSpelled t → All IsNamed (map.entries t)
-    → (file : List ℕ) (xs : List PlainSymbol) → xs ≡ symbols_in t → Carries file xs profile → NamesTable file (record { entries = t; profile = profile })
+    → (file : List ℕ) (xs : List PlainSymbol) → xs ≡ symbols_in t → Carries file xs profile → NamesTable t.language file (record { entries = t; profile = profile })
 names_table t profile lawful spelled named file xs e carries = record {
   symbols = symbols_in t;
   lists = subst (Lists file) e carries.0;
@@ -180,14 +182,14 @@ size-put (e ∷ es) k v none =
     by_order_size (nat_cmp k e.0) e es k v (put nat_cmp k v es) refl n.0 (size-put es k v n.1)
 
 pub size-insert : (table : Map) (k : ℕ) (v : Entry) → map.get table k ≡ None → size_of (map.insert table k v) ≡ size_of table + entry_size v
-size-insert table k v none = ap (sum_by item_size) (entries-insert nat_cmp_total table k v) ∙ size-put (map.entries table) k v (sym (get-entries table k) ∙ none)
+size-insert table k v none = ap (sum_by item_size) (entries-insert table k v) ∙ size-put (map.entries table) k v (sym (get-entries table k) ∙ none)
 
 no_items : (items : Items) → length items ≡ 0 → items ≡ []
 no_items [] e = refl
 no_items (x ∷ items) e = absurd (omega arith)
 
-pub size-empty : size_of map.empty ≡ 0
-size-empty = ap (sum_by item_size) (no_items (map.entries map.empty) (sym (len-entries map.empty) ∙ len-empty nat_cmp Entry))
+pub size-empty_of : (language : Language) → size_of (map.empty_of language) ≡ 0
+size-empty_of language = ap (sum_by item_size) (no_items (map.entries (map.empty_of language)) (sym (len-entries (map.empty_of language)) ∙ len-empty_of language))
 
 -- ---- the symbols so far
 

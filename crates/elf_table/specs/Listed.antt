@@ -1,13 +1,13 @@
 -- The symbols of a table (defmt book, "Interning").
 use Rattle.std.specs.Prelude.{◌≡◌, ◌+◌, ℕ, List, length, Some, map}
 use Rattle.std.specs.List.{sum_by}
-use Rattle.std.specs.FinMap as tables
 use Rattle.serde_json.specs.Written.{compact_text}
 use Rattle.defmt_intern.specs.declared.entry.Tag.{Tag}
 use Rattle.defmt_intern.specs.declared.entry.Tag.TheVariants.{Other}
 use Rattle.defmt_intern.specs.declared.entry.Entry.{Entry}
 use Rattle.defmt_intern.specs.Name.{Names, IsSpelled, written}
-use Rattle.defmt_intern.specs.Table.{Map}
+use Rattle.defmt_intern.specs.Entries.{Map}
+use Rattle.defmt_intern.specs.Entries as tables
 use Rattle.elf_section.specs.Symbol.{PlainSymbol}
 
 -- an entry's symbol has its name, and its index as the value

@@ -12,7 +12,7 @@ pub enum LoadFault {
     Elf { cause: u8, part: Part, place: u32 },
     /// A symbol is refused, the one at this place in the list of `elf_section::read_symbols`. The causes, of which the
     /// first counts: 3 its name reads as no entry, 6 its value is above 65,535, 2 an earlier symbol has its value, 4 its
-    /// text has more than 4,096 bytes, 5 it is a second timestamp.
+    /// text has more than 4,096 bytes, 5 it is a second timestamp. The cause 3 comes in the base language alone.
     Names { cause: u8, symbol: u32 },
     /// Want of memory.
     Memory,

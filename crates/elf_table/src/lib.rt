@@ -10,5 +10,5 @@ mod reading;
 mod writing;
 
 pub use fault::LoadFault;
-pub use reading::read_table;
+pub use reading::{full_reads_more, read_table};
 pub use writing::{is_writable, size_grows, write_table};

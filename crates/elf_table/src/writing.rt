@@ -1,9 +1,10 @@
 //! The file of a table.
 
 ghost use Rattle.std.specs.Prelude.{◌≡◌, ◌≤◌, ◌+◌, ◌-◌, ◌^◌, ◌↔◌, ℕ, All, IfOk, IsTrue, None};
-ghost use Rattle.std.specs.FinMap as map;
 ghost use Rattle.std.specs.Option.{SomeIff};
-ghost use Rattle.defmt_intern.specs.Table.{Map};
+ghost use Rattle.defmt_grammar.specs.declared.language.Language.{Language as AnyLanguage};
+ghost use Rattle.defmt_intern.specs.Entries.{Map};
+ghost use Rattle.defmt_intern.specs.Entries as map;
 ghost use Rattle.defmt_intern.specs.declared.entry.Entry.{Entry as AnyEntry};
 ghost use Rattle.elf_section.specs.Symbol.{plain, plain_all};
 ghost use Rattle.elf_section.specs.Written.{written};
@@ -46,9 +47,9 @@ pub fn is_writable(table: &Table) -> bool
     true
 }
 
-/// An empty table has no texts, and each further entry adds its own to the size that `is_writable` tests.
+/// An empty table of either language has no texts, and each further entry adds its own to the size that `is_writable` tests.
 pub fn size_grows()
-    ensures empty { size_of map.empty ≡ 0 }
+    ensures empty { (language : AnyLanguage) → size_of (map.empty_of language) ≡ 0 }
     ensures insert { (table : Map) (index : ℕ) (entry : AnyEntry) → map.get table index ≡ None
         → size_of (map.insert table index entry) ≡ size_of table + entry_size entry }
 {}
@@ -86,13 +87,13 @@ fn symbols_of(alloc: Global, table: &Table) -> Result<Vec<Symbol>, Memory>
 pub fn write_table(alloc: Global, table: &Table) -> Result<Bytes, Memory>
     requires { size_of table.now.entries ≤ 2 ^ 26 }
 
-    // The file has just these symbols and this profile.
+    // The file has just these symbols and this profile, whatever the language.
     ensures bytes { IfOk result (λ file. file.items
         ≡ written table.now.profile (symbols_in table.now.entries)) }
 
     // It names the table, so `read_table` gives it back, unless an `Other` spells one of the eleven tags.
     ensures read_back { IfOk result (λ file. AreSpelled table.now.entries
-        → NamesTable file.items table.now) }
+        → NamesTable table.now.entries.language file.items table.now) }
 {
     table.lawful();
     let symbols = symbols_of(alloc, table)?;

@@ -4,4 +4,4 @@ use Rattle.elf_table.specs.Names.{Made}
 use Rattle.elf_table.proofs.reading.table_of.Given as goal
 
 abbrev pub invariant-loop-p : goal.invariant-loop-p
-invariant-loop-p l = Made (plain_all l.symbols) l.p l.table.entries × (l.table.profile ≡ l.fn.profile)
+invariant-loop-p l = Made l.fn.language (plain_all l.symbols) l.p l.table.entries × (l.table.profile ≡ l.fn.profile)

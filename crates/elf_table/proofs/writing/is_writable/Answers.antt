@@ -1,5 +1,5 @@
 use Rattle.std.proofs.Common.{◌≡◌, ◌++◌, ◌∷◌, ℕ, Bor, List, ap, ◌∙◌, map as map_list, sym, arith, rules}
-use Rattle.std.specs.FinMap as map
+use Rattle.defmt_intern.specs.Entries as map
 use Rattle.std.proofs.lemmas.Map.Iter.{rest_more, rest_so_far}
 use Rattle.defmt_intern.specs.declared.entry.Entry.{Entry}
 use Rattle.elf_table.proofs.ListedLaws.{item_of, size_within}
