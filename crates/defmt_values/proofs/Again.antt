@@ -1,12 +1,12 @@
 -- What fits is passed.
 use Rattle.std.proofs.Common.{◌≡◌, ◌<◌, ◌≤◌, inl, inr, ◌^◌, ◌+◌, ◌-◌, ◌*◌, ℕ, ℤ, pos, negsuc, true, false, List, length, Option, Some, None, Result, Ok, Err, OnOk, refl, sym, ap, ◌∙◌, subst, arith, add_assoc, add-zero}
 use Rattle.std.proofs.lemmas.Bool.{lt-ltb, eq-eqb}
-use Rattle.defmt_values.specs.Plain.{Val, uint, int, flag, char, str, istr, bytes, bits, format, seq, Vals, no_vals, val, Elems, no_elems, elem, elems_len, elems_empty}
-use Rattle.defmt_values.specs.Fits.{IsForm, IsList, FitsVal, FitsVals, FitsElems, weigh_val, weigh_vals, weigh_elems, Fits}
-use Rattle.defmt_values.specs.Scan.{list_cause, count_cause, form_at, node_places, index_or, own_form, own_in, scan_val, scan_vals, scan_elems, scan_own, own_cause}
+use Rattle.defmt_values.specs.Plain.{Val, uint, int, flag, char, str, istr, bytes, bits, format, seq, float, sequence, Vals, no_vals, val, Elems, no_elems, elem, Nodes, no_nodes, node, elems_len, elems_empty}
+use Rattle.defmt_values.specs.Fits.{IsForm, HasPieces, IsList, IsText, FitsVal, FitsVals, FitsElems, FitsNodes, weigh_val, weigh_vals, weigh_elems, weigh_nodes, Fits}
+use Rattle.defmt_values.specs.Scan.{str_cause, list_cause, count_cause, form_at, element_form, node_places, index_or, own_form, own_in, scan_val, scan_vals, scan_elems, scan_one, scan_nodes, scan_own, own_cause}
 use Rattle.defmt_values.specs.Entries.{look, Place, places_of}
-use Rattle.defmt_grammar.specs.Sizes.{size_bits, is_signed, IsSigned}
-use Rattle.defmt_values.proofs.Forms.{form_there, pieces_there, places_are, adds}
+use Rattle.defmt_grammar.specs.Sizes.{size_bits, float_bits, is_signed, IsSigned}
+use Rattle.defmt_values.proofs.Forms.{form_there, element_there, pieces_there, places_are, adds}
 use Rattle.defmt_values.proofs.Found.{bound, vals_found}
 use Rattle.defmt_grammar.specs.declared.piece.Piece.{Piece}
 use Rattle.defmt_grammar.specs.declared.slot.Slot.{Slot}
@@ -26,6 +26,11 @@ summed n = Ok n
 leaf : (s : ℕ) → summed s ≡ summed (s + 0)
 leaf s = ap summed (sym (add-zero s))
 
+texted : (slot : Slot) → IsText slot → str_cause slot ≡ Ok tt
+texted slot (inl e) = rw e refl
+texted slot (inr (inl e)) = rw e refl
+texted slot (inr (inr e)) = rw e refl
+
 listed : (slot : Slot) (count : ℕ) → IsList slot count → list_cause slot ≡ Ok tt
 listed slot count (inl e) = rw e refl
 listed slot count (inr e) = rw e refl
@@ -43,6 +48,16 @@ elems_form : (t : Map) (left index : ℕ) (form : Parsed) (es : Elems) → IsFor
 elems_form t left index form no_elems f h g = absurd (omega arith)
 elems_form t left index form (elem variant vs es) f h g = form_there t index form variant g.0 f g.1
 
+-- a Format value, or an element of a sequence, that fits
+pub node_again : (t : Map) (left : ℕ) (found : Result Parsed ℕ) (w s index : ℕ) (variant : Option ℕ) (vs : Vals) (form : Parsed) (ps : List Piece) → 0 < left → found ≡ Ok form → IsForm t index form → HasPieces form variant ps
+    → ((s + w) + weigh_vals t (places_of ps) w vs ≤ 8192 → scan_vals t (left - 1) (places_of ps) w (s + w) vs ≡ Ok ((s + w) + weigh_vals t (places_of ps) w vs))
+    → s + (w + weigh_vals t (node_places t index variant) w vs) ≤ 8192 → scan_one t left found w s variant vs ≡ Ok (s + (w + weigh_vals t (node_places t index variant) w vs))
+node_again t left found w s index variant vs form ps up there i has f light =
+    let places_is : node_places t index variant ≡ places_of ps = places_are t index form variant ps i has in
+    let sum : s + (w + weigh_vals t (places_of ps) w vs) ≤ 8192 = subst (λ (sl : List Place). s + (w + weigh_vals t sl w vs) ≤ 8192) places_is light in
+    let e = f (omega (arith, sum)) in
+    rw (places_is, lt-ltb 0 left up, there, adds w s (omega (arith, sum)), pieces_there form variant ps has, e) (ap (λ n. Ok n) (add_assoc s w (weigh_vals t (places_of ps) w vs)))
+
 mutual
   unfolding scan_val
 
@@ -51,16 +66,14 @@ mutual
   val_again t left slot w s (int n) f light = rw (f.slot_is, signed_again (size_bits f.size) n f.in_range) (leaf s)
   val_again t left slot w s (flag x) f light = rw f (leaf s)
   val_again t left slot w s (char x) f light = rw f (leaf s)
-  val_again t left slot w s (str x) f light = rw f (leaf s)
+  val_again t left slot w s (str x) f light = rw (texted slot f) (leaf s)
   val_again t left slot w s (istr i) f light = rw (f.0, f.1.there, f.1.tag) (leaf s)
   val_again t left slot w s (bytes x) f light = elim f [ inl e ↦ rw e (leaf s) | inr e ↦ rw (e, eq-eqb (length x) (length x) refl) (leaf s) ]
   val_again t left slot w s (bits n) f light = rw (f.slot_is, lt-ltb n (256 ^ (f.first + f.width)) f.below, f.above) (leaf s)
   val_again t left slot w s (format index variant vs) f light =
       let form : Parsed = f.0 in
       let ps : List Piece = f.1 in
-      let n_is : weigh_vals t (node_places t index variant) w vs ≡ weigh_vals t (places_of ps) w vs = ap (λ sl. weigh_vals t sl w vs) (places_are t index form variant ps f.4 f.5) in
-      let e = vals_again t (left - 1) (places_of ps) w (s + w) vs f.6 (omega (arith, light, n_is)) in
-      rw (f.2, lt-ltb 0 left f.3, form_there t index form variant ps f.4 f.5, adds w s (omega (arith, light, n_is)), pieces_there form variant ps f.5, e) (ap (λ n. Ok n) (add_assoc s w (weigh_vals t (places_of ps) w vs)))
+      rw f.2 (node_again t left (form_at t index) w s index variant vs form ps f.3 (form_there t index form variant ps f.4 f.5) f.4 f.5 (λ m. vals_again t (left - 1) (places_of ps) w (s + w) vs f.6 m) light)
   val_again t left slot w s (seq index es) f light = elim f.1 [
     | inl e ↦
         let k : IsList slot 0 = subst (λ (xs : Elems). IsList slot (elems_len xs)) e.0 f.0 in
@@ -70,6 +83,8 @@ mutual
         let h = elems_again t (left - 1) e.0 e.1 w s es e.5 e.6 (omega (arith, light, n_is)) in
         rw (e.2, listed slot (elems_len es) f.0, some_left es e.3, lt-ltb 0 left e.4, elems_form t (left - 1) e.0 e.1 es e.5 e.3 e.6, h, counted slot (elems_len es) f.0) refl
   ]
+  val_again t left slot w s (float n) f light = rw (f.slot_is, lt-ltb n (2 ^ float_bits f.size) f.in_range) (leaf s)
+  val_again t left slot w s (sequence ns) f light = rw f.0 (nodes_again t left w s ns f.1 light)
 
   pub vals_again : (t : Map) (left : ℕ) (slots : List Place) (w s : ℕ) (vs : Vals) → FitsVals t left slots vs → s + weigh_vals t slots w vs ≤ 8192 → scan_vals t left slots w s vs ≡ Ok (s + weigh_vals t slots w vs)
   vals_again t left slots w s no_vals f light = rw f (leaf s)
@@ -96,6 +111,18 @@ mutual
       let e : ((s + w) + a) + b ≡ s + ((w + a) + b) = omega arith in
       rw (places_is, adds w s (omega (arith, sum)), pieces_there form variant ps f.1, h, k) (ap (λ n. Ok n) e)
 
+  pub nodes_again : (t : Map) (left w s : ℕ) (ns : Nodes) → FitsNodes t left ns → s + weigh_nodes t w ns ≤ 8192 → scan_nodes t left w s ns ≡ Ok (s + weigh_nodes t w ns)
+  nodes_again t left w s no_nodes f light = leaf s
+  nodes_again t left w s (node index variant vs ns) f light =
+      let form : Parsed = f.0 in
+      let ps : List Piece = f.1 in
+      let a : ℕ = w + weigh_vals t (node_places t index variant) w vs in
+      let b : ℕ = weigh_nodes t w ns in
+      let sum : s + (a + b) ≤ 8192 = light in
+      let h = node_again t left (element_form t index) w s index variant vs form ps f.3 (element_there t index form variant ps f.2 f.4 f.5) f.4 f.5 (λ m. vals_again t (left - 1) (places_of ps) w (s + w) vs f.6 m) (omega (arith, sum)) in
+      let k = nodes_again t left w (s + a) ns f.7 (omega (arith, sum)) in
+      rw (h, k) (ap (λ n. Ok n) (add_assoc s a b))
+
 -- ---- statements
 
 abbrev done : List Piece → Result (List Piece) ℕ
@@ -110,9 +137,9 @@ own_body Raw ps h = absurd (cc)
 own_body (One qs) ps h = ap (λ q. One q) (same qs ps h)
 own_body (Variants forms) ps h = absurd (cc)
 
-own_found : (t : Map) (index : ℕ) (ps : List Piece) (o : Option Entry) → look t index ≡ o → own_form o ≡ Ok ps → (e : Entry) × (look t index ≡ Some e) × (body_of e ≡ One ps)
+own_found : (t : Map) (index : ℕ) (ps : List Piece) (o : Option Entry) → look t index ≡ o → own_form t.language o ≡ Ok ps → (e : Entry) × (look t index ≡ Some e) × (body_of t.language e ≡ One ps)
 own_found t index ps None l h = absurd (cc)
-own_found t index ps (Some e) l h = (e, l, own_body (body_of e) ps h)
+own_found t index ps (Some e) l h = (e, l, own_body (body_of t.language e) ps h)
 
 abbrev scan_rest : Map → Vals → List Piece → Result ℕ ℕ
 scan_rest t vs ps = scan_vals t 16 (places_of ps) 1 0 vs
@@ -120,7 +147,7 @@ scan_rest t vs ps = scan_vals t 16 (places_of ps) 1 0 vs
 pub fits_found : (t : Map) (index : ℕ) (vs : Vals) (q : Result (Unit {0}) ℕ) → q ≡ own_cause t index vs → (u : Unit {0}) → q ≡ Ok u → Fits t index vs
 fits_found t index vs q e u k =
     let b1 = bound (scan_own t index vs) (λ _. Ok tt) u (sym e ∙ k) in
-    let b2 = bound (own_form (look t index)) (scan_rest t vs) b1.0 b1.1 in
+    let b2 = bound (own_form t.language (look t index)) (scan_rest t vs) b1.0 b1.1 in
     let own = own_found t index b2.0 (look t index) refl b2.1 in
     let all = vals_found t 16 (places_of b2.0) 1 0 b1.0 vs b2.2 in
     let m : b1.0 ≤ 8192 = all.1.kept (omega arith) in

@@ -7,13 +7,13 @@ use Rattle.defmt_grammar.specs.declared.slot.Slot.{Slot}
 use Rattle.defmt_intern.specs.Table.{Map}
 use Rattle.defmt_intern.specs.declared.parsed.Parsed.{Parsed}
 use Rattle.defmt_values.specs.Entries.{look, Place, places_of}
-use Rattle.defmt_values.specs.Faults.{OneFault, Level, no_level, level, NextFault, EachFault, FormFault, NodeFault, ElemsFault, ListFault, SeqFault, ValFault, fault_at, StatementFault}
-use Rattle.defmt_values.specs.Fits.{IsForm, HasPieces, FitsVal, FitsVals, FitsElems, weigh_val, weigh_vals, weigh_elems, Fits}
-use Rattle.defmt_values.specs.Plain.{Val, uint, int, flag, char, str, istr, bytes, bits, format, seq, Vals, no_vals, val, Elems, no_elems, elem, elems_len, elems_empty, join_vals, join_elems}
-use Rattle.defmt_values.specs.Scan.{◌>>=◌, test, uint_cause, int_cause, flag_cause, char_cause, str_cause, istr_cause, bytes_cause, bits_cause, node_cause, list_cause, count_cause, form_at, list_form, pick, add, no_index, node_places, index_or, own_form, scan_val, scan_vals, scan_elems, scan_own, own_cause}
-use Rattle.defmt_values.proofs.Again.{val_again, vals_again, elems_again, fits_found, fits_again}
-use Rattle.defmt_values.proofs.Forms.{places_are, pieces_there, adds}
-use Rattle.defmt_values.proofs.Found.{bound, Sums, none_index, form_found, pick_found, add_found, val_found, vals_found, elems_found}
+use Rattle.defmt_values.specs.Faults.{OneFault, Level, no_level, level, NextFault, EachFault, FormFault, NodeFault, ElemsFault, ListFault, SeqFault, levels, NodesFault, ValFault, fault_at, StatementFault}
+use Rattle.defmt_values.specs.Fits.{IsForm, HasPieces, FitsVal, FitsVals, FitsElems, FitsNodes, weigh_val, weigh_vals, weigh_elems, weigh_nodes, Fits}
+use Rattle.defmt_values.specs.Plain.{Val, uint, int, flag, char, str, istr, bytes, bits, format, seq, float, sequence, Vals, no_vals, val, Elems, no_elems, elem, Nodes, no_nodes, node, elems_len, elems_empty, join_vals, join_elems, join_nodes}
+use Rattle.defmt_values.specs.Scan.{◌>>=◌, test, uint_cause, int_cause, flag_cause, char_cause, str_cause, istr_cause, bytes_cause, bits_cause, float_cause, node_cause, list_cause, count_cause, sequence_cause, form_at, element_form, list_form, pick, add, no_index, node_places, index_or, own_form, scan_val, scan_vals, scan_elems, scan_one, scan_nodes, scan_own, own_cause}
+use Rattle.defmt_values.proofs.Again.{val_again, vals_again, elems_again, node_again, fits_found, fits_again}
+use Rattle.defmt_values.proofs.Forms.{places_are, element_there, pieces_there, adds}
+use Rattle.defmt_values.proofs.Found.{bound, Sums, none_index, form_found, element_found, pick_found, add_found, node_sums, val_found, vals_found, elems_found, node_in}
 
 -- ---- chains
 
@@ -73,8 +73,8 @@ picked_scan t left w variant vs form s = pick form variant >>= args_scan t left 
 abbrev form_scan : Map → ℕ → ℕ → ℕ → Option ℕ → Vals → Parsed → Result ℕ ℕ
 form_scan t left w s variant vs form = add w s >>= picked_scan t left w variant vs form
 
-abbrev node_scan : Map → ℕ → ℕ → ℕ → ℕ → ℕ → Option ℕ → Vals → Unit {0} → Result ℕ ℕ
-node_scan t n left w s index variant vs _ = test (nat_lt 0 n) 6 >>= λ _. (form_at t index >>= form_scan t left w s variant vs)
+abbrev node_scan : Map → ℕ → ℕ → Result Parsed ℕ → ℕ → ℕ → Option ℕ → Vals → Unit {0} → Result ℕ ℕ
+node_scan t n left found w s variant vs _ = test (nat_lt 0 n) 6 >>= λ _. (found >>= form_scan t left w s variant vs)
 
 abbrev count_scan : Slot → Elems → ℕ → Result ℕ ℕ
 count_scan slot es s = count_cause slot (elems_len es) >>= λ _. done s
@@ -339,9 +339,17 @@ a_level_left n h = ap (λ (b : Bool). test b 6) (lt-ltb 0 n h)
 
 -- left is one less than n, the number of levels that may be opened round a value
 module _ (t : Map) (n left : ℕ) (less : n - 1 ≡ left) where
-  node_is : (slot : Slot) (w s index : ℕ) (variant : Option ℕ) (vs : Vals) → scan_val t n slot w s (format index variant vs) ≡ (node_cause slot >>= node_scan t n left w s index variant vs)
+  node_is : (slot : Slot) (w s index : ℕ) (variant : Option ℕ) (vs : Vals) → scan_val t n slot w s (format index variant vs) ≡ (node_cause slot >>= node_scan t n left (form_at t index) w s variant vs)
   unfolding scan_val
-  node_is slot w s index variant vs = subst (λ (m : ℕ). scan_val t n slot w s (format index variant vs) ≡ (node_cause slot >>= node_scan t n m w s index variant vs)) less refl
+  node_is slot w s index variant vs = subst (λ (m : ℕ). scan_val t n slot w s (format index variant vs) ≡ (node_cause slot >>= node_scan t n m (form_at t index) w s variant vs)) less refl
+
+  node_in_is : (found : Result Parsed ℕ) (w s : ℕ) (variant : Option ℕ) (vs : Vals) → scan_one t n found w s variant vs ≡ node_scan t n left found w s variant vs tt
+  unfolding scan_val
+  node_in_is found w s variant vs = subst (λ (m : ℕ). scan_one t n found w s variant vs ≡ node_scan t n m found w s variant vs tt) less refl
+
+  nodes_are : (w s index : ℕ) (variant : Option ℕ) (vs : Vals) (ns : Nodes) → scan_nodes t n w s (node index variant vs ns) ≡ (node_scan t n left (element_form t index) w s variant vs tt >>= λ r. scan_nodes t n w r ns)
+  unfolding scan_val
+  nodes_are w s index variant vs ns = ap (λ (q : Result ℕ ℕ). q >>= λ r. scan_nodes t n w r ns) (node_in_is (element_form t index) w s variant vs)
 
   seq_is : (slot : Slot) (w s : ℕ) (index : Option ℕ) (es : Elems) → scan_val t n slot w s (seq index es) ≡ (list_cause slot >>= seq_scan t n left slot w s index es)
   unfolding scan_val
@@ -352,15 +360,52 @@ module _ (t : Map) (n left : ℕ) (less : n - 1 ≡ left) where
   RefusesBelow no_level = n ≡ 0
   RefusesBelow (level one) = (0 < n) × IsRefused t left one
 
-  entry_refused : (one : OneFault) → IsRefused t left one → (w s index : ℕ) (variant : Option ℕ) (vs : Vals) (c : ℕ) → NodeFault t left (level one) w s index variant vs c → (form_at t index >>= form_scan t left w s variant vs) ≡ failed ℕ c
-  entry_refused one refuses w s index variant vs c (inl k) = breaks (form_at t index) (form_scan t left w s variant vs) c k
-  entry_refused one refuses w s index variant vs c (inr k) = passes (form_at t index) (form_scan t left w s variant vs) k.0 (failed ℕ c) k.1 (form_refused t left w one refuses k.0 s variant vs c k.2)
+  entry_refused : (one : OneFault) → IsRefused t left one → (found : Result Parsed ℕ) (w s : ℕ) (variant : Option ℕ) (vs : Vals) (c : ℕ) → NodeFault t left (level one) found w s variant vs c → (found >>= form_scan t left w s variant vs) ≡ failed ℕ c
+  entry_refused one refuses found w s variant vs c (inl k) = breaks found (form_scan t left w s variant vs) c k
+  entry_refused one refuses found w s variant vs c (inr k) = passes found (form_scan t left w s variant vs) k.0 (failed ℕ c) k.1 (form_refused t left w one refuses k.0 s variant vs c k.2)
 
-  node_refused : (l : Level) → RefusesBelow l → (w s index : ℕ) (variant : Option ℕ) (vs : Vals) (c : ℕ) → NodeFault t left l w s index variant vs c → node_scan t n left w s index variant vs tt ≡ failed ℕ c
-  node_refused no_level b w s index variant vs c m =
-      breaks (test (nat_lt 0 n) 6) (λ _. form_at t index >>= form_scan t left w s variant vs) c (no_level_left n b ∙ ap (λ (d : ℕ). failed (Unit {0}) d) (sym m))
-  node_refused (level one) b w s index variant vs c m =
-      passes (test (nat_lt 0 n) 6) (λ _. form_at t index >>= form_scan t left w s variant vs) tt (failed ℕ c) (a_level_left n b.0) (entry_refused one b.1 w s index variant vs c m)
+  node_refused : (l : Level) → RefusesBelow l → (found : Result Parsed ℕ) (w s : ℕ) (variant : Option ℕ) (vs : Vals) (c : ℕ) → NodeFault t left l found w s variant vs c → node_scan t n left found w s variant vs tt ≡ failed ℕ c
+  node_refused no_level b found w s variant vs c m =
+      breaks (test (nat_lt 0 n) 6) (λ _. found >>= form_scan t left w s variant vs) c (no_level_left n b ∙ ap (λ (d : ℕ). failed (Unit {0}) d) (sym m))
+  node_refused (level one) b found w s variant vs c m =
+      passes (test (nat_lt 0 n) 6) (λ _. found >>= form_scan t left w s variant vs) tt (failed ℕ c) (a_level_left n b.0) (entry_refused one b.1 found w s variant vs c m)
+
+  -- the levels that may be opened round an element of a sequence are those of the sequence's place
+  abbrev IsLevel : Level → Type 0
+  IsLevel no_level = n ≡ 0
+  IsLevel (level one) = 0 < n
+
+  levels_are : (l : Level) → IsLevel l → levels l left ≡ n
+  levels_are no_level b = sym b
+  levels_are (level one) b = omega (arith, less, b)
+
+  refused_level : (l : Level) → RefusesBelow l → IsLevel l
+  refused_level no_level b = b
+  refused_level (level one) b = b.0
+
+  nodes_pass : (w s : ℕ) (ns rest : Nodes) → FitsNodes t n ns → s + weigh_nodes t w ns ≤ 8192 → scan_nodes t n w s (join_nodes ns rest) ≡ scan_nodes t n w (s + weigh_nodes t w ns) rest
+  unfolding scan_val
+  nodes_pass w s no_nodes rest f light =
+      let z : s ≡ s + 0 = omega arith in
+      ap (λ (m : ℕ). scan_nodes t n w m rest) z
+  nodes_pass w s (node index variant vs ns) rest f light =
+      let form : Parsed = f.0 in
+      let ps : List Piece = f.1 in
+      let a : ℕ = w + weigh_vals t (node_places t index variant) w vs in
+      let b : ℕ = weigh_nodes t w ns in
+      let sum : s + (a + b) ≤ 8192 = light in
+      let h = node_again t n (element_form t index) w s index variant vs form ps f.3 (element_there t index form variant ps f.2 f.4 f.5) f.4 f.5 (λ m. vals_again t (n - 1) (places_of ps) w (s + w) vs f.6 m) (omega (arith, sum)) in
+      let k = nodes_pass w (s + a) ns rest f.7 (omega (arith, sum)) in
+      rw h (k ∙ ap (λ (m : ℕ). scan_nodes t n w m rest) (add_assoc s a b))
+
+  nodes_refused : (l : Level) → RefusesBelow l → (w s : ℕ) (ns : Nodes) (c : ℕ) → NodesFault t left l w s ns c → scan_nodes t n w s ns ≡ failed ℕ c
+  nodes_refused l b w s ns c m =
+      let k : ℕ = s + weigh_nodes t w m.front in
+      let fits : FitsNodes t n m.front = subst (λ (i : ℕ). FitsNodes t i m.front) (levels_are l (refused_level l b)) m.fits in
+      ap (λ (xs : Nodes). scan_nodes t n w s xs) m.nodes_is
+      ∙ nodes_pass w s m.front (node m.index m.variant m.values m.rest) fits m.light
+      ∙ nodes_are w k m.index m.variant m.values m.rest
+      ∙ breaks (node_scan t n left (element_form t m.index) w k m.variant m.values tt) (λ r. scan_nodes t n w r m.rest) c (node_refused l b (element_form t m.index) w k m.variant m.values c m.next)
 
   seq_refused : (l : Level) → RefusesBelow l → (slot : Slot) (w s : ℕ) (index : Option ℕ) (es : Elems) (c : ℕ) → SeqFault t left l slot w s index es c → seq_scan t n left slot w s index es tt ≡ failed ℕ c
   seq_refused l b slot w s index no_elems c (inl m) = breaks (no_index index) (none_scan slot s) c m
@@ -381,29 +426,89 @@ module _ (t : Map) (n left : ℕ) (less : n - 1 ≡ left) where
   val_refused l b slot w s (istr i) c m = breaks (istr_cause t slot i) (λ _. done s) c m
   val_refused l b slot w s (bytes x) c m = breaks (bytes_cause slot (length x)) (λ _. done s) c m
   val_refused l b slot w s (bits k) c m = breaks (bits_cause slot k) (λ _. done s) c m
-  val_refused l b slot w s (format index variant vs) c (inl m) = node_is slot w s index variant vs ∙ breaks (node_cause slot) (node_scan t n left w s index variant vs) c m
+  val_refused l b slot w s (format index variant vs) c (inl m) = node_is slot w s index variant vs ∙ breaks (node_cause slot) (node_scan t n left (form_at t index) w s variant vs) c m
   val_refused l b slot w s (format index variant vs) c (inr m) =
-      node_is slot w s index variant vs ∙ passes (node_cause slot) (node_scan t n left w s index variant vs) tt (failed ℕ c) m.0 (node_refused l b w s index variant vs c m.1)
+      node_is slot w s index variant vs ∙ passes (node_cause slot) (node_scan t n left (form_at t index) w s variant vs) tt (failed ℕ c) m.0 (node_refused l b (form_at t index) w s variant vs c m.1)
   val_refused l b slot w s (seq index es) c (inl m) = seq_is slot w s index es ∙ breaks (list_cause slot) (seq_scan t n left slot w s index es) c m
   val_refused l b slot w s (seq index es) c (inr m) =
       seq_is slot w s index es ∙ passes (list_cause slot) (seq_scan t n left slot w s index es) tt (failed ℕ c) m.0 (seq_refused l b slot w s index es c m.1)
+  val_refused l b slot w s (float k) c m = breaks (float_cause slot k) (λ _. done s) c m
+  val_refused l b slot w s (sequence ns) c (inl m) = breaks (sequence_cause slot) (λ _. scan_nodes t n w s ns) c m
+  val_refused l b slot w s (sequence ns) c (inr m) =
+      passes (sequence_cause slot) (λ _. scan_nodes t n w s ns) tt (failed ℕ c) m.0 (nodes_refused l b w s ns c m.1)
 
   -- what is told one level below
   abbrev TellsBelow : Level → Type 0
   TellsBelow no_level = n ≡ 0
   TellsBelow (level one) = (0 < n) × IsTold t left one
 
-  node_told : (l : Level) → TellsBelow l → (w s index : ℕ) (variant : Option ℕ) (vs : Vals) (c : ℕ) → s ≤ 8192 → node_scan t n left w s index variant vs tt ≡ failed ℕ c → NodeFault t left l w s index variant vs c
-  node_told no_level b w s index variant vs c low h =
-      let e : node_scan t n left w s index variant vs tt ≡ failed ℕ 6 = breaks (test (nat_lt 0 n) 6) (λ _. form_at t index >>= form_scan t left w s variant vs) 6 (no_level_left n b) in
+  told_level : (l : Level) → TellsBelow l → IsLevel l
+  told_level no_level b = b
+  told_level (level one) b = b.0
+
+  node_told : (l : Level) → TellsBelow l → (found : Result Parsed ℕ) (w s : ℕ) (variant : Option ℕ) (vs : Vals) (c : ℕ) → s ≤ 8192 → node_scan t n left found w s variant vs tt ≡ failed ℕ c → NodeFault t left l found w s variant vs c
+  node_told no_level b found w s variant vs c low h =
+      let e : node_scan t n left found w s variant vs tt ≡ failed ℕ 6 = breaks (test (nat_lt 0 n) 6) (λ _. found >>= form_scan t left w s variant vs) 6 (no_level_left n b) in
       sym (same_cause {A = ℕ} 6 c (sym e ∙ h))
-  node_told (level one) b w s index variant vs c low h =
-      let inside : Result ℕ ℕ = form_at t index >>= form_scan t left w s variant vs in
-      let e : node_scan t n left w s index variant vs tt ≡ inside = passes (test (nat_lt 0 n) 6) (λ _. inside) tt inside (a_level_left n b.0) refl in
-      elim (broken (form_at t index) (form_scan t left w s variant vs) c (sym e ∙ h)) [
+  node_told (level one) b found w s variant vs c low h =
+      let inside : Result ℕ ℕ = found >>= form_scan t left w s variant vs in
+      let e : node_scan t n left found w s variant vs tt ≡ inside = passes (test (nat_lt 0 n) 6) (λ _. inside) tt inside (a_level_left n b.0) refl in
+      elim (broken found (form_scan t left w s variant vs) c (sym e ∙ h)) [
         | inl k ↦ inl k
         | inr k ↦ inr (k.0, k.1, form_told t left w one b.1 k.0 s variant vs c low k.2)
       ]
+
+  -- no element of a sequence stands in front
+  first_node : (l : Level) (w s index : ℕ) (variant : Option ℕ) (vs : Vals) (ns : Nodes) (c : ℕ) → s ≤ 8192 → NodeFault t left l (element_form t index) w s variant vs c → NodesFault t left l w s (node index variant vs ns) c
+  first_node l w s index variant vs ns c low m =
+      let z : s ≡ s + 0 = omega arith in
+      let light : s + 0 ≤ 8192 = omega arith in
+      record {
+        front = no_nodes;
+        index = index;
+        variant = variant;
+        values = vs;
+        rest = ns;
+        nodes_is = refl;
+        fits = tt;
+        light = light;
+        next = subst (λ (k : ℕ). NodeFault t left l (element_form t index) w k variant vs c) z m;
+      }
+
+  -- one more element of a sequence stands in front
+  later_node : (l : Level) → IsLevel l → (w s r index : ℕ) (variant : Option ℕ) (vs : Vals) (ns : Nodes) (c : ℕ) → FitsNodes t n (node index variant vs no_nodes)
+      → s + (w + weigh_vals t (node_places t index variant) w vs) ≡ r → NodesFault t left l w r ns c → NodesFault t left l w s (node index variant vs ns) c
+  later_node l up w s r index variant vs ns c f sum m =
+      let a : ℕ = w + weigh_vals t (node_places t index variant) w vs in
+      let b : ℕ = weigh_nodes t w m.front in
+      let e : r + b ≡ s + (a + b) = omega (arith, sum) in
+      let high : r + b ≤ 8192 = m.light in
+      let light : s + (a + b) ≤ 8192 = omega (arith, high, e) in
+      let front : FitsNodes t n m.front = subst (λ (k : ℕ). FitsNodes t k m.front) (levels_are l up) m.fits in
+      let more : FitsNodes t n (node index variant vs m.front) = (f.0, f.1, f.2, f.3, f.4, f.5, f.6, front) in
+      record {
+        front = node index variant vs m.front;
+        index = m.index;
+        variant = m.variant;
+        values = m.values;
+        rest = m.rest;
+        nodes_is = ap (λ (xs : Nodes). node index variant vs xs) m.nodes_is;
+        fits = subst (λ (k : ℕ). FitsNodes t k (node index variant vs m.front)) (sym (levels_are l up)) more;
+        light = light;
+        next = subst (λ (k : ℕ). NodeFault t left l (element_form t m.index) w k m.variant m.values c) e m.next;
+      }
+
+  nodes_told : (l : Level) → TellsBelow l → (w s : ℕ) (ns : Nodes) (c : ℕ) → s ≤ 8192 → scan_nodes t n w s ns ≡ failed ℕ c → NodesFault t left l w s ns c
+  unfolding scan_val
+  nodes_told l b w s no_nodes c low h = absurd (cc)
+  nodes_told l b w s (node index variant vs ns) c low h = elim (broken (node_scan t n left (element_form t index) w s variant vs tt) (λ r. scan_nodes t n w r ns) c (sym (nodes_are w s index variant vs ns) ∙ h)) [
+    | inl k ↦ first_node l w s index variant vs ns c low (node_told l b (element_form t index) w s variant vs c low k)
+    | inr k ↦ (
+        let g = node_in t n (element_form t index) w s k.0 variant vs (λ ps u j. vals_found t (n - 1) (places_of ps) w u k.0 vs j) (node_in_is (element_form t index) w s variant vs ∙ k.1) in
+        let e = element_found t index g.form g.there in
+        let sums = node_sums t index w s variant vs g.form g.pieces k.0 e.1 g.has g.sums in
+        later_node l (told_level l b) w s k.0 index variant vs ns c (g.form, g.pieces, e.0, g.up, e.1, g.has, g.values, tt) sums.sum (nodes_told l b w k.0 ns c (sums.kept low) k.2))
+  ]
 
   seq_told : (l : Level) → TellsBelow l → (slot : Slot) (w s : ℕ) (index : Option ℕ) (es : Elems) (c : ℕ) → s ≤ 8192 → seq_scan t n left slot w s index es tt ≡ failed ℕ c → SeqFault t left l slot w s index es c
   seq_told l b slot w s index no_elems c low h = elim (broken (no_index index) (none_scan slot s) c h) [
@@ -428,13 +533,18 @@ module _ (t : Map) (n left : ℕ) (less : n - 1 ≡ left) where
   val_told l b slot w s (istr i) c low h = before_sum (istr_cause t slot i) s c h
   val_told l b slot w s (bytes x) c low h = before_sum (bytes_cause slot (length x)) s c h
   val_told l b slot w s (bits k) c low h = before_sum (bits_cause slot k) s c h
-  val_told l b slot w s (format index variant vs) c low h = elim (broken (node_cause slot) (node_scan t n left w s index variant vs) c (sym (node_is slot w s index variant vs) ∙ h)) [
+  val_told l b slot w s (format index variant vs) c low h = elim (broken (node_cause slot) (node_scan t n left (form_at t index) w s variant vs) c (sym (node_is slot w s index variant vs) ∙ h)) [
     | inl k ↦ inl k
-    | inr k ↦ inr (k.1, node_told l b w s index variant vs c low k.2)
+    | inr k ↦ inr (k.1, node_told l b (form_at t index) w s variant vs c low k.2)
   ]
   val_told l b slot w s (seq index es) c low h = elim (broken (list_cause slot) (seq_scan t n left slot w s index es) c (sym (seq_is slot w s index es) ∙ h)) [
     | inl k ↦ inl k
     | inr k ↦ inr (k.1, seq_told l b slot w s index es c low k.2)
+  ]
+  val_told l b slot w s (float k) c low h = before_sum (float_cause slot k) s c h
+  val_told l b slot w s (sequence ns) c low h = elim (broken (sequence_cause slot) (λ _. scan_nodes t n w s ns) c h) [
+    | inl k ↦ inl k
+    | inr k ↦ inr (k.1, nodes_told l b w s ns c low k.2)
   ]
 
 -- ---- all levels
@@ -455,14 +565,14 @@ abbrev own_scan : Map → Vals → List Piece → Result ℕ ℕ
 own_scan t vs ps = scan_vals t 16 (places_of ps) 1 0 vs
 
 pub statement_refused : (t : Map) (index : ℕ) (vs : Vals) (c : ℕ) → StatementFault t index vs c → own_cause t index vs ≡ Err c
-statement_refused t index vs c (inl m) = breaks (scan_own t index vs) ended c (breaks (own_form (look t index)) (own_scan t vs) c m)
+statement_refused t index vs c (inl m) = breaks (scan_own t index vs) ended c (breaks (own_form t.language (look t index)) (own_scan t vs) c m)
 statement_refused t index vs c (inr m) =
     breaks (scan_own t index vs) ended c
-    (passes (own_form (look t index)) (own_scan t vs) m.0 (failed ℕ c) m.1
+    (passes (own_form t.language (look t index)) (own_scan t vs) m.0 (failed ℕ c) m.1
     (each_refused t 16 1 (fault_at t 16) (fault_refused t 16) (places_of m.0) 0 vs c m.2))
 
 statement_told : (t : Map) (index : ℕ) (vs : Vals) (c : ℕ) → own_cause t index vs ≡ failed (Unit {0}) c → StatementFault t index vs c
-statement_told t index vs c h = elim (broken (own_form (look t index)) (own_scan t vs) c (before_end (scan_own t index vs) c h)) [
+statement_told t index vs c h = elim (broken (own_form t.language (look t index)) (own_scan t vs) c (before_end (scan_own t index vs) c h)) [
   | inl k ↦ inl k
   | inr k ↦ inr (k.0, k.1, each_told t 16 1 (fault_at t 16) (fault_told t 16) (places_of k.0) 0 vs c (omega arith) k.2)
 ]

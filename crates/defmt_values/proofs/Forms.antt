@@ -1,10 +1,10 @@
 -- Entries that suit Format values, and their pieces.
-use Rattle.std.proofs.Common.{◌≡◌, ◌<◌, ◌≤◌, ◌+◌, ℕ, Bool, true, false, nat_lt, List, Option, Some, None, Ok, refl, cond}
-use Rattle.std.specs.FinMap as map
+use Rattle.std.proofs.Common.{◌≡◌, ◌<◌, ◌≤◌, ◌+◌, ◌==◌, ℕ, Bool, true, false, nat_lt, List, Option, Some, None, Ok, Err, refl, cond, ◌∙◌, arith}
+use Rattle.defmt_intern.specs.Entries as map
 use Rattle.std.specs.List.{slice_get}
-use Rattle.std.proofs.lemmas.Bool.{ltb-true, le-leb}
+use Rattle.std.proofs.lemmas.Bool.{ltb-true, le-leb, cond-false, ne_eqb}
 use Rattle.defmt_values.specs.Fits.{IsForm, HasPieces}
-use Rattle.defmt_values.specs.Scan.{form_at, pick, add, node_places}
+use Rattle.defmt_values.specs.Scan.{form_at, element_form, pick, add, node_places}
 use Rattle.defmt_values.specs.Entries.{look, variant_at, places_of}
 use Rattle.defmt_grammar.specs.declared.piece.Piece.{Piece}
 use Rattle.defmt_intern.specs.Table.{Map}
@@ -24,6 +24,9 @@ variant_small forms v ps h = ltb-true v 256 (guarded (nat_lt v 256) (slice_get f
 pub form_there : (t : Map) (index : ℕ) (form : Parsed) (variant : Option ℕ) (ps : List Piece) → IsForm t index form → HasPieces form variant ps → form_at t index ≡ Ok form
 form_there t index form None ps f h = rw (f.there, f.tag, f.body, h) refl
 form_there t index form (Some v) ps f h = rw (f.there, f.tag, f.body, h.1) refl
+
+pub element_there : (t : Map) (index : ℕ) (form : Parsed) (variant : Option ℕ) (ps : List Piece) → 0 < index → IsForm t index form → HasPieces form variant ps → element_form t index ≡ Ok form
+element_there t index form variant ps some f h = cond-false (index == 0) (Err 5) (form_at t index) (ne_eqb index 0 (λ e. omega (arith, some, e))) ∙ form_there t index form variant ps f h
 
 pub pieces_there : (form : Parsed) (variant : Option ℕ) (ps : List Piece) → HasPieces form variant ps → pick form variant ≡ Ok ps
 pieces_there form None ps h = rw h refl

@@ -1,16 +1,14 @@
 -- What a scan passes fits, and what fits is passed, with the sum of the weights.
-use Rattle.std.proofs.Common.{◌≡◌, ◌<◌, ◌≤◌, inl, inr, ◌^◌, ◌+◌, ◌-◌, ◌*◌, ◌%◌, ◌==◌, ◌&&◌, nat_lt, nat_le, ℕ, ℤ, pos, negsuc, Bool, true, false, List, [], ◌∷◌, length, Option, Some, None, Result, Ok, Err, refl, sym, ap, ◌∙◌, subst, arith, add-zero, cond}
-use Rattle.std.proofs.lemmas.Bool.{ltb-true, leb-true, eqb-true, and_parts}
-use Rattle.defmt_values.specs.Plain.{Val, uint, int, flag, char, str, istr, bytes, bits, format, seq, Vals, no_vals, val, Elems, no_elems, elem, elems_len, elems_empty}
-use Rattle.defmt_values.specs.Fits.{IsUint, IsInt, IsBytes, IsBits, IsInterned, IsForm, HasPieces, IsList, FitsVal, FitsVals, FitsElems, weigh_val, weigh_vals, weigh_elems}
-use Rattle.defmt_values.specs.Scan.{◌>>=◌, test, uint_cause, int_cause, flag_cause, char_cause, str_cause, istr_cause, bytes_cause, bits_cause, node_cause, list_cause, count_cause, interned_of, form_in, form_of, form_at, pick, there, add, list_form, no_index, node_places, index_or, end_of, scan_val, scan_vals, scan_elems}
+use Rattle.std.proofs.Common.{◌≡◌, ◌<◌, ◌≤◌, inl, inr, ◌+◌, ◌-◌, ◌*◌, ◌==◌, nat_lt, nat_le, ℕ, Bool, true, false, List, [], ◌∷◌, length, Option, Some, None, Result, Ok, Err, refl, sym, ap, ◌∙◌, subst, arith, add-zero, cond}
+use Rattle.std.proofs.lemmas.Bool.{ltb-true, leb-true, eqb-false}
+use Rattle.defmt_values.specs.Plain.{Val, uint, int, flag, char, str, istr, bytes, bits, format, seq, float, sequence, Vals, no_vals, val, Elems, no_elems, elem, Nodes, no_nodes, node, elems_len, elems_empty}
+use Rattle.defmt_values.specs.Fits.{IsForm, HasPieces, FitsVal, FitsVals, FitsElems, FitsNodes, weigh_val, weigh_vals, weigh_elems, weigh_nodes}
+use Rattle.defmt_values.specs.Scan.{◌>>=◌, test, uint_cause, int_cause, flag_cause, char_cause, str_cause, istr_cause, bytes_cause, bits_cause, float_cause, node_cause, list_cause, count_cause, sequence_cause, form_in, form_of, form_at, element_form, pick, there, add, list_form, no_index, node_places, index_or, end_of, scan_val, scan_vals, scan_elems, scan_one, scan_nodes}
 use Rattle.defmt_values.specs.Entries.{look, is_format, variant_at, Place, places_of}
-use Rattle.defmt_grammar.specs.Sizes.{size_bits, is_signed, IsSigned}
 use Rattle.defmt_values.proofs.Forms.{places_are}
+use Rattle.defmt_values.proofs.Suits.{tested, uint_found, int_found, flag_found, char_found, str_found, node_found, istr_found, bytes_found, bits_found, list_found, float_found, sequence_found}
 use Rattle.defmt_grammar.specs.declared.piece.Piece.{Piece}
 use Rattle.defmt_grammar.specs.declared.slot.Slot.{Slot}
-use Rattle.defmt_grammar.specs.declared.slot.Slot.TheVariants as slots
-use Rattle.defmt_grammar.specs.declared.kind.Kind.TheVariants as kinds
 use Rattle.defmt_intern.specs.Body.{body_of}
 use Rattle.defmt_intern.specs.Table.{Map}
 use Rattle.defmt_intern.specs.declared.entry.Entry.{Entry}
@@ -29,10 +27,6 @@ done n = Ok n
 pub same_sum : (s r : ℕ) → done s ≡ done r → s ≡ r
 same_sum s r h = cc
 
-pub tested : (b : Bool) (e : ℕ) → test b e ≡ Ok tt → b ≡ true
-tested true e h = refl
-tested false e h = absurd (cc)
-
 pub positive : (n : ℕ) (b : Bool) → nat_lt 0 n ≡ b → b ≡ true → 0 < n
 positive n b e h = ltb-true 0 n (e ∙ h)
 
@@ -48,195 +42,28 @@ done_pieces ps = Ok ps
 same_pieces : (ps qs : List Piece) → done_pieces ps ≡ done_pieces qs → ps ≡ qs
 same_pieces ps qs h = cc
 
-is_equal : (m n : ℕ) → (m == n) ≡ true → m ≡ n
-is_equal m n h = eqb-true m n h
-
-is_zero : (m : ℕ) → (m == 0) ≡ true → m ≡ 0
-is_zero m h = is_equal m 0 h
-
--- ---- values without values inside
-
-uint_found : (slot : Slot) (n : ℕ) → uint_cause slot n ≡ Ok tt → IsUint slot n
-uint_found (slots.One (kinds.Uint size)) n h = record { size = size; slot_is = refl; in_range = ltb-true n (2 ^ size_bits size) (tested (nat_lt n (2 ^ size_bits size)) 4 h) }
-uint_found (slots.One (kinds.Int size)) n h = absurd (cc)
-uint_found (slots.One kinds.Bool) n h = absurd (cc)
-uint_found (slots.One kinds.Char) n h = absurd (cc)
-uint_found (slots.One kinds.Str) n h = absurd (cc)
-uint_found (slots.One kinds.Istr) n h = absurd (cc)
-uint_found (slots.One kinds.Bytes) n h = absurd (cc)
-uint_found (slots.One (kinds.ByteArray m)) n h = absurd (cc)
-uint_found (slots.One kinds.Format) n h = absurd (cc)
-uint_found (slots.One kinds.FormatSlice) n h = absurd (cc)
-uint_found (slots.One (kinds.FormatArray m)) n h = absurd (cc)
-uint_found (slots.One (kinds.Bits lo hi)) n h = absurd (cc)
-uint_found (slots.Bits first width) n h = absurd (cc)
-
-signed_found : (width : ℕ) (n : ℤ) → is_signed width n ≡ true → IsSigned width n
-signed_found width (pos n) h = ltb-true n (2 ^ (width - 1)) h
-signed_found width (negsuc n) h = ltb-true n (2 ^ (width - 1)) h
-
-int_found : (slot : Slot) (n : ℤ) → int_cause slot n ≡ Ok tt → IsInt slot n
-int_found (slots.One (kinds.Uint size)) n h = absurd (cc)
-int_found (slots.One (kinds.Int size)) n h = record { size = size; slot_is = refl; in_range = signed_found (size_bits size) n (tested (is_signed (size_bits size) n) 4 h) }
-int_found (slots.One kinds.Bool) n h = absurd (cc)
-int_found (slots.One kinds.Char) n h = absurd (cc)
-int_found (slots.One kinds.Str) n h = absurd (cc)
-int_found (slots.One kinds.Istr) n h = absurd (cc)
-int_found (slots.One kinds.Bytes) n h = absurd (cc)
-int_found (slots.One (kinds.ByteArray m)) n h = absurd (cc)
-int_found (slots.One kinds.Format) n h = absurd (cc)
-int_found (slots.One kinds.FormatSlice) n h = absurd (cc)
-int_found (slots.One (kinds.FormatArray m)) n h = absurd (cc)
-int_found (slots.One (kinds.Bits lo hi)) n h = absurd (cc)
-int_found (slots.Bits first width) n h = absurd (cc)
-
-flag_found : (slot : Slot) → flag_cause slot ≡ Ok tt → slot ≡ slots.One kinds.Bool
-flag_found (slots.One (kinds.Uint size)) h = absurd (cc)
-flag_found (slots.One (kinds.Int size)) h = absurd (cc)
-flag_found (slots.One kinds.Bool) h = refl
-flag_found (slots.One kinds.Char) h = absurd (cc)
-flag_found (slots.One kinds.Str) h = absurd (cc)
-flag_found (slots.One kinds.Istr) h = absurd (cc)
-flag_found (slots.One kinds.Bytes) h = absurd (cc)
-flag_found (slots.One (kinds.ByteArray m)) h = absurd (cc)
-flag_found (slots.One kinds.Format) h = absurd (cc)
-flag_found (slots.One kinds.FormatSlice) h = absurd (cc)
-flag_found (slots.One (kinds.FormatArray m)) h = absurd (cc)
-flag_found (slots.One (kinds.Bits lo hi)) h = absurd (cc)
-flag_found (slots.Bits first width) h = absurd (cc)
-
-char_found : (slot : Slot) → char_cause slot ≡ Ok tt → slot ≡ slots.One kinds.Char
-char_found (slots.One (kinds.Uint size)) h = absurd (cc)
-char_found (slots.One (kinds.Int size)) h = absurd (cc)
-char_found (slots.One kinds.Bool) h = absurd (cc)
-char_found (slots.One kinds.Char) h = refl
-char_found (slots.One kinds.Str) h = absurd (cc)
-char_found (slots.One kinds.Istr) h = absurd (cc)
-char_found (slots.One kinds.Bytes) h = absurd (cc)
-char_found (slots.One (kinds.ByteArray m)) h = absurd (cc)
-char_found (slots.One kinds.Format) h = absurd (cc)
-char_found (slots.One kinds.FormatSlice) h = absurd (cc)
-char_found (slots.One (kinds.FormatArray m)) h = absurd (cc)
-char_found (slots.One (kinds.Bits lo hi)) h = absurd (cc)
-char_found (slots.Bits first width) h = absurd (cc)
-
-str_found : (slot : Slot) → str_cause slot ≡ Ok tt → slot ≡ slots.One kinds.Str
-str_found (slots.One (kinds.Uint size)) h = absurd (cc)
-str_found (slots.One (kinds.Int size)) h = absurd (cc)
-str_found (slots.One kinds.Bool) h = absurd (cc)
-str_found (slots.One kinds.Char) h = absurd (cc)
-str_found (slots.One kinds.Str) h = refl
-str_found (slots.One kinds.Istr) h = absurd (cc)
-str_found (slots.One kinds.Bytes) h = absurd (cc)
-str_found (slots.One (kinds.ByteArray m)) h = absurd (cc)
-str_found (slots.One kinds.Format) h = absurd (cc)
-str_found (slots.One kinds.FormatSlice) h = absurd (cc)
-str_found (slots.One (kinds.FormatArray m)) h = absurd (cc)
-str_found (slots.One (kinds.Bits lo hi)) h = absurd (cc)
-str_found (slots.Bits first width) h = absurd (cc)
-
-node_found : (slot : Slot) → node_cause slot ≡ Ok tt → slot ≡ slots.One kinds.Format
-node_found (slots.One (kinds.Uint size)) h = absurd (cc)
-node_found (slots.One (kinds.Int size)) h = absurd (cc)
-node_found (slots.One kinds.Bool) h = absurd (cc)
-node_found (slots.One kinds.Char) h = absurd (cc)
-node_found (slots.One kinds.Str) h = absurd (cc)
-node_found (slots.One kinds.Istr) h = absurd (cc)
-node_found (slots.One kinds.Bytes) h = absurd (cc)
-node_found (slots.One (kinds.ByteArray m)) h = absurd (cc)
-node_found (slots.One kinds.Format) h = refl
-node_found (slots.One kinds.FormatSlice) h = absurd (cc)
-node_found (slots.One (kinds.FormatArray m)) h = absurd (cc)
-node_found (slots.One (kinds.Bits lo hi)) h = absurd (cc)
-node_found (slots.Bits first width) h = absurd (cc)
-
-interned_found : (t : Map) (index : ℕ) (o : Option Entry) → look t index ≡ o → interned_of o ≡ true → IsInterned t index
-interned_found t index None e h = absurd (cc)
-interned_found t index (Some entry) e h = record { entry = entry; there = e; tag = h }
-
-istr_found : (t : Map) (slot : Slot) (index : ℕ) → istr_cause t slot index ≡ Ok tt → (slot ≡ slots.One kinds.Istr) × IsInterned t index
-istr_found t (slots.One (kinds.Uint size)) index h = absurd (cc)
-istr_found t (slots.One (kinds.Int size)) index h = absurd (cc)
-istr_found t (slots.One kinds.Bool) index h = absurd (cc)
-istr_found t (slots.One kinds.Char) index h = absurd (cc)
-istr_found t (slots.One kinds.Str) index h = absurd (cc)
-istr_found t (slots.One kinds.Istr) index h = (refl, interned_found t index (look t index) refl (tested (interned_of (look t index)) 5 h))
-istr_found t (slots.One kinds.Bytes) index h = absurd (cc)
-istr_found t (slots.One (kinds.ByteArray m)) index h = absurd (cc)
-istr_found t (slots.One kinds.Format) index h = absurd (cc)
-istr_found t (slots.One kinds.FormatSlice) index h = absurd (cc)
-istr_found t (slots.One (kinds.FormatArray m)) index h = absurd (cc)
-istr_found t (slots.One (kinds.Bits lo hi)) index h = absurd (cc)
-istr_found t (slots.Bits first width) index h = absurd (cc)
-
-bytes_found : (slot : Slot) (count : ℕ) → bytes_cause slot count ≡ Ok tt → IsBytes slot count
-bytes_found (slots.One (kinds.Uint size)) count h = absurd (cc)
-bytes_found (slots.One (kinds.Int size)) count h = absurd (cc)
-bytes_found (slots.One kinds.Bool) count h = absurd (cc)
-bytes_found (slots.One kinds.Char) count h = absurd (cc)
-bytes_found (slots.One kinds.Str) count h = absurd (cc)
-bytes_found (slots.One kinds.Istr) count h = absurd (cc)
-bytes_found (slots.One kinds.Bytes) count h = inl refl
-bytes_found (slots.One (kinds.ByteArray m)) count h = inr (ap (λ k. slots.One (kinds.ByteArray k)) (sym (is_equal count m (tested (count == m) 4 h))))
-bytes_found (slots.One kinds.Format) count h = absurd (cc)
-bytes_found (slots.One kinds.FormatSlice) count h = absurd (cc)
-bytes_found (slots.One (kinds.FormatArray m)) count h = absurd (cc)
-bytes_found (slots.One (kinds.Bits lo hi)) count h = absurd (cc)
-bytes_found (slots.Bits first width) count h = absurd (cc)
-
-bits_found : (slot : Slot) (n : ℕ) → bits_cause slot n ≡ Ok tt → IsBits slot n
-bits_found (slots.One (kinds.Uint size)) n h = absurd (cc)
-bits_found (slots.One (kinds.Int size)) n h = absurd (cc)
-bits_found (slots.One kinds.Bool) n h = absurd (cc)
-bits_found (slots.One kinds.Char) n h = absurd (cc)
-bits_found (slots.One kinds.Str) n h = absurd (cc)
-bits_found (slots.One kinds.Istr) n h = absurd (cc)
-bits_found (slots.One kinds.Bytes) n h = absurd (cc)
-bits_found (slots.One (kinds.ByteArray m)) n h = absurd (cc)
-bits_found (slots.One kinds.Format) n h = absurd (cc)
-bits_found (slots.One kinds.FormatSlice) n h = absurd (cc)
-bits_found (slots.One (kinds.FormatArray m)) n h = absurd (cc)
-bits_found (slots.One (kinds.Bits lo hi)) n h = absurd (cc)
-bits_found (slots.Bits first width) n h =
-    let all = tested (nat_lt n (256 ^ (first + width)) && (n % 256 ^ first == 0)) 4 h in
-    record {
-      first = first;
-      width = width;
-      slot_is = refl;
-      below = ltb-true n (256 ^ (first + width)) (and_parts (nat_lt n (256 ^ (first + width))) (n % 256 ^ first == 0) all).0;
-      above = is_zero (n % 256 ^ first) (and_parts (nat_lt n (256 ^ (first + width))) (n % 256 ^ first == 0) all).1;
-    }
-
-list_found : (slot : Slot) (count : ℕ) → list_cause slot ≡ Ok tt → count_cause slot count ≡ Ok tt → IsList slot count
-list_found (slots.One (kinds.Uint size)) count h k = absurd (cc)
-list_found (slots.One (kinds.Int size)) count h k = absurd (cc)
-list_found (slots.One kinds.Bool) count h k = absurd (cc)
-list_found (slots.One kinds.Char) count h k = absurd (cc)
-list_found (slots.One kinds.Str) count h k = absurd (cc)
-list_found (slots.One kinds.Istr) count h k = absurd (cc)
-list_found (slots.One kinds.Bytes) count h k = absurd (cc)
-list_found (slots.One (kinds.ByteArray m)) count h k = absurd (cc)
-list_found (slots.One kinds.Format) count h k = absurd (cc)
-list_found (slots.One kinds.FormatSlice) count h k = inl refl
-list_found (slots.One (kinds.FormatArray m)) count h k = inr (ap (λ n. slots.One (kinds.FormatArray n)) (sym (is_equal count m (tested (count == m) 4 k))))
-list_found (slots.One (kinds.Bits lo hi)) count h k = absurd (cc)
-list_found (slots.Bits first width) count h k = absurd (cc)
-
 -- ---- entries and pieces
 
-form_found_in : (t : Map) (index : ℕ) (form : Parsed) (e : Entry) → look t index ≡ Some e → (suits : Bool) → is_format e.tag ≡ suits → (body : Parsed) → body_of e ≡ body → form_in suits body ≡ Ok form → IsForm t index form
+form_found_in : (t : Map) (index : ℕ) (form : Parsed) (e : Entry) → look t index ≡ Some e → (suits : Bool) → is_format e.tag ≡ suits → (body : Parsed) → body_of t.language e ≡ body → form_in suits body ≡ Ok form → IsForm t index form
 form_found_in t index form e l false g body p h = absurd (cc)
 form_found_in t index form e l true g Unsupported p h = absurd (cc)
 form_found_in t index form e l true g Raw p h = record { entry = e; there = l; tag = g; body = p ∙ same_form Raw form h }
 form_found_in t index form e l true g (One ps) p h = record { entry = e; there = l; tag = g; body = p ∙ same_form (One ps) form h }
 form_found_in t index form e l true g (Variants fs) p h = record { entry = e; there = l; tag = g; body = p ∙ same_form (Variants fs) form h }
 
-form_found_at : (t : Map) (index : ℕ) (form : Parsed) (o : Option Entry) → look t index ≡ o → form_of o ≡ Ok form → IsForm t index form
+form_found_at : (t : Map) (index : ℕ) (form : Parsed) (o : Option Entry) → look t index ≡ o → form_of t.language o ≡ Ok form → IsForm t index form
 form_found_at t index form None e h = absurd (cc)
-form_found_at t index form (Some entry) e h = form_found_in t index form entry e (is_format entry.tag) refl (body_of entry) refl h
+form_found_at t index form (Some entry) e h = form_found_in t index form entry e (is_format entry.tag) refl (body_of t.language entry) refl h
 
 pub form_found : (t : Map) (index : ℕ) (form : Parsed) → form_at t index ≡ Ok form → IsForm t index form
 form_found t index form h = form_found_at t index form (look t index) refl h
+
+element_found_by : (t : Map) (index : ℕ) (form : Parsed) (b : Bool) → (index == 0) ≡ b → cond {A = Result Parsed ℕ} b (Err 5) (form_at t index) ≡ Ok form → (0 < index) × (form_at t index ≡ Ok form)
+element_found_by t index form true e h = absurd (cc)
+element_found_by t index form false e h = let k = eqb-false index 0 e in (omega (arith, k), h)
+
+pub element_found : (t : Map) (index : ℕ) (form : Parsed) → element_form t index ≡ Ok form → (0 < index) × IsForm t index form
+element_found t index form h = let e = element_found_by t index form (index == 0) refl h in (e.0, form_found t index form e.1)
 
 there_found : (o : Option (List Piece)) (ps : List Piece) → there o ≡ Ok ps → o ≡ Some ps
 there_found None ps h = absurd (cc)
@@ -270,11 +97,11 @@ node_3 t left w variant vs form s = pick form variant >>= node_4 t left w vs s
 abbrev node_2 : Map → ℕ → ℕ → ℕ → Option ℕ → Vals → Parsed → Result ℕ ℕ
 node_2 t left w s variant vs form = add w s >>= node_3 t left w variant vs form
 
-abbrev node_1 : Map → ℕ → ℕ → ℕ → ℕ → Option ℕ → Vals → Unit {0} → Result ℕ ℕ
-node_1 t left w s index variant vs _ = form_at t index >>= node_2 t left w s variant vs
+abbrev node_1 : Map → ℕ → Result Parsed ℕ → ℕ → ℕ → Option ℕ → Vals → Unit {0} → Result ℕ ℕ
+node_1 t left found w s variant vs _ = found >>= node_2 t left w s variant vs
 
-abbrev node_0 : Map → ℕ → ℕ → ℕ → ℕ → Option ℕ → Vals → Unit {0} → Result ℕ ℕ
-node_0 t left w s index variant vs _ = test (nat_lt 0 left) 6 >>= node_1 t left w s index variant vs
+abbrev node_0 : Map → ℕ → Result Parsed ℕ → ℕ → ℕ → Option ℕ → Vals → Unit {0} → Result ℕ ℕ
+node_0 t left found w s variant vs _ = scan_one t left found w s variant vs
 
 abbrev list_4 : Slot → Elems → ℕ → Result ℕ ℕ
 list_4 slot es s = count_cause slot (elems_len es) >>= λ _. Ok s
@@ -307,6 +134,21 @@ elem_1 t left form w variant vs es s = pick form variant >>= elem_2 t left form 
 pub record Sums (s n r : ℕ) : Type 0 where
   pub sum : s + n ≡ r
   pub kept : s ≤ 8192 → r ≤ 8192
+
+-- a Format value, or an element of a sequence, that a scan from s to r found
+pub record NodeFits (t : Map) (left : ℕ) (found : Result Parsed ℕ) (w s : ℕ) (variant : Option ℕ) (vs : Vals) (r : ℕ) : Type 0 where
+  pub form : Parsed
+  pub pieces : List Piece
+  pub up : 0 < left
+  pub there : found ≡ Ok form
+  pub has : HasPieces form variant pieces
+  pub values : FitsVals t (left - 1) (places_of pieces) vs
+  pub sums : Sums s (w + weigh_vals t (places_of pieces) w vs) r
+
+-- its weight by its entry
+pub node_sums : (t : Map) (index w s : ℕ) (variant : Option ℕ) (vs : Vals) (form : Parsed) (ps : List Piece) (r : ℕ) → IsForm t index form → HasPieces form variant ps
+    → Sums s (w + weigh_vals t (places_of ps) w vs) r → Sums s (w + weigh_vals t (node_places t index variant) w vs) r
+node_sums t index w s variant vs form ps r f h sums = subst (λ (sl : List Place). Sums s (w + weigh_vals t sl w vs) r) (sym (places_are t index form variant ps f h)) sums
 
 leaf : (s r : ℕ) → done s ≡ done r → Sums s 0 r
 leaf s r h = let e : s ≡ r = same_sum s r h in record { sum = add-zero s ∙ e; kept = λ k. omega arith }
@@ -363,6 +205,20 @@ end_found : (slots : List Place) (s r : ℕ) → end_of slots s ≡ Ok r → (sl
 end_found [] s r h = (refl, leaf s r h)
 end_found (x ∷ xs) s r h = absurd (cc)
 
+pub node_in : (t : Map) (left : ℕ) (found : Result Parsed ℕ) (w s r : ℕ) (variant : Option ℕ) (vs : Vals)
+    → ((ps : List Piece) (u : ℕ) → scan_vals t (left - 1) (places_of ps) w u vs ≡ Ok r → FitsVals t (left - 1) (places_of ps) vs × Sums u (weigh_vals t (places_of ps) w vs) r)
+    → scan_one t left found w s variant vs ≡ Ok r → NodeFits t left found w s variant vs r
+node_in t left found w s r variant vs ih h =
+    let b1 = bound (test (nat_lt 0 left) 6) (node_1 t left found w s variant vs) r h in
+    let b2 = bound found (node_2 t left w s variant vs) r b1.2 in
+    let b3 = bound (add w s) (node_3 t left w variant vs b2.0) r b2.2 in
+    let b4 = bound (pick b2.0 variant) (node_4 t left w vs b3.0) r b3.2 in
+    let ps = pick_found b2.0 variant b4.0 b4.1 in
+    let a = add_found w s b3.0 b3.1 in
+    let all = ih b4.0 b3.0 b4.2 in
+    let up : 0 < left = positive left (nat_lt 0 left) refl (tested (nat_lt 0 left) 6 b1.1) in
+    record { form = b2.0; pieces = b4.0; up = up; there = b2.1; has = ps; values = all.0; sums = record { sum = omega (arith, a.1, all.1.sum); kept = λ m. all.1.kept (omega (arith, a.0, a.1)) } }
+
 mutual
   unfolding scan_val
 
@@ -376,21 +232,18 @@ mutual
   val_found t left slot w s r (bytes x) h = let b = bound (bytes_cause slot (length x)) (λ _. done s) r h in (bytes_found slot (length x) b.1, leaf s r b.2)
   val_found t left slot w s r (bits n) h = let b = bound (bits_cause slot n) (λ _. done s) r h in (bits_found slot n b.1, leaf s r b.2)
   val_found t left slot w s r (format index variant vs) h =
-      let b0 = bound (node_cause slot) (node_0 t left w s index variant vs) r h in
-      let b1 = bound (test (nat_lt 0 left) 6) (node_1 t left w s index variant vs) r b0.2 in
-      let b2 = bound (form_at t index) (node_2 t left w s variant vs) r b1.2 in
-      let b3 = bound (add w s) (node_3 t left w variant vs b2.0) r b2.2 in
-      let b4 = bound (pick b2.0 variant) (node_4 t left w vs b3.0) r b3.2 in
-      let form = form_found t index b2.0 b2.1 in
-      let ps = pick_found b2.0 variant b4.0 b4.1 in
-      let a = add_found w s b3.0 b3.1 in
-      let n_is : weigh_vals t (node_places t index variant) w vs ≡ weigh_vals t (places_of b4.0) w vs = ap (λ sl. weigh_vals t sl w vs) (places_are t index b2.0 variant b4.0 form ps) in
-      let all = vals_found t (left - 1) (places_of b4.0) w b3.0 r vs b4.2 in
-      let up : 0 < left = positive left (nat_lt 0 left) refl (tested (nat_lt 0 left) 6 b1.1) in
-      ((b2.0, b4.0, node_found slot b0.1, up, form, ps, all.0), record { sum = omega (arith, a.1, all.1.sum, n_is); kept = λ m. all.1.kept (omega (arith, a.0, a.1)) })
+      let b = bound (node_cause slot) (node_0 t left (form_at t index) w s variant vs) r h in
+      let n = node_in t left (form_at t index) w s r variant vs (λ ps u k. vals_found t (left - 1) (places_of ps) w u r vs k) b.2 in
+      let form = form_found t index n.form n.there in
+      ((n.form, n.pieces, node_found slot b.1, n.up, form, n.has, n.values), node_sums t index w s variant vs n.form n.pieces r form n.has n.sums)
   val_found t left slot w s r (seq index es) h =
       let b0 = bound (list_cause slot) (list_0 t left slot w s index es) r h in
       list_by t left slot w s r index es (elems_empty es) refl (λ i form u f k. elems_found t (left - 1) i form w s u es f k) b0.1 b0.2
+  val_found t left slot w s r (float n) h = let b = bound (float_cause slot n) (λ _. done s) r h in (float_found slot n b.1, leaf s r b.2)
+  val_found t left slot w s r (sequence ns) h =
+      let b = bound (sequence_cause slot) (λ _. scan_nodes t left w s ns) r h in
+      let all = nodes_found t left w s r ns b.2 in
+      ((sequence_found slot b.1, all.0), all.1)
 
   pub vals_found : (t : Map) (left : ℕ) (slots : List Place) (w s r : ℕ) (vs : Vals) → scan_vals t left slots w s vs ≡ Ok r → FitsVals t left slots vs × Sums s (weigh_vals t slots w vs) r
   vals_found t left slots w s r no_vals h = end_found slots s r h
@@ -413,3 +266,13 @@ mutual
       let one = vals_found t left (places_of b2.0) w b1.0 b3.0 vs b3.1 in
       let more = elems_found t left index form w b3.0 r es f b3.2 in
       ((b2.0, ps, one.0, more.0), record { sum = omega (arith, a.1, one.1.sum, more.1.sum, n_is); kept = λ m. more.1.kept (one.1.kept (omega (arith, a.0, a.1))) })
+
+  pub nodes_found : (t : Map) (left w s r : ℕ) (ns : Nodes) → scan_nodes t left w s ns ≡ Ok r → FitsNodes t left ns × Sums s (weigh_nodes t w ns) r
+  nodes_found t left w s r no_nodes h = (tt, leaf s r h)
+  nodes_found t left w s r (node index variant vs ns) h =
+      let b = bound (scan_one t left (element_form t index) w s variant vs) (λ u. scan_nodes t left w u ns) r h in
+      let n = node_in t left (element_form t index) w s b.0 variant vs (λ ps u k. vals_found t (left - 1) (places_of ps) w u b.0 vs k) b.1 in
+      let e = element_found t index n.form n.there in
+      let sums = node_sums t index w s variant vs n.form n.pieces b.0 e.1 n.has n.sums in
+      let more = nodes_found t left w b.0 r ns b.2 in
+      ((n.form, n.pieces, e.0, n.up, e.1, n.has, n.values, more.0), record { sum = omega (arith, sums.sum, more.1.sum); kept = λ m. more.1.kept (sums.kept m) })

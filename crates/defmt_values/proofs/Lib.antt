@@ -8,3 +8,4 @@ pub mod Powers
 pub mod Pushes
 pub mod Scans
 pub mod Sounds
+mod Suits

@@ -3,10 +3,11 @@ use Rattle.std.proofs.Common.{ℕ, zero, suc, Option, Some, None, ◌==◌, leng
 use Rattle.std.specs.Borrow.{Bor}
 use Rattle.std.specs.List.{slice_get}
 use Rattle.std.specs.Option.{option_copied, option_map}
-use Rattle.defmt_values.specs.Plain.{Vals, vals_get, val, snoc, elem, snoc_elem, elems_len, elems_empty, vals_len, vals_empty}
-use Rattle.defmt_values.specs.View.{plain, vals_of, elems_of}
+use Rattle.defmt_values.specs.Plain.{Vals, vals_get, val, snoc, elem, snoc_elem, elems_len, elems_empty, node, snoc_node, nodes_len, nodes_empty, vals_len, vals_empty}
+use Rattle.defmt_values.specs.View.{plain, vals_of, elems_of, nodes_of}
 use Rattle.defmt_values.specs.declared.value.Value.{Value}
 use Rattle.defmt_values.specs.declared.value.Item.{Item}
+use Rattle.defmt_values.specs.declared.value.Node.{Node}
 use Rattle.std.proofs.lemmas.Bool.Decides.{nat_tests}
 
 pub vals_push : (vs : List Value) (v : Value) → vals_of (map plain (vs ++ v ∷ [])) ≡ snoc (vals_of (map plain vs)) (plain v)
@@ -24,6 +25,18 @@ elems_count (e ∷ es) = omega (arith, elems_count es)
 pub elems_none : (es : List Item) → (length es == 0) ≡ elems_empty (elems_of es)
 elems_none [] = refl
 elems_none (e ∷ es) = grind (arith, nat_tests)
+
+pub nodes_push : (ns : List Node) (n : Node) → nodes_of (ns ++ n ∷ []) ≡ snoc_node (nodes_of ns) n.index n.variant n.args
+nodes_push [] n = refl
+nodes_push (m ∷ ns) n = ap (λ ms. node m.index m.variant m.args ms) (nodes_push ns n)
+
+pub nodes_count : (ns : List Node) → length ns ≡ nodes_len (nodes_of ns)
+nodes_count [] = refl
+nodes_count (n ∷ ns) = omega (arith, nodes_count ns)
+
+pub nodes_none : (ns : List Node) → (length ns == 0) ≡ nodes_empty (nodes_of ns)
+nodes_none [] = refl
+nodes_none (n ∷ ns) = grind (arith, nat_tests)
 
 pub vals_count : (vs : List Value) → length vs ≡ vals_len (vals_of (map plain vs))
 vals_count [] = refl

@@ -1,6 +1,6 @@
 -- What a table has at an index, and the pieces that arguments are for.
 use Rattle.std.specs.Prelude.{◌+◌, ℕ, Bool, true, false, nat_lt, List, [], ◌∷◌, Option, None, if◌then◌else◌}
-use Rattle.std.specs.FinMap as map
+use Rattle.defmt_intern.specs.Entries as map
 use Rattle.std.specs.List.{slice_get}
 use Rattle.defmt_grammar.specs.Slots.{slots_of, uses_at}
 use Rattle.defmt_grammar.specs.declared.piece.Piece.{Piece}

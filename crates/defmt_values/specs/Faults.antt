@@ -1,13 +1,13 @@
 -- The first cause for which a statement doesn't fit a table, from left to right: what stands in front of it fits.
-use Rattle.std.specs.Prelude.{◌≡◌, ◌⊎◌, ◌<◌, ◌≤◌, ◌+◌, ◌*◌, ℕ, zero, suc, List, [], ◌∷◌, ◌++◌, length, Option, None, Ok, Err}
+use Rattle.std.specs.Prelude.{◌≡◌, ◌⊎◌, ◌<◌, ◌≤◌, ◌+◌, ◌*◌, ℕ, zero, suc, List, [], ◌∷◌, ◌++◌, length, Option, None, Result, Ok, Err}
 use Rattle.defmt_grammar.specs.declared.piece.Piece.{Piece}
 use Rattle.defmt_grammar.specs.declared.slot.Slot.{Slot}
 use Rattle.defmt_intern.specs.Table.{Map}
 use Rattle.defmt_intern.specs.declared.parsed.Parsed.{Parsed}
 use Rattle.defmt_values.specs.Entries.{look, Place, places_of}
-use Rattle.defmt_values.specs.Fits.{FitsVals, FitsElems, weigh_vals, weigh_elems}
-use Rattle.defmt_values.specs.Plain.{Val, uint, int, flag, char, str, istr, bytes, bits, format, seq, Vals, no_vals, val, Elems, no_elems, elem, elems_len, join_vals, join_elems}
-use Rattle.defmt_values.specs.Scan.{uint_cause, int_cause, flag_cause, char_cause, str_cause, istr_cause, bytes_cause, bits_cause, node_cause, list_cause, count_cause, form_at, list_form, pick, no_index, index_or, own_form}
+use Rattle.defmt_values.specs.Fits.{FitsVals, FitsElems, FitsNodes, weigh_vals, weigh_elems, weigh_nodes}
+use Rattle.defmt_values.specs.Plain.{Val, uint, int, flag, char, str, istr, bytes, bits, format, seq, float, sequence, Vals, no_vals, val, Elems, no_elems, elem, Nodes, node, elems_len, join_vals, join_elems, join_nodes}
+use Rattle.defmt_values.specs.Scan.{uint_cause, int_cause, flag_cause, char_cause, str_cause, istr_cause, bytes_cause, bits_cause, float_cause, node_cause, list_cause, count_cause, sequence_cause, form_at, element_form, list_form, pick, no_index, index_or, own_form}
 
 -- The causes are 2 Count, 3 Kind, 4 Range, 5 NoEntry, 6 Deep, 7 Many and 8 Unsupported. Those of one value by its slot,
 -- of an entry and of a variant are told by total functions (`Scan`). Here is their order.
@@ -53,11 +53,12 @@ FormFault t left one form weight before variant vs cause = ((8192 < before + wei
     ⊎ ((ps : List Piece) × (before + weight ≤ 8192) × (pick form variant ≡ Ok ps)
     × EachFault t left one (places_of ps) weight (before + weight) vs cause)
 
--- a Format value: no level is left for it, then its entry doesn't suit or was refused, then its form is refused
-abbrev pub NodeFault : Map → ℕ → Level → ℕ → ℕ → ℕ → Option ℕ → Vals → ℕ → Type 0
-NodeFault t left no_level weight before index variant vs cause = cause ≡ 6
-NodeFault t left (level one) weight before index variant vs cause = (form_at t index ≡ Err cause)
-    ⊎ ((form : Parsed) × (form_at t index ≡ Ok form)
+-- a Format value, with what its index stands for: no level is left for it, then its entry doesn't suit or was refused, then
+-- its form is refused
+abbrev pub NodeFault : Map → ℕ → Level → Result Parsed ℕ → ℕ → ℕ → Option ℕ → Vals → ℕ → Type 0
+NodeFault t left no_level found weight before variant vs cause = cause ≡ 6
+NodeFault t left (level one) found weight before variant vs cause = (found ≡ Err cause)
+    ⊎ ((form : Parsed) × (found ≡ Ok form)
     × FormFault t left one form weight before variant vs cause)
 
 -- fitting elements stand in front, and the next one is refused
@@ -91,6 +92,25 @@ SeqFault t left no_level slot weight before index (elem variant vs es) cause = c
 SeqFault t left (level one) slot weight before index (elem variant vs es) cause =
     ListFault t left one slot weight before index (elem variant vs es) cause
 
+-- how many levels may be opened, where so many may be one level below
+abbrev pub levels : Level → ℕ → ℕ
+levels no_level left = 0
+levels (level one) left = left + 1
+
+-- of a sequence fitting elements stand in front, and the next one is refused, as a Format value in its place
+pub record NodesFault (t : Map) (left : ℕ) (l : Level) (weight before : ℕ) (ns : Nodes)
+    (cause : ℕ) : Type 0 where
+  pub front : Nodes
+  pub index : ℕ
+  pub variant : Option ℕ
+  pub values : Vals
+  pub rest : Nodes
+  pub nodes_is : ns ≡ join_nodes front (node index variant values rest)
+  pub fits : FitsNodes t (levels l left) front
+  pub light : before + weigh_nodes t weight front ≤ 8192
+  pub next : NodeFault t left l (element_form t index) weight
+      (before + weigh_nodes t weight front) variant values cause
+
 -- ---- one value
 
 -- a value of a slot, with what is refused one level below: first its kind, then what stands in it
@@ -104,9 +124,13 @@ ValFault t left l slot weight before (istr index) cause = istr_cause t slot inde
 ValFault t left l slot weight before (bytes s) cause = bytes_cause slot (length s) ≡ Err cause
 ValFault t left l slot weight before (bits n) cause = bits_cause slot n ≡ Err cause
 ValFault t left l slot weight before (format index variant vs) cause = (node_cause slot ≡ Err cause)
-    ⊎ ((node_cause slot ≡ Ok tt) × NodeFault t left l weight before index variant vs cause)
+    ⊎ ((node_cause slot ≡ Ok tt)
+    × NodeFault t left l (form_at t index) weight before variant vs cause)
 ValFault t left l slot weight before (seq index es) cause = (list_cause slot ≡ Err cause)
     ⊎ ((list_cause slot ≡ Ok tt) × SeqFault t left l slot weight before index es cause)
+ValFault t left l slot weight before (float n) cause = float_cause slot n ≡ Err cause
+ValFault t left l slot weight before (sequence ns) cause = (sequence_cause slot ≡ Err cause)
+    ⊎ ((sequence_cause slot ≡ Ok tt) × NodesFault t left l weight before ns cause)
 
 -- the same, where so many levels may still be opened
 unfoldable pub fault_at : Map → ℕ → OneFault
@@ -118,6 +142,6 @@ fault_at t (suc left) = ValFault t left (level (fault_at t left))
 -- the first cause for which a statement doesn't fit: that of its own entry, or else of its arguments, whose text has the
 -- weight 1; nothing stands in front of them, and 16 levels may be opened
 abbrev pub StatementFault : Map → ℕ → Vals → ℕ → Type 0
-StatementFault t index vs cause = (own_form (look t index) ≡ Err cause)
-    ⊎ ((ps : List Piece) × (own_form (look t index) ≡ Ok ps)
+StatementFault t index vs cause = (own_form t.language (look t index) ≡ Err cause)
+    ⊎ ((ps : List Piece) × (own_form t.language (look t index) ≡ Ok ps)
     × EachFault t 16 (fault_at t 16) (places_of ps) 1 0 vs cause)

@@ -1,5 +1,7 @@
 -- Values that fit a table.
 use Rattle.std.specs.Prelude.{◌≡◌, ◌⊎◌, ◌<◌, ◌≤◌, ◌+◌, ◌-◌, ◌*◌, ◌%◌, ◌^◌, ℕ, ℤ, true, List, [], ◌∷◌, length, Option, Some, None}
+use Rattle.defmt_grammar.specs.Sizes.{size_bits, float_bits, IsSigned}
+use Rattle.defmt_grammar.specs.declared.kind.FloatSize.{FloatSize}
 use Rattle.defmt_grammar.specs.declared.kind.IntSize.{IntSize}
 use Rattle.defmt_grammar.specs.declared.kind.Kind.TheVariants as kinds
 use Rattle.defmt_grammar.specs.declared.piece.Piece.{Piece}
@@ -11,9 +13,8 @@ use Rattle.defmt_intern.specs.declared.entry.Entry.{Entry}
 use Rattle.defmt_intern.specs.declared.parsed.Parsed.{Parsed}
 use Rattle.defmt_intern.specs.declared.parsed.Parsed.TheVariants.{One, Variants}
 use Rattle.defmt_values.specs.Entries.{look, is_format, is_interned, is_logged, variant_at, Place, places_of}
-use Rattle.defmt_values.specs.Plain.{Val, uint, int, flag, char, str, istr, bytes, bits, format, seq, Vals, no_vals, val, Elems, no_elems, elem, elems_len}
+use Rattle.defmt_values.specs.Plain.{Val, uint, int, flag, char, str, istr, bytes, bits, format, seq, float, sequence, Vals, no_vals, val, Elems, no_elems, elem, Nodes, no_nodes, node, elems_len}
 use Rattle.defmt_values.specs.Scan.{node_places, index_or}
-use Rattle.defmt_grammar.specs.Sizes.{size_bits, IsSigned}
 
 -- ---- values without values inside
 
@@ -27,6 +28,11 @@ pub record IsInt (slot : Slot) (n : ℤ) : Type 0 where
   pub slot_is : slot ≡ slots.One (kinds.Int size)
   pub in_range : IsSigned (size_bits size) n
 
+-- a text that is sent whole, or that of a type's Debug or Display
+abbrev pub IsText : Slot → Type 0
+IsText slot = (slot ≡ slots.One kinds.Str) ⊎ (slot ≡ slots.One kinds.Debug)
+    ⊎ (slot ≡ slots.One kinds.Display)
+
 -- bytes, or a byte array of so many
 abbrev pub IsBytes : Slot → ℕ → Type 0
 IsBytes slot count = (slot ≡ slots.One kinds.Bytes) ⊎ (slot ≡ slots.One (kinds.ByteArray count))
@@ -38,6 +44,12 @@ pub record IsBits (slot : Slot) (n : ℕ) : Type 0 where
   pub slot_is : slot ≡ slots.Bits first width
   pub below : n < 256 ^ (first + width)
   pub above : n % 256 ^ first ≡ 0
+
+-- the bits of a float of this size (IEEE 754)
+pub record IsFloat (slot : Slot) (n : ℕ) : Type 0 where
+  pub size : FloatSize
+  pub slot_is : slot ≡ slots.One (kinds.Float size)
+  pub in_range : n < 2 ^ float_bits size
 
 -- the entry is an interned string
 pub record IsInterned (t : Map) (index : ℕ) : Type 0 where
@@ -52,7 +64,7 @@ pub record IsForm (t : Map) (index : ℕ) (form : Parsed) : Type 0 where
   pub entry : Entry
   pub there : look t index ≡ Some entry
   pub tag : is_format entry.tag ≡ true
-  pub body : body_of entry ≡ form
+  pub body : body_of t.language entry ≡ form
 
 -- the pieces are the form's own, or those of this variant
 abbrev pub HasPieces : Parsed → Option ℕ → List Piece → Type 0
@@ -72,7 +84,7 @@ abbrev mutual
   FitsVal t left slot (int n) = IsInt slot n
   FitsVal t left slot (flag b) = slot ≡ slots.One kinds.Bool
   FitsVal t left slot (char c) = slot ≡ slots.One kinds.Char
-  FitsVal t left slot (str s) = slot ≡ slots.One kinds.Str
+  FitsVal t left slot (str s) = IsText slot
   FitsVal t left slot (istr index) = (slot ≡ slots.One kinds.Istr) × IsInterned t index
   FitsVal t left slot (bytes s) = IsBytes slot (length s)
   FitsVal t left slot (bits n) = IsBits slot n
@@ -83,6 +95,8 @@ abbrev mutual
       ((es ≡ no_elems) × (index ≡ None))
       ⊎ ((i : ℕ) × (form : Parsed) × (index ≡ Some i) × (0 < elems_len es) × (0 < left)
       × IsForm t i form × FitsElems t (left - 1) form es))
+  FitsVal t left slot (float n) = IsFloat slot n
+  FitsVal t left slot (sequence ns) = (slot ≡ slots.One kinds.Sequence) × FitsNodes t left ns
 
   -- each value fits its place, and each place has one
   pub FitsVals : Map → ℕ → List Place → Vals → Type 0
@@ -94,6 +108,13 @@ abbrev mutual
   FitsElems t left form no_elems = Unit {0}
   FitsElems t left form (elem variant vs es) = (ps : List Piece) × HasPieces form variant ps
       × FitsVals t left (places_of ps) vs × FitsElems t left form es
+
+  -- the elements of a sequence stand where the sequence does, and none has the index 0
+  pub FitsNodes : Map → ℕ → Nodes → Type 0
+  FitsNodes t left no_nodes = Unit {0}
+  FitsNodes t left (node index variant vs ns) =
+      (form : Parsed) × (ps : List Piece) × (0 < index) × (0 < left) × IsForm t index form
+      × HasPieces form variant ps × FitsVals t (left - 1) (places_of ps) vs × FitsNodes t left ns
 
 -- ---- the weights of Format values and elements: how often each is printed
 
@@ -110,6 +131,8 @@ abbrev mutual
   weigh_val t weight (format index variant vs) =
       weight + weigh_vals t (node_places t index variant) weight vs
   weigh_val t weight (seq index es) = weigh_elems t (index_or index) weight es
+  weigh_val t weight (float n) = 0
+  weigh_val t weight (sequence ns) = weigh_nodes t weight ns
 
   -- a value's weight is that of the text in which its position stands, as often as the text uses the position
   pub weigh_vals : Map → List Place → ℕ → Vals → ℕ
@@ -123,12 +146,18 @@ abbrev mutual
   weigh_elems t index weight (elem variant vs es) =
       weight + weigh_vals t (node_places t index variant) weight vs + weigh_elems t index weight es
 
+  -- an element of a sequence weighs what a Format value there does
+  pub weigh_nodes : Map → ℕ → Nodes → ℕ
+  weigh_nodes t weight no_nodes = 0
+  weigh_nodes t weight (node index variant vs ns) =
+      weight + weigh_vals t (node_places t index variant) weight vs + weigh_nodes t weight ns
+
 -- The statement fits the table: 16 levels at most, and all weights together at most 8,192.
 pub record Fits (t : Map) (index : ℕ) (vs : Vals) : Type 0 where
   pub entry : Entry
   pub pieces : List Piece
   pub there : look t index ≡ Some entry
-  pub body : body_of entry ≡ One pieces
+  pub body : body_of t.language entry ≡ One pieces
   pub values : FitsVals t 16 (places_of pieces) vs
   pub light : weigh_vals t (places_of pieces) 1 vs ≤ 8192
 

@@ -2,7 +2,7 @@
 ghost use Rattle.std.specs.Prelude.{◌≡◌, None, Some, MatchOption};
 ghost use Rattle.defmt_intern.specs.Body.{body_of};
 ghost use Rattle.defmt_values.specs.Entries.{look, is_format, is_interned, is_logged};
-ghost use Rattle.defmt_values.specs.Scan.{form_at, pick, own_form};
+ghost use Rattle.defmt_values.specs.Scan.{form_at, element_form, pick, own_form};
 ghost use Rattle.defmt_values.specs.Now.{now_of};
 
 use crate::cause::{NO_ENTRY, RANGE, UNSUPPORTED};
@@ -12,7 +12,7 @@ use defmt_intern::{Entry, Parsed, Table, Tag};
 /// The entry at an index, and what its text stands for. Takes no memory.
 pub fn look_up(table: &Table, index: u16) -> Option<(&Entry, &Parsed)>
     ensures { MatchOption result (look table.now.entries index ≡ None)
-        (λ p. (look table.now.entries index ≡ Some p.0.now) × (p.1.now ≡ body_of p.0.now)) }
+        (λ p. (look table.now.entries index ≡ Some p.0.now) × (p.1.now ≡ body_of table.now.entries.language p.0.now)) }
 {
     table.look(index)
 }
@@ -58,6 +58,17 @@ pub fn form_of(table: &Table, index: u16) -> Result<&Parsed, u8>
     }
 }
 
+/// What the entry of an element of a sequence stands for, as that of a Format value; 5 also at the index 0, which ends a
+/// sequence. Takes no memory.
+pub fn element_form(table: &Table, index: u16) -> Result<&Parsed, u8>
+    ensures { now_of result ≡ element_form table.now.entries index }
+{
+    if index == 0 {
+        return Err(NO_ENTRY);
+    }
+    form_of(table, index)
+}
+
 /// The pieces of a form, or of one of its variants; 4 where there are none. Takes no memory.
 pub fn pick(form: &Parsed, variant: Option<u8>) -> Result<&Pieces, u8>
     ensures { now_of result ≡ pick form.now variant }
@@ -75,7 +86,8 @@ pub fn pick(form: &Parsed, variant: Option<u8>) -> Result<&Pieces, u8>
 /// The pieces of a statement's own entry, whatever its tag. The error is 5 where there is no entry or it is an
 /// interned string, 8 where its text was refused, 4 where it is an enum. Takes no memory.
 pub fn own_form(table: &Table, index: u16) -> Result<&Pieces, u8>
-    ensures { now_of result ≡ own_form (look table.now.entries index) }
+    ensures { now_of result
+        ≡ own_form table.now.entries.language (look table.now.entries index) }
 {
     match look_up(table, index) {
         None => Err(NO_ENTRY),

@@ -1,6 +1,6 @@
 //! The test that statements fit a table.
 ghost use Rattle.std.specs.Prelude.{◌≡◌, ℕ, ◌∷◌, [], ◌<◌, ◌≤◌, Err, IfOk, IfErr, IfSome, IsOk, OnOk, MatchOption};
-ghost use Rattle.defmt_values.specs.Scan.{add, list_form, no_index, scan_val, scan_vals, scan_elems, own_cause, opened, started};
+ghost use Rattle.defmt_values.specs.Scan.{add, list_form, no_index, scan_val, scan_vals, scan_elems, scan_nodes, own_cause, opened, started};
 ghost use Rattle.defmt_values.specs.Entries.{places_of};
 ghost use Rattle.defmt_values.specs.Faults.{StatementFault};
 ghost use Rattle.defmt_values.specs.Fits.{Fits};
@@ -9,9 +9,9 @@ ghost use Rattle.defmt_values.specs.Plain.{elems_empty};
 ghost use Rattle.defmt_values.specs.View.{plain};
 
 use crate::cause::{COUNT, DEEP, MANY, NO_ENTRY};
-use crate::entries::{form_of, own_form, pick};
-use crate::leaves::{check_count, check_leaf, check_list, check_node, test};
-use crate::value::{Args, Items, Node, Seq, Statement, Value};
+use crate::entries::{element_form, form_of, own_form, pick};
+use crate::leaves::{check_count, check_leaf, check_list, check_node, check_sequence, test};
+use crate::value::{Args, Items, Nodes, Seq, Statement, Value};
 use defmt_grammar::{Pieces, Slot};
 use defmt_intern::{Parsed, Table};
 
@@ -58,25 +58,23 @@ fn no_index(index: Option<u16>) -> Result<(), u8>
     }
 }
 
-// The pieces of a Format value, and the sum with its own weight.
-fn open<'t>(
-    table: &'t Table,
-    slot: Slot,
-    node: &Node,
+// The pieces of a Format value, or of an element of a sequence, and the sum with its own weight. The form is what its
+// index stands for.
+fn open(
+    form: Result<&Parsed, u8>,
+    variant: Option<u8>,
     left: u8,
     weight: usize,
     sum: usize,
-) -> Result<(&'t Pieces, usize), u8>
+) -> Result<(&Pieces, usize), u8>
     requires { sum ≤ 8192 }
-    ensures value { pair_now result
-        ≡ opened table.now.entries left slot weight sum node.now.index node.now.variant }
+    ensures value { pair_now result ≡ opened left (now_of form.entry) weight sum variant }
     ensures small { IfOk result (λ r. (r.1 ≤ 8192) × (0 < left)) }
 {
-    check_node(slot)?;
     test(left > 0, DEEP)?;
-    let form = form_of(table, node.index)?;
+    let form = form?;
     let sum = add(weight, sum)?;
-    let pieces = pick(form, node.variant)?;
+    let pieces = pick(form, variant)?;
     Ok((pieces, sum))
 }
 
@@ -114,7 +112,9 @@ fn check_value(
 {
     match value {
         Value::Format(node) => {
-            let (pieces, sum) = open(table, slot, node, left, weight, sum)?;
+            check_node(slot)?;
+            let form = form_of(table, node.index);
+            let (pieces, sum) = open(form, node.variant, left, weight, sum)?;
             check_args(table, pieces, &node.args, left - 1, weight, sum)
         }
         Value::Seq(seq) => {
@@ -124,6 +124,10 @@ fn check_value(
             let sum = check_items(table, form, &seq.items, left - 1, weight, sum)?;
             check_count(slot, seq.items.len())?;
             Ok(sum)
+        }
+        Value::Sequence(nodes) => {
+            check_sequence(slot)?;
+            check_nodes(table, nodes, left, weight, sum)
         }
         leaf => {
             check_leaf(table, slot, leaf)?;
@@ -192,6 +196,30 @@ fn check_items(
     Ok(total)
 }
 
+// Tests the elements of a sequence, of which each stands where the sequence does.
+#[cycle(check)]
+fn check_nodes(
+    table: &Table,
+    nodes: &Nodes,
+    left: u8,
+    weight: usize,
+    sum: usize,
+) -> Result<usize, u8>
+    requires sum { sum ≤ 8192 }
+    ensures value { result ≡ scan_nodes table.now.entries left weight sum nodes.now }
+    ensures small { IfOk result (λ s. s ≤ 8192) }
+{
+    let mut rest = nodes.as_slice();
+    let mut total = sum;
+    'each: while let Some((node, more)) = cut(rest) {
+        let form = element_form(table, node.index);
+        let (pieces, opened) = open(form, node.variant, left, weight, total)?;
+        total = check_args(table, pieces, &node.args, left - 1, weight, opened)?;
+        rest = more;
+    }
+    Ok(total)
+}
+
 fn first_cause(table: &Table, stm: &Statement) -> Result<(), u8>
     ensures { result ≡ own_cause table.now.entries stm.now.index stm.now.args }
 {
@@ -205,7 +233,7 @@ fn first_cause(table: &Table, stm: &Statement) -> Result<(), u8>
 /// # Errors
 /// The first cause from left to right: 2 fewer or more values than positions; 3 a value of another kind; 4 a number
 /// outside its kind, bits outside their window, an array of another length, a variant that isn't there, is missing or
-/// is given to no enum; 5 an index that isn't in the table or whose tag doesn't suit; 6 a Format value at depth 17;
+/// is given to no enum; 5 an index that isn't in the table or whose tag doesn't suit, or 0 in a sequence; 6 a Format value at depth 17;
 /// 7 the weights pass 8,192; 8 an entry whose text was refused.
 pub fn check(table: &Table, stm: &Statement) -> Result<(), u8>
     // The cause is the first from left to right, and the first is answered.

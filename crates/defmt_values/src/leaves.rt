@@ -1,11 +1,11 @@
 //! Tests of values inside which no values stand, by their slots.
 ghost use Rattle.std.specs.Prelude.{◌≡◌};
-ghost use Rattle.defmt_values.specs.Scan.{test, uint_cause, int_cause, flag_cause, char_cause, str_cause, istr_cause, bytes_cause, bits_cause, node_cause, list_cause, count_cause, leaf_cause};
+ghost use Rattle.defmt_values.specs.Scan.{test, uint_cause, int_cause, flag_cause, char_cause, str_cause, istr_cause, bytes_cause, bits_cause, float_cause, node_cause, list_cause, count_cause, sequence_cause, leaf_cause};
 ghost use Rattle.defmt_values.specs.View.{plain};
 
 use crate::cause::{KIND, NO_ENTRY, RANGE};
 use crate::entries::{is_interned, look_up};
-use crate::numbers::{is_below, is_multiple, is_of_bits, is_signed, size_bits};
+use crate::numbers::{float_bits, is_below, is_multiple, is_of_bits, is_signed, size_bits};
 use crate::value::Value;
 use defmt_grammar::{Kind, Slot};
 use defmt_intern::Table;
@@ -56,7 +56,7 @@ fn check_str(slot: Slot) -> Result<(), u8>
     ensures { result ≡ str_cause slot }
 {
     match slot {
-        Slot::One(Kind::Str) => Ok(()),
+        Slot::One(Kind::Str | Kind::Debug | Kind::Display) => Ok(()),
         _ => Err(KIND),
     }
 }
@@ -95,6 +95,15 @@ fn check_bits(slot: Slot, n: u128) -> Result<(), u8>
     }
 }
 
+fn check_float(slot: Slot, n: u64) -> Result<(), u8>
+    ensures { result ≡ float_cause slot n }
+{
+    match slot {
+        Slot::One(Kind::Float(size)) => test(is_of_bits(u128::from(n), float_bits(size)), RANGE),
+        _ => Err(KIND),
+    }
+}
+
 pub(crate) fn check_node(slot: Slot) -> Result<(), u8>
     ensures { result ≡ node_cause slot }
 {
@@ -122,6 +131,15 @@ pub(crate) fn check_count(slot: Slot, count: usize) -> Result<(), u8>
     }
 }
 
+pub(crate) fn check_sequence(slot: Slot) -> Result<(), u8>
+    ensures { result ≡ sequence_cause slot }
+{
+    match slot {
+        Slot::One(Kind::Sequence) => Ok(()),
+        _ => Err(KIND),
+    }
+}
+
 // Tests a value without values inside by its slot.
 pub(crate) fn check_leaf(table: &Table, slot: Slot, value: &Value) -> Result<(), u8>
     ensures { result ≡ leaf_cause table.now.entries slot (plain value.now) }
@@ -135,6 +153,7 @@ pub(crate) fn check_leaf(table: &Table, slot: Slot, value: &Value) -> Result<(),
         Value::Istr(index) => check_istr(table, slot, *index),
         Value::Bytes(bytes) => check_bytes(slot, bytes.len()),
         Value::Bits(n) => check_bits(slot, *n),
-        Value::Format(_) | Value::Seq(_) => Ok(()),
+        Value::Float(n) => check_float(slot, *n),
+        Value::Format(_) | Value::Seq(_) | Value::Sequence(_) => Ok(()),
     }
 }

@@ -13,8 +13,12 @@ mod numbers;
 mod sound;
 mod value;
 
-pub use entries::{form_of, is_format, is_interned, is_logged, look_up, own_form, pick};
+pub use entries::{
+    element_form, form_of, is_format, is_interned, is_logged, look_up, own_form, pick,
+};
 pub use fitting::{check, cut};
 pub use law::one_cause;
-pub use numbers::{bits_between, is_below, is_multiple, is_of_bits, is_signed, power, size_bits};
-pub use value::{Args, Item, Items, Node, Seq, Statement, Value};
+pub use numbers::{
+    bits_between, float_bits, is_below, is_multiple, is_of_bits, is_signed, power, size_bits,
+};
+pub use value::{Args, Item, Items, Node, Nodes, Seq, Statement, Value};

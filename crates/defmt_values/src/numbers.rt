@@ -1,8 +1,8 @@
 //! How many bits and bytes numbers have, and which.
 ghost use Rattle.std.specs.Prelude.{◌≡◌, ◌==◌, ◌-◌, ◌/◌, ◌%◌, nat_lt, ◌<◌, ◌≤◌, ◌^◌, MatchOption};
-ghost use Rattle.defmt_grammar.specs.Sizes.{size_bits, is_signed};
+ghost use Rattle.defmt_grammar.specs.Sizes.{size_bits, float_bits, is_signed};
 
-use defmt_grammar::IntSize;
+use defmt_grammar::{FloatSize, IntSize};
 
 /// How many bits an integer of a size has. Native integers have 32. Takes no memory.
 pub fn size_bits(size: IntSize) -> u32
@@ -16,6 +16,16 @@ pub fn size_bits(size: IntSize) -> u32
         IntSize::W32 | IntSize::Native => 32,
         IntSize::W64 => 64,
         IntSize::W128 => 128,
+    }
+}
+
+/// How many bits a float of a size has (IEEE 754). Takes no memory.
+pub fn float_bits(size: FloatSize) -> u32
+    ensures { result ≡ float_bits size }
+{
+    match size {
+        FloatSize::W32 => 32,
+        FloatSize::W64 => 64,
     }
 }
 

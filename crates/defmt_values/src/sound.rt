@@ -31,6 +31,7 @@ pub(crate) fn value_is_sound(value: &Value)
         Value::Bytes(bytes) => are_bytes(bytes.as_slice()),
         Value::Format(node) => node.args.are_sound(),
         Value::Seq(seq) => seq.items.are_sound(),
+        Value::Sequence(nodes) => nodes.are_sound(),
         _ => {}
     }
 }

@@ -2,9 +2,11 @@
 ghost use Rattle.std.specs.Prelude.{◌≡◌, IfOk, OnOk, OnErr, map};
 ghost use Rattle.std.specs.List.{slice_get};
 ghost use Rattle.std.specs.Option.{option_copied, option_map};
-ghost use Rattle.defmt_values.specs.Plain.{vals_get, no_vals, no_elems, snoc, snoc_elem, vals_len, vals_empty, elems_len, elems_empty};
-ghost use Rattle.defmt_values.specs.Sound.{AreSound, ElemsSound};
-ghost use Rattle.defmt_values.specs.View.{plain, vals_of, elems_of};
+ghost use Rattle.defmt_values.specs.Plain.{vals_get, no_vals, snoc, vals_len, vals_empty};
+ghost use Rattle.defmt_values.specs.Sound.{AreSound};
+ghost use Rattle.defmt_values.specs.View.{plain, vals_of};
+
+mod lists;
 
 use crate::sound::value_is_sound;
 use defmt_grammar::Text;
@@ -36,6 +38,10 @@ pub enum Value {
     Format(Node),
     /// A list of values of one entry.
     Seq(Seq),
+    /// The bits of a float.
+    Float(u64),
+    /// Values with format strings of their own, one behind the other.
+    Sequence(Nodes),
 }
 
 /// What is logged: the index of an entry, and the arguments of its text.
@@ -162,6 +168,44 @@ impl Model for Items {
     ghost size_decreases = { λ a h. items_fall a.items.items };
 }
 
+/// A list of values with format strings of their own.
+#[cycle(values)]
+pub struct Nodes {
+    items: Vec<Node>,
+}
+
+// By hand: a derived drop is proved again in each crate that drops such a value.
+impl Drop for Nodes {
+    #[cycle(values)]
+    fn drop(self) {
+        let Nodes { items: _ } = self;
+    }
+}
+
+impl Model for Nodes {
+    ghost use Rattle.defmt_values.specs.Plain.{Nodes};
+    ghost use Rattle.defmt_values.specs.Codes.{coded_nodes};
+
+    ghost Value = { Nodes };
+
+    ghost coded = { coded_nodes };
+
+    ghost use Rattle.defmt_values.specs.Plain.{nodes_size};
+    ghost use Rattle.defmt_values.specs.View.{nodes_of};
+
+    ghost view = { λ a. nodes_of a.items.items };
+
+    ghost use Rattle.defmt_values.specs.Sound.{NodesSound};
+
+    ghost invariant = { λ a. NodesSound (nodes_of a.items.items) };
+
+    ghost size = { nodes_size };
+
+    ghost use Rattle.defmt_values.specs.Falls.{nodes_fall};
+
+    ghost size_decreases = { λ a h. nodes_fall a.items.items };
+}
+
 impl Args {
     /// The empty list. It grows by this allocator. Takes no memory.
     pub fn new(alloc: Global) -> Self
@@ -240,55 +284,4 @@ fn at(values: &[Value], position: u8) -> Option<&Value>
     ensures { option_copied result ≡ slice_get values.now position }
 {
     values.get(usize::from(position))
-}
-
-impl Items {
-    /// The empty list. It grows by this allocator. Takes no memory.
-    pub fn new(alloc: Global) -> Self
-        ensures { result ≡ no_elems }
-    {
-        Items {
-            items: Vec::new(alloc),
-        }
-    }
-
-    /// The elements in their order. Takes no memory.
-    pub fn as_slice(&self) -> &[Item]
-        ensures { self.now ≡ elems_of result.now }
-    {
-        self.items.as_slice()
-    }
-
-    /// How many elements there are. Takes no memory.
-    #[tactic(auto, using(crate::proofs::Pushes::elems_count))]
-    pub fn len(&self) -> usize
-        ensures { result ≡ elems_len self.now }
-    {
-        self.items.len()
-    }
-
-    /// Whether there is none. Takes no memory.
-    #[tactic(auto, using(crate::proofs::Pushes::elems_none))]
-    pub fn is_empty(&self) -> bool
-        ensures { result ≡ elems_empty self.now }
-    {
-        self.items.is_empty()
-    }
-
-    /// Appends an element. Where memory runs out the list is unchanged.
-    pub fn push(&mut self, item: Item) -> Result<(), Memory>
-        ensures ok { OnOk result (self.new ≡ snoc_elem self.old item.variant item.args) }
-        ensures err { OnErr result (self.new ≡ self.old) }
-    {
-        item.args.are_sound();
-        self.items.push(item)?;
-        Ok(())
-    }
-
-    /// What the types of the values in the elements say of them. Takes no memory.
-    pub fn are_sound(&self)
-        ensures { ElemsSound self.now }
-    {
-        let _ = &self.items;
-    }
 }
