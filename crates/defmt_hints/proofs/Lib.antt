@@ -1,4 +1,5 @@
 pub mod Appending
+pub mod AsciiTexts
 pub mod Chains
 pub mod Complements
 pub mod Decimals
@@ -11,6 +12,7 @@ pub mod PairLaws
 pub mod PartsLaws
 pub mod Places
 pub mod Runs
+pub mod ShortTexts
 pub mod SignLaws
 pub mod TwoDigits
 pub mod Utf8Laws

@@ -1,5 +1,5 @@
 -- The texts of values are UTF-8.
-use Rattle.std.proofs.Common.{◌≡◌, ◌≢◌, ◌<◌, ◌≤◌, ◌+◌, ◌-◌, ◌/◌, ◌%◌, ℕ, zero, suc, ℤ, pos, negsuc, Bool, true, false, ◌||◌, ◌&&◌, eqb, List, [], ◌∷◌, ◌++◌, length, map, get_or, Option, Some, None, refl, sym, ap, subst, ◌∙◌, arith, inl, inr, nat_lt}
+use Rattle.std.proofs.Common.{◌≡◌, ◌<◌, ◌≤◌, ◌+◌, ◌-◌, ◌/◌, ◌%◌, ℕ, zero, suc, ℤ, pos, negsuc, Bool, true, false, ◌||◌, ◌&&◌, eqb, List, [], ◌∷◌, ◌++◌, length, map, get_or, Option, Some, None, refl, sym, ap, subst, arith, inl, inr, nat_lt}
 use Rattle.std.proofs.lemmas.Bool.{cases_lt, eqb-true, le-ltb, ne_eqb}
 use Rattle.std.proofs.lemmas.Bool.Decides.{nat_tests}
 use Rattle.std.proofs.lemmas.Str.{encode_ascii, IsUtf8-append, IsUtf8-encode, IsUtf8-from_ascii}
@@ -13,21 +13,16 @@ use Rattle.std.specs.Str.{IsUtf8}
 use Rattle.defmt_grammar.specs.declared.hint.Base.{Base}
 use Rattle.defmt_grammar.specs.declared.hint.Base.TheVariants.{Hex, HexUpper, Binary, Octal}
 use Rattle.defmt_grammar.specs.declared.hint.Hint.{Hint}
-use Rattle.defmt_grammar.specs.declared.hint.Hint.TheVariants.{Plain, Debug, Radix, Ascii, Micros, Millis}
+use Rattle.defmt_grammar.specs.declared.hint.Hint.TheVariants.{Plain, Debug, Radix, Ascii, Micros, Millis, Iso, Clock, Pad}
+use Rattle.defmt_grammar.specs.declared.kind.FloatSize.{FloatSize}
 use Rattle.defmt_grammar.specs.declared.kind.IntSize.{IntSize}
 use Rattle.defmt_grammar.specs.Sizes.{size_bits}
+use Rattle.defmt_hints.proofs.AsciiTexts.{AreAscii, ascii_append, ascii_zeros, glyph_is_ascii}
 use Rattle.defmt_hints.proofs.DigitsLaws.{are_digits}
+use Rattle.defmt_hints.proofs.ShortTexts.{short_clock, short_date, short_float}
 use Rattle.defmt_hints.specs.Digits.{digits, number_text, zero_filled}
 use Rattle.defmt_hints.specs.Escapes.{escape_of, escaped, quoted_text, byte_escape_of, byte_escaped, byte_text}
-use Rattle.defmt_hints.specs.Printed.{base_number, is_upper, prefix_text, radix_text, decimal_text, fraction_text, signed_text, twos_complement, printed_uint, printed_int, printed_bool, printed_char, printed_str, list_text, parted, printed_byte, printed_bytes}
-
-abbrev pub AreAscii : List ℕ → Type 0
-AreAscii [] = Unit {0}
-AreAscii (c ∷ cs) = (c < 128) × AreAscii cs
-
-pub ascii_append : (xs ys : List ℕ) → AreAscii xs → AreAscii ys → AreAscii (xs ++ ys)
-ascii_append [] ys h k = k
-ascii_append (x ∷ xs) ys h k = (h.0, ascii_append xs ys h.1 k)
+use Rattle.defmt_hints.specs.Printed.{base_number, is_upper, prefix_text, radix_text, decimal_text, fraction_text, padded_text, signed_text, twos_complement, printed_float, printed_uint, printed_int, printed_bool, printed_char, printed_str, list_text, parted, printed_byte, printed_bytes}
 
 ascii_at : (cs : List ℕ) → AreAscii cs → (i : ℕ) → get_or cs i 0 < 128
 ascii_at [] h i = omega arith
@@ -38,14 +33,6 @@ pub utf8_ascii : (bs : List ℕ) → AreAscii bs → IsUtf8 bs
 utf8_ascii bs h = IsUtf8-from_ascii bs (ascii_at bs h)
 
 -- ---- numbers
-
-ascii_zeros : (n : ℕ) → AreAscii (replicate n 48)
-ascii_zeros zero = tt
-ascii_zeros (suc n) = (omega arith, ascii_zeros n)
-
-glyph_is_ascii : (upper : Bool) (d : ℕ) → d < 16 → digit_glyph upper d < 128
-glyph_is_ascii true d lt = grind (arith, nat_tests)
-glyph_is_ascii false d lt = grind (arith, nat_tests)
 
 ascii_glyphs : (base : ℕ) (upper : Bool) (ds : List ℕ) → base ≤ 16 → AllBelowBase base ds → AreAscii (map (digit_glyph upper) ds)
 ascii_glyphs base upper [] le h = tt
@@ -91,6 +78,9 @@ ascii_uint n (Radix base alt width) = ascii_radix base alt width n
 ascii_uint n Ascii = ascii_decimal n
 ascii_uint n Micros = ascii_fraction 1000000 6 n
 ascii_uint n Millis = ascii_fraction 1000 3 n
+ascii_uint n (Iso unit) = (short_date unit n).ascii
+ascii_uint n (Clock unit) = (short_clock unit n).ascii
+ascii_uint n (Pad width) = ascii_filled width (decimal_text n) (ascii_decimal n)
 
 pub utf8_uint : (n : ℕ) (hint : Hint) → IsUtf8 (printed_uint n hint)
 utf8_uint n hint = utf8_ascii (printed_uint n hint) (ascii_uint n hint)
@@ -98,6 +88,10 @@ utf8_uint n hint = utf8_ascii (printed_uint n hint) (ascii_uint n hint)
 ascii_signed : (z : ℤ) → AreAscii (signed_text z)
 ascii_signed (pos n) = ascii_decimal n
 ascii_signed (negsuc n) = (omega arith, ascii_decimal (suc n))
+
+ascii_padded : (width : ℕ) (z : ℤ) → AreAscii (padded_text width z)
+ascii_padded width (pos n) = ascii_filled width (decimal_text n) (ascii_decimal n)
+ascii_padded width (negsuc n) = (omega arith, ascii_filled (width - 1) (decimal_text (suc n)) (ascii_decimal (suc n)))
 
 ascii_int : (z : ℤ) (size : IntSize) (hint : Hint) → AreAscii (printed_int z size hint)
 unfolding printed_int
@@ -107,9 +101,15 @@ ascii_int z size (Radix base alt width) = ascii_radix base alt width (twos_compl
 ascii_int z size Ascii = ascii_signed z
 ascii_int z size Micros = ascii_signed z
 ascii_int z size Millis = ascii_signed z
+ascii_int z size (Iso unit) = ascii_signed z
+ascii_int z size (Clock unit) = ascii_signed z
+ascii_int z size (Pad width) = ascii_padded width z
 
 pub utf8_int : (z : ℤ) (size : IntSize) (hint : Hint) → IsUtf8 (printed_int z size hint)
 utf8_int z size hint = utf8_ascii (printed_int z size hint) (ascii_int z size hint)
+
+pub utf8_float : (size : FloatSize) (bits : ℕ) → IsUtf8 (printed_float size bits)
+utf8_float size bits = utf8_ascii (printed_float size bits) (short_float size bits).ascii
 
 pub utf8_bool : (b : Bool) → IsUtf8 (printed_bool b)
 unfolding printed_bool
@@ -197,6 +197,9 @@ utf8_char c (Radix base alt width) u = u
 utf8_char c Ascii u = u
 utf8_char c Micros u = u
 utf8_char c Millis u = u
+utf8_char c (Iso unit) u = u
+utf8_char c (Clock unit) u = u
+utf8_char c (Pad width) u = u
 
 pub utf8_str : (text : List ℕ) (hint : Hint) → IsUtf8 text → IsUtf8 (printed_str text hint)
 unfolding printed_str
@@ -206,6 +209,9 @@ utf8_str text (Radix base alt width) u = u
 utf8_str text Ascii u = u
 utf8_str text Micros u = u
 utf8_str text Millis u = u
+utf8_str text (Iso unit) u = u
+utf8_str text (Clock unit) u = u
+utf8_str text (Pad width) u = u
 
 -- ---- lists and byte texts
 
@@ -248,6 +254,9 @@ ascii_bytes bytes (Radix base alt width) = ascii_list (printed_byte (Radix base 
 ascii_bytes bytes Ascii = (omega arith, (omega arith, ascii_append (flat_map byte_escaped bytes) (codes "\"") (ascii_flat byte_escaped bytes ascii_byte) (omega arith, tt)))
 ascii_bytes bytes Micros = ascii_list (printed_byte Micros) bytes ascii_decimal
 ascii_bytes bytes Millis = ascii_list (printed_byte Millis) bytes ascii_decimal
+ascii_bytes bytes (Iso unit) = ascii_list (printed_byte (Iso unit)) bytes ascii_decimal
+ascii_bytes bytes (Clock unit) = ascii_list (printed_byte (Clock unit)) bytes ascii_decimal
+ascii_bytes bytes (Pad width) = ascii_list (printed_byte (Pad width)) bytes ascii_decimal
 
 pub utf8_bytes : (bytes : List ℕ) (hint : Hint) → IsUtf8 (printed_bytes bytes hint)
 utf8_bytes bytes hint = utf8_ascii (printed_bytes bytes hint) (ascii_bytes bytes hint)

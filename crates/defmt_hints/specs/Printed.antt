@@ -1,11 +1,20 @@
 -- The printed text of a value under a hint, case by case: the display hints of the defmt book, with the texts of Rust's
 -- formatting. A text is the list of its UTF-8 bytes.
 use Rattle.std.specs.Prelude.{◌-◌, ◌/◌, ◌%◌, ◌^◌, ℕ, suc, ℤ, pos, negsuc, Bool, true, false, List, [], ◌∷◌, ◌++◌, length, map, codes, encode_utf8, if◌then◌else◌}
+use Rattle.std.specs.Float.Ieee.{binary32, binary64}
 use Rattle.std.specs.List.{flat_map}
+use Rattle.defmt_dates.specs.Texts.{date_of_seconds, date_of_millis, clock_of_seconds, clock_of_millis, clock_of_micros}
+use Rattle.defmt_floats.specs.Layout.{float_text}
 use Rattle.defmt_grammar.specs.declared.hint.Base.{Base}
 use Rattle.defmt_grammar.specs.declared.hint.Base.TheVariants.{Hex, HexUpper, Binary, Octal}
+use Rattle.defmt_grammar.specs.declared.hint.ClockUnit.{ClockUnit}
+use Rattle.defmt_grammar.specs.declared.hint.ClockUnit.TheVariants as clocks
 use Rattle.defmt_grammar.specs.declared.hint.Hint.{Hint}
-use Rattle.defmt_grammar.specs.declared.hint.Hint.TheVariants.{Plain, Debug, Radix, Ascii, Micros, Millis}
+use Rattle.defmt_grammar.specs.declared.hint.Hint.TheVariants.{Plain, Debug, Radix, Ascii, Micros, Millis, Iso, Clock, Pad}
+use Rattle.defmt_grammar.specs.declared.hint.IsoUnit.{IsoUnit}
+use Rattle.defmt_grammar.specs.declared.hint.IsoUnit.TheVariants as dates
+use Rattle.defmt_grammar.specs.declared.kind.FloatSize.{FloatSize}
+use Rattle.defmt_grammar.specs.declared.kind.FloatSize.TheVariants as floats
 use Rattle.defmt_grammar.specs.declared.kind.IntSize.{IntSize}
 use Rattle.defmt_grammar.specs.Sizes.{size_bits}
 use Rattle.defmt_hints.specs.Digits.{number_text, zero_filled}
@@ -47,6 +56,17 @@ radix_text base alt width n = prefix_text base alt ++ zero_filled (width - lengt
 unfoldable pub fraction_text : ℕ → ℕ → ℕ → List ℕ
 fraction_text unit places n = decimal_text (n / unit) ++ (codes "." ++ zero_filled places (decimal_text (n % unit)))
 
+-- date and time of so many units since 1970-01-01 00:00:00 UTC (ISO 8601-1)
+abbrev pub date_text : IsoUnit → ℕ → List ℕ
+date_text dates.Seconds n = date_of_seconds n
+date_text dates.Millis n = date_of_millis n
+
+-- so many units on a clock
+abbrev pub clock_text : ClockUnit → ℕ → List ℕ
+clock_text clocks.Seconds n = clock_of_seconds n
+clock_text clocks.Millis n = clock_of_millis n
+clock_text clocks.Micros n = clock_of_micros n
+
 -- an unsigned number
 unfoldable pub printed_uint : ℕ → Hint → List ℕ
 printed_uint n Plain = decimal_text n
@@ -55,6 +75,9 @@ printed_uint n (Radix base alt width) = radix_text base alt width n
 printed_uint n Ascii = decimal_text n
 printed_uint n Micros = fraction_text 1000000 6 n
 printed_uint n Millis = fraction_text 1000 3 n
+printed_uint n (Iso unit) = date_text unit n
+printed_uint n (Clock unit) = clock_text unit n
+printed_uint n (Pad width) = zero_filled width (decimal_text n)
 
 -- a bit field: bits lo to hi - 1 of the number n
 abbrev pub printed_bits : ℕ → ℕ → ℕ → Hint → List ℕ
@@ -69,6 +92,11 @@ abbrev pub signed_text : ℤ → List ℕ
 signed_text (pos n) = decimal_text n
 signed_text (negsuc n) = codes "-" ++ decimal_text (suc n)
 
+-- zeros in front of the digits fill up to the width, which counts the `-`
+abbrev pub padded_text : ℕ → ℤ → List ℕ
+padded_text width (pos n) = zero_filled width (decimal_text n)
+padded_text width (negsuc n) = codes "-" ++ zero_filled (width - 1) (decimal_text (suc n))
+
 -- a signed number of a size
 unfoldable pub printed_int : ℤ → IntSize → Hint → List ℕ
 printed_int z size Plain = signed_text z
@@ -77,6 +105,14 @@ printed_int z size (Radix base alt width) = radix_text base alt width (twos_comp
 printed_int z size Ascii = signed_text z
 printed_int z size Micros = signed_text z
 printed_int z size Millis = signed_text z
+printed_int z size (Iso unit) = signed_text z
+printed_int z size (Clock unit) = signed_text z
+printed_int z size (Pad width) = padded_text width z
+
+-- the float of a size with these bits: the same under every hint
+unfoldable pub printed_float : FloatSize → ℕ → List ℕ
+printed_float floats.W32 bits = float_text binary32 bits
+printed_float floats.W64 bits = float_text binary64 bits
 
 -- ---- truth values, characters, texts
 
@@ -92,6 +128,9 @@ printed_char c (Radix base alt width) = encode_utf8 c
 printed_char c Ascii = encode_utf8 c
 printed_char c Micros = encode_utf8 c
 printed_char c Millis = encode_utf8 c
+printed_char c (Iso unit) = encode_utf8 c
+printed_char c (Clock unit) = encode_utf8 c
+printed_char c (Pad width) = encode_utf8 c
 
 unfoldable pub printed_str : List ℕ → Hint → List ℕ
 printed_str text Plain = text
@@ -100,6 +139,9 @@ printed_str text (Radix base alt width) = text
 printed_str text Ascii = text
 printed_str text Micros = text
 printed_str text Millis = text
+printed_str text (Iso unit) = text
+printed_str text (Clock unit) = text
+printed_str text (Pad width) = text
 
 -- ---- lists and bytes
 
@@ -120,6 +162,9 @@ printed_byte (Radix base alt width) b = radix_text base alt width b
 printed_byte Ascii b = decimal_text b
 printed_byte Micros b = decimal_text b
 printed_byte Millis b = decimal_text b
+printed_byte (Iso unit) b = decimal_text b
+printed_byte (Clock unit) b = decimal_text b
+printed_byte (Pad width) b = decimal_text b
 
 -- bytes: a list, or under the hint for text a byte text
 unfoldable pub printed_bytes : List ℕ → Hint → List ℕ
@@ -129,3 +174,6 @@ printed_bytes bytes (Radix base alt width) = list_text (map (printed_byte (Radix
 printed_bytes bytes Ascii = byte_text bytes
 printed_bytes bytes Micros = list_text (map (printed_byte Micros) bytes)
 printed_bytes bytes Millis = list_text (map (printed_byte Millis) bytes)
+printed_bytes bytes (Iso unit) = list_text (map (printed_byte (Iso unit)) bytes)
+printed_bytes bytes (Clock unit) = list_text (map (printed_byte (Clock unit)) bytes)
+printed_bytes bytes (Pad width) = list_text (map (printed_byte (Pad width)) bytes)

@@ -8,17 +8,21 @@
 //! So `{=u128:#04x}` prints 10 as `0x0a`, and `{=char:?}` a quote as `'\''` (text_tests, `hints`).
 #![tactic(auto)]
 
+mod floats;
 mod laws;
 mod lists;
 mod numbers;
+mod padded;
 mod quoted;
 mod radix;
 mod seconds;
 mod show;
 mod texts;
+mod times;
 
+pub use floats::put_float;
 pub use laws::digits_are_unique;
 pub use lists::put_bytes;
 pub use numbers::{put_complement, put_decimal, put_int, put_uint, put_wide_uint};
-pub use show::{show_bool, show_bytes, show_char, show_int, show_str, show_uint};
+pub use show::{show_bool, show_bytes, show_char, show_float, show_int, show_str, show_uint};
 pub use texts::{put, put_bool, put_char, put_str, put_text};

@@ -18,9 +18,14 @@ fn put_byte(out: &mut [u8], at: usize, byte: u8, hint: Hint) -> Option<usize>
 {
     match hint {
         Hint::Radix { base, alt, width } => put_radix(out, at, u64::from(byte), base, alt, width),
-        Hint::Plain | Hint::Debug | Hint::Ascii | Hint::Micros | Hint::Millis => {
-            put_decimal(out, at, u64::from(byte))
-        }
+        Hint::Plain
+        | Hint::Debug
+        | Hint::Ascii
+        | Hint::Micros
+        | Hint::Millis
+        | Hint::Iso(_)
+        | Hint::Clock(_)
+        | Hint::Pad(_) => put_decimal(out, at, u64::from(byte)),
     }
 }
 
@@ -61,8 +66,13 @@ pub fn put_bytes(out: &mut [u8], at: usize, bytes: &[u8], hint: Hint) -> Option<
 {
     match hint {
         Hint::Ascii => put_byte_text(out, at, bytes),
-        Hint::Plain | Hint::Debug | Hint::Radix { .. } | Hint::Micros | Hint::Millis => {
-            put_list(out, at, bytes, hint)
-        }
+        Hint::Plain
+        | Hint::Debug
+        | Hint::Radix { .. }
+        | Hint::Micros
+        | Hint::Millis
+        | Hint::Iso(_)
+        | Hint::Clock(_)
+        | Hint::Pad(_) => put_list(out, at, bytes, hint),
     }
 }

@@ -5,9 +5,11 @@ ghost use Rattle.defmt_grammar.specs.Sizes.{size_bits, IsSigned};
 ghost use Rattle.defmt_hints.specs.Printed.{decimal_text, signed_text, twos_complement, printed_int, printed_uint};
 ghost use Rattle.defmt_hints.specs.Written.{Writes};
 
+use crate::padded::{put_padded, put_padded_shown, put_padded_signed};
 use crate::radix::{put_fraction, put_radix, put_wide_radix};
 use crate::seconds::put_micros;
 use crate::texts::put;
+use crate::times::{put_clock, put_date};
 use defmt_grammar::{Hint, IntSize};
 use itoa::{Buffer, write_digits};
 
@@ -80,8 +82,8 @@ pub(crate) fn put_wide_decimal(out: &mut [u8], at: usize, number: u128) -> Optio
 }
 
 /// Writes a number of up to 64 bits under a display hint of the defmt book: in decimal, in the hint's base as Rust prints it, or
-/// under `Micros` and `Millis` divided by 1,000,000 and 1,000, with six and three digits behind the point. `None` exactly where this
-/// doesn't fit.
+/// under `Micros` and `Millis` divided by 1,000,000 and 1,000, with six and three digits behind the point; under `Iso` as date and
+/// time, under `Clock` as a clock's time, under `Pad` in decimal with zeros in front. `None` exactly where this doesn't fit.
 pub fn put_uint(out: &mut [u8], at: usize, number: u64, hint: Hint) -> Option<usize>
     requires { at ≤ length out.old }
     ensures { Writes result out.old at out.new (printed_uint number hint) }
@@ -91,6 +93,9 @@ pub fn put_uint(out: &mut [u8], at: usize, number: u64, hint: Hint) -> Option<us
         Hint::Radix { base, alt, width } => { put_radix(out, at, number, base, alt, width) }
         Hint::Micros => put_micros(out, at, number),
         Hint::Millis => put_fraction(out, at, u128::from(number), 1_000, 3),
+        Hint::Iso(unit) => put_date(out, at, u128::from(number), unit),
+        Hint::Clock(unit) => put_clock(out, at, u128::from(number), unit),
+        Hint::Pad(width) => put_padded(out, at, u128::from(number), width),
     }
 }
 
@@ -105,6 +110,9 @@ fn put_great(out: &mut [u8], at: usize, number: u128, hint: Hint) -> Option<usiz
         Hint::Radix { base, alt, width } => put_wide_radix(out, at, number, base, alt, width),
         Hint::Micros => put_fraction(out, at, number, 1_000_000, 6),
         Hint::Millis => put_fraction(out, at, number, 1_000, 3),
+        Hint::Iso(unit) => put_date(out, at, number, unit),
+        Hint::Clock(unit) => put_clock(out, at, number, unit),
+        Hint::Pad(width) => put_padded(out, at, number, width),
     }
 }
 
@@ -168,8 +176,9 @@ fn twos_complement(number: i128, size: IntSize) -> u128
     }
 }
 
-/// Writes a signed number, which lies in the size, under a display hint of the defmt book: in decimal, or under `Radix` its two's
-/// complement in the size's width, in the hint's base as Rust prints it. `Native` has 32 bits. `None` exactly where this doesn't fit.
+/// Writes a signed number, which lies in the size, under a display hint of the defmt book: in decimal, under `Pad` with zeros up to a
+/// width, which counts the `-`, or under `Radix` its two's complement in the size's width, in the hint's base as Rust prints it.
+/// `Native` has 32 bits. `None` exactly where this doesn't fit.
 pub fn put_int(out: &mut [u8], at: usize, number: i128, size: IntSize, hint: Hint) -> Option<usize>
     requires place { at ≤ length out.old }
     requires sized { IsSigned (size_bits size) number }
@@ -179,14 +188,19 @@ pub fn put_int(out: &mut [u8], at: usize, number: i128, size: IntSize, hint: Hin
         Hint::Radix { base, alt, width } => {
             put_wide_radix(out, at, twos_complement(number, size), base, alt, width)
         }
-        Hint::Plain | Hint::Debug | Hint::Ascii | Hint::Micros | Hint::Millis => {
-            put_signed(out, at, number)
-        }
+        Hint::Plain
+        | Hint::Debug
+        | Hint::Ascii
+        | Hint::Micros
+        | Hint::Millis
+        | Hint::Iso(_)
+        | Hint::Clock(_) => put_signed(out, at, number),
+        Hint::Pad(width) => put_padded_signed(out, at, number, width),
     }
 }
 
 // Half of the numbers of a size of up to 64 bits: in two's complement those below it stand for themselves.
-fn half_of(size: IntSize) -> Option<u64>
+pub(crate) fn half_of(size: IntSize) -> Option<u64>
     ensures half { IfSome result (λ half. half ≡ 2 ^ (size_bits size - 1)) }
     ensures wide { IfNone result (size ≡ IntSize.W128) }
 {
@@ -233,8 +247,13 @@ pub fn put_complement(
 {
     match hint {
         Hint::Radix { base, alt, width } => { put_radix(out, at, number, base, alt, width) }
-        Hint::Plain | Hint::Debug | Hint::Ascii | Hint::Micros | Hint::Millis => {
-            put_shown(out, at, number, size)
-        }
+        Hint::Plain
+        | Hint::Debug
+        | Hint::Ascii
+        | Hint::Micros
+        | Hint::Millis
+        | Hint::Iso(_)
+        | Hint::Clock(_) => put_shown(out, at, number, size),
+        Hint::Pad(width) => put_padded_shown(out, at, number, size, width),
     }
 }

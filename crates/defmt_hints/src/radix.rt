@@ -50,7 +50,7 @@ fn count_in(number: u128, base: u64) -> usize
 
 // Writes the digits, with zeros in front up to a width. It is compiled for each base.
 #[inline(always)]
-fn put_digits(
+pub(crate) fn put_digits(
     out: &mut [u8],
     at: usize,
     number: u128,

@@ -1,15 +1,16 @@
 //! The same texts, appended to a `Text`. Each is written into a room that grows until it takes it.
 
-ghost use Rattle.std.specs.Prelude.{◌≡◌, ◌<◌, ◌≤◌, ◌*◌, replicate, length, take, IfOk};
+ghost use Rattle.std.specs.Prelude.{◌≡◌, ◌<◌, ◌≤◌, ◌*◌, ◌^◌, replicate, length, take, IfOk};
 ghost use Rattle.std.specs.Str.{IsUtf8};
-ghost use Rattle.defmt_grammar.specs.Sizes.{size_bits, IsSigned};
+ghost use Rattle.defmt_grammar.specs.Sizes.{float_bits, size_bits, IsSigned};
 ghost use Rattle.defmt_hints.specs.Appends.{Appends};
-ghost use Rattle.defmt_hints.specs.Printed.{printed_uint, printed_int, printed_bool, printed_char, printed_str, printed_bytes};
+ghost use Rattle.defmt_hints.specs.Printed.{printed_uint, printed_int, printed_bool, printed_char, printed_str, printed_bytes, printed_float};
 
 use crate::lists::put_bytes;
 use crate::numbers::{put_int, put_wide_uint};
 use crate::texts::{put_bool, put_char, put_str};
-use defmt_grammar::{Hint, IntSize, Memory, Text};
+use defmt_floats::{f32_text, f64_text};
+use defmt_grammar::{FloatSize, Hint, IntSize, Memory, Text};
 use std::str;
 
 // The first room takes each number, truth value and character: they have no more than 300 bytes and the zeros of a width.
@@ -45,7 +46,8 @@ fn append(out: &mut Text, room: &[u8], end: usize) -> Result<(), Memory>
 }
 
 /// Appends an unsigned number under a display hint of the defmt book: in decimal, in the hint's base as Rust prints it,
-/// or under `Micros` and `Millis` divided by 1,000,000 and 1,000, with six and three digits behind the point.
+/// or under `Micros` and `Millis` divided by 1,000,000 and 1,000, with six and three digits behind the point; under `Iso` as date
+/// and time, under `Clock` as a clock's time, under `Pad` in decimal with zeros in front.
 ///
 /// `Memory` is want of memory: a front of the text was appended.
 pub fn show_uint(value: u128, hint: &Hint, out: &mut Text) -> Result<(), Memory>
@@ -62,8 +64,9 @@ pub fn show_uint(value: u128, hint: &Hint, out: &mut Text) -> Result<(), Memory>
     }
 }
 
-/// Appends a signed number of a size under a display hint of the defmt book: in decimal, or under `Radix` its two's
-/// complement in the size's width, in the hint's base as Rust prints it. `Native` has 32 bits.
+/// Appends a signed number of a size under a display hint of the defmt book: in decimal, under `Pad` with zeros up to a
+/// width, which counts the `-`, or under `Radix` its two's complement in the size's width, in the hint's base as Rust
+/// prints it. `Native` has 32 bits.
 ///
 /// `Memory` is want of memory: a front of the text was appended.
 pub fn show_int(value: i128, size: IntSize, hint: &Hint, out: &mut Text) -> Result<(), Memory>
@@ -78,6 +81,20 @@ pub fn show_int(value: i128, size: IntSize, hint: &Hint, out: &mut Text) -> Resu
             return append(out, place, end);
         }
         many = larger(many)?;
+    }
+}
+
+/// Appends the float with these bits, which are below 2 to the power of the size's bits: the shortest decimal that reads
+/// back as it, `NaN`, `inf` or `-inf`, the same under every display hint of the defmt book.
+///
+/// `Memory` is want of memory: a front of the text was appended.
+pub fn show_float(bits: u64, size: FloatSize, out: &mut Text) -> Result<(), Memory>
+    requires { bits < 2 ^ float_bits size }
+    ensures { Appends result out.old out.new (printed_float size bits) }
+{
+    match size {
+        FloatSize::W32 => out.push_str(f32_text(bits as u32).as_str()),
+        FloatSize::W64 => out.push_str(f64_text(bits).as_str()),
     }
 }
 

@@ -53,9 +53,14 @@ pub fn put_char(out: &mut [u8], at: usize, character: char, hint: Hint) -> Optio
     let text = character.encode_utf8(&mut buffer);
     match hint {
         Hint::Debug => put_quoted_char(out, at, text.as_bytes()),
-        Hint::Plain | Hint::Radix { .. } | Hint::Ascii | Hint::Micros | Hint::Millis => {
-            put(out, at, text.as_bytes())
-        }
+        Hint::Plain
+        | Hint::Radix { .. }
+        | Hint::Ascii
+        | Hint::Micros
+        | Hint::Millis
+        | Hint::Iso(_)
+        | Hint::Clock(_)
+        | Hint::Pad(_) => put(out, at, text.as_bytes()),
     }
 }
 
@@ -67,8 +72,13 @@ pub fn put_str(out: &mut [u8], at: usize, text: &str, hint: Hint) -> Option<usiz
 {
     match hint {
         Hint::Debug => put_quoted_str(out, at, text.as_bytes()),
-        Hint::Plain | Hint::Radix { .. } | Hint::Ascii | Hint::Micros | Hint::Millis => {
-            put_text(out, at, text.as_bytes())
-        }
+        Hint::Plain
+        | Hint::Radix { .. }
+        | Hint::Ascii
+        | Hint::Micros
+        | Hint::Millis
+        | Hint::Iso(_)
+        | Hint::Clock(_)
+        | Hint::Pad(_) => put_text(out, at, text.as_bytes()),
     }
 }

@@ -1,7 +1,7 @@
 use Rattle.std.proofs.Common.{◌++◌, List, ℕ, codes, refl}
 use Rattle.std.specs.Prelude.{map}
 use Rattle.defmt_hints.specs.Printed.{list_text, printed_byte}
-use Rattle.defmt_hints.proofs.Chains.{Pending, pending_none, pending_step, pending_full}
+use Rattle.defmt_hints.proofs.Chains.{pending_none, pending_step, pending_full}
 use Rattle.defmt_hints.proofs.Elements.{list_none, list_first}
 use Rattle.defmt_hints.specs.Lists.{others_text}
 use Rattle.defmt_hints.proofs.lists.put_list.Goals as goal

@@ -1,4 +1,4 @@
-use Rattle.std.proofs.Common.{ℕ, List, ◌+◌, ◌++◌, codes, drop, get_or, refl}
+use Rattle.std.proofs.Common.{ℕ, List, ◌+◌, ◌++◌, codes, drop, get_or}
 use Rattle.defmt_hints.specs.Printed.{printed_byte}
 use Rattle.defmt_hints.proofs.Chains.{full_front, full_behind, pending_end, pending_full, pending_step, written_two}
 use Rattle.defmt_hints.proofs.Elements.{others_at, others_over}

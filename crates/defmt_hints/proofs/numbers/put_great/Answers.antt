@@ -17,3 +17,15 @@ returns-in-Micros c = rw c.in-Micros.is c.put_fraction.ensures
 pub returns-in-Millis : goal.returns-in-Millis
 unfolding printed_uint
 returns-in-Millis c = rw c.in-Millis.is c.put_fraction-in-Millis.ensures
+
+pub returns-in-Iso : goal.returns-in-Iso
+unfolding printed_uint
+returns-in-Iso c = rw c.in-Iso.is c.put_date.ensures
+
+pub returns-in-Clock : goal.returns-in-Clock
+unfolding printed_uint
+returns-in-Clock c = rw c.in-Clock.is c.put_clock.ensures
+
+pub returns-in-Pad : goal.returns-in-Pad
+unfolding printed_uint
+returns-in-Pad c = rw c.in-Pad.is c.put_padded.ensures

@@ -1,9 +1,8 @@
-use Rattle.std.proofs.Common.{◌≡◌, ℕ, subst, sym, arith, rules}
+use Rattle.std.proofs.Common.{◌≡◌, arith, rules}
 use Rattle.std.proofs.lemmas.Grind.{common_steps}
 use Rattle.std.proofs.lemmas.Int.{ints}
 use Rattle.defmt_grammar.specs.Sizes.{size_bits}
-use Rattle.defmt_hints.specs.Printed.{printed_int, radix_text, twos_complement}
-use Rattle.defmt_hints.specs.Written.{Writes}
+use Rattle.defmt_hints.specs.Printed.{printed_int, twos_complement}
 use Rattle.defmt_hints.proofs.numbers.put_int.Goals as goal
 
 pub returns-in-Radix : goal.returns-in-Radix
@@ -15,3 +14,7 @@ returns-in-Radix c =
 pub returns-in-Plain : goal.returns-in-Plain
 unfolding printed_int
 returns-in-Plain c = search rules
+
+pub returns-in-Pad : goal.returns-in-Pad
+unfolding printed_int
+returns-in-Pad c = search rules

@@ -1,8 +1,6 @@
-use Rattle.std.proofs.Common.{◌≡◌, ◌++◌, ℕ, List, [], ◌∷◌, codes, false, ap, sym, subst, ◌∙◌, arith}
-use Rattle.std.specs.Fmt.{digit_glyph}
+use Rattle.std.proofs.Common.{◌++◌, ℕ, List, codes, false, ap, sym, subst, ◌∙◌, arith}
 use Rattle.defmt_hints.proofs.PairLaws.{hex_pair}
 use Rattle.defmt_hints.proofs.Escaping.{newline, return, tab, marked, numbered, Unnamed}
-use Rattle.defmt_hints.specs.Quotings.{by_escapes, escape_in}
 use Rattle.defmt_hints.specs.Written.{Writes}
 use Rattle.defmt_hints.proofs.quoted.put_escape.Goals as goal
 use Rattle.defmt_hints.proofs.quoted.put_escape.Goals.{in_default-via-then-byte-lt32, in_default-via-else-byte-lt32+else-byte-lt127}

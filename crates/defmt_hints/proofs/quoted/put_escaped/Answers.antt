@@ -1,7 +1,7 @@
 use Rattle.std.proofs.Common.{◌≡◌, ◌≢◌, ◌-◌, None, length, length-drop, take, drop, get_or, sym, ◌∙◌, arith}
 use Rattle.std.proofs.lemmas.List.{take_all}
 use Rattle.defmt_hints.proofs.Escaping.{some_escape}
-use Rattle.defmt_hints.proofs.Runs.{runs_none, runs_bare, run_full, escape_full, runs_escaped, runs_end}
+use Rattle.defmt_hints.proofs.Runs.{runs_bare, run_full, escape_full, runs_escaped, runs_end}
 use Rattle.defmt_hints.specs.Quotings.{escape_in}
 use Rattle.defmt_hints.proofs.quoted.put_escaped.Goals as goal
 use Rattle.defmt_hints.proofs.quoted.put_escaped.Goals.{then-not-is_bare+in_ok-run+in_ok-end, else-not-is_bare}
