@@ -2,6 +2,7 @@
 use Rattle.std.proofs.Common.{◌≡◌, inl, inr, ℕ, Bool, true, false, List, [], ◌∷◌, Option, Some, None, refl, sym, ap, subst, ◌∙◌, ◌+◌}
 use Rattle.defmt_grammar.specs.Slots.{slots_of}
 use Rattle.defmt_grammar.specs.declared.piece.Piece.{Piece}
+use Rattle.defmt_grammar.specs.declared.language.Language.{Language}
 use Rattle.defmt_grammar.specs.declared.slot.Slot.{Slot}
 use Rattle.defmt_intern.specs.Body.{body_of}
 use Rattle.defmt_intern.specs.Table.{Map}
@@ -33,7 +34,7 @@ slots_at_places ps = slots_from ps 0 (slots_of ps)
 pub node_slots_are : (t : Map) (index : ℕ) (form : Parsed) (variant : Option ℕ) (ps : List Piece) → IsForm t index form → HasPieces form variant ps → node_slots t index variant ≡ slots_at (places_of ps)
 node_slots_are t index form variant ps f h = (rw (form_there t index form variant ps f h, pieces_there form variant ps h) refl) ∙ sym (slots_at_places ps)
 
-pub own_slots_are : (t : Map) (index : ℕ) (e : Entry) (ps : List Piece) → look t index ≡ Some e → body_of e ≡ One ps → own_slots t index ≡ slots_at (places_of ps)
+pub own_slots_are : (t : Map) (index : ℕ) (e : Entry) (ps : List Piece) → look t index ≡ Some e → body_of t.language e ≡ One ps → own_slots t index ≡ slots_at (places_of ps)
 own_slots_are t index e ps l b = (rw (l, b) refl) ∙ sym (slots_at_places ps)
 
 -- ---- tags
@@ -84,31 +85,31 @@ no_form Raw c h = (tt, sym (same_cause {A = Parsed} causes.Unsupported c h))
 no_form (One ps) c h = absurd (cc)
 no_form (Variants forms) c h = absurd (cc)
 
-form_by : (t : Map) (index : ℕ) (form : Parsed) (o : Option Entry) → look t index ≡ o → form_of o ≡ done form → IsForm t index form × HasForm form
+form_by : (t : Map) (index : ℕ) (form : Parsed) (o : Option Entry) → look t index ≡ o → form_of t.language o ≡ done form → IsForm t index form × HasForm form
 form_by t index form None l h = absurd (cc)
 form_by t index form (Some e) l h =
-    let b = bound (suited (is_format e.tag) e.tag) (λ _. form_in (body_of e)) form h in
-    let i = form_is (body_of e) form b.2 in
+    let b = bound (suited (is_format e.tag) e.tag) (λ _. form_in (body_of t.language e)) form h in
+    let i = form_is (body_of t.language e) form b.2 in
     (record { entry = e; there = l; tag = suits (is_format e.tag) e.tag b.1; body = i.1 }, subst (λ (f : Parsed). HasForm f) i.1 i.0)
 
-pub form_found : (t : Map) (index : ℕ) (form : Parsed) → form_of (look t index) ≡ done form → IsForm t index form × HasForm form
+pub form_found : (t : Map) (index : ℕ) (form : Parsed) → form_of t.language (look t index) ≡ done form → IsForm t index form × HasForm form
 form_found t index form h = form_by t index form (look t index) refl h
 
-no_form_by : (t : Map) (index : ℕ) (c : Cause) (o : Option Entry) → look t index ≡ o → form_of o ≡ refused Parsed c → MetForm t index c
+no_form_by : (t : Map) (index : ℕ) (c : Cause) (o : Option Entry) → look t index ≡ o → form_of t.language o ≡ refused Parsed c → MetForm t index c
 no_form_by t index c None l h = inl (inl (l, sym (same_cause {A = Parsed} causes.NoEntry c h)))
-no_form_by t index c (Some e) l h = elim (broken (suited (is_format e.tag) e.tag) (λ _. form_in (body_of e)) c h) [
+no_form_by t index c (Some e) l h = elim (broken (suited (is_format e.tag) e.tag) (λ _. form_in (body_of t.language e)) c h) [
   | inl k ↦ let p = unsuited (is_format e.tag) e.tag c k in inl (inr (e, l, p.0, p.1))
-  | inr k ↦ let p = no_form (body_of e) c k.2 in inr (e, l, suits (is_format e.tag) e.tag k.1, p.0, p.1)
+  | inr k ↦ let p = no_form (body_of t.language e) c k.2 in inr (e, l, suits (is_format e.tag) e.tag k.1, p.0, p.1)
 ]
 
-pub form_broken : (t : Map) (index : ℕ) (c : Cause) → form_of (look t index) ≡ refused Parsed c → MetForm t index c
+pub form_broken : (t : Map) (index : ℕ) (c : Cause) → form_of t.language (look t index) ≡ refused Parsed c → MetForm t index c
 form_broken t index c h = no_form_by t index c (look t index) refl h
 
-pub form_back : (t : Map) (index : ℕ) (form : Parsed) (variant : Option ℕ) (ps : List Piece) → IsForm t index form → HasPieces form variant ps → form_of (look t index) ≡ done form
+pub form_back : (t : Map) (index : ℕ) (form : Parsed) (variant : Option ℕ) (ps : List Piece) → IsForm t index form → HasPieces form variant ps → form_of t.language (look t index) ≡ done form
 form_back t index form None ps f h = rw (f.there, f.tag, f.body, h) refl
 form_back t index form (Some v) ps f h = rw (f.there, f.tag, f.body, h.1) refl
 
-pub form_back_of : (t : Map) (index : ℕ) (form : Parsed) → IsForm t index form → HasForm form → form_of (look t index) ≡ done form
+pub form_back_of : (t : Map) (index : ℕ) (form : Parsed) → IsForm t index form → HasForm form → form_of t.language (look t index) ≡ done form
 form_back_of t index (One ps) f h = rw (f.there, f.tag, f.body) refl
 form_back_of t index (Variants forms) f h = rw (f.there, f.tag, f.body) refl
 form_back_of t index Unsupported f h = absurd h
@@ -120,10 +121,10 @@ refused_form Raw h = refl
 refused_form (One ps) h = absurd h
 refused_form (Variants forms) h = absurd h
 
-pub form_refused : (t : Map) (index : ℕ) (c : Cause) → MetForm t index c → form_of (look t index) ≡ refused Parsed c
+pub form_refused : (t : Map) (index : ℕ) (c : Cause) → MetForm t index c → form_of t.language (look t index) ≡ refused Parsed c
 form_refused t index c (inl (inl m)) = rw (m.0, m.1) refl
 form_refused t index c (inl (inr m)) = rw (m.1, m.2, m.3) refl
-form_refused t index c (inr m) = rw (m.1, m.2, refused_form (body_of m.0) m.3, m.4) refl
+form_refused t index c (inr m) = rw (m.1, m.2, refused_form (body_of t.language m.0) m.3, m.4) refl
 
 -- ---- the own entries of frames, and of stamps
 
@@ -145,38 +146,38 @@ refused_one Raw h = refl
 refused_one (One ps) h = absurd h
 refused_one (Variants forms) h = refl
 
-own_by : (t : Map) (index : ℕ) (ps : List Piece) (o : Option Entry) → look t index ≡ o → logged_of o ≡ done ps → IsOwn t index ps
+own_by : (t : Map) (index : ℕ) (ps : List Piece) (o : Option Entry) → look t index ≡ o → logged_of t.language o ≡ done ps → IsOwn t index ps
 own_by t index ps None l h = absurd (cc)
 own_by t index ps (Some e) l h =
-    let b = bound (suited (is_logged e.tag) e.tag) (λ _. one_in (body_of e)) ps h in
-    record { entry = e; there = l; tag = suits (is_logged e.tag) e.tag b.1; body = one_is (body_of e) ps b.2 }
+    let b = bound (suited (is_logged e.tag) e.tag) (λ _. one_in (body_of t.language e)) ps h in
+    record { entry = e; there = l; tag = suits (is_logged e.tag) e.tag b.1; body = one_is (body_of t.language e) ps b.2 }
 
-pub own_found : (t : Map) (index : ℕ) (ps : List Piece) → logged_of (look t index) ≡ done ps → IsOwn t index ps
+pub own_found : (t : Map) (index : ℕ) (ps : List Piece) → logged_of t.language (look t index) ≡ done ps → IsOwn t index ps
 own_found t index ps h = own_by t index ps (look t index) refl h
 
-no_own_by : (t : Map) (index : ℕ) (c : Cause) (o : Option Entry) → look t index ≡ o → logged_of o ≡ refused (List Piece) c → MetOwn t index c
+no_own_by : (t : Map) (index : ℕ) (c : Cause) (o : Option Entry) → look t index ≡ o → logged_of t.language o ≡ refused (List Piece) c → MetOwn t index c
 no_own_by t index c None l h = inl (inl (l, sym (same_cause {A = List Piece} causes.NoEntry c h)))
-no_own_by t index c (Some e) l h = elim (broken (suited (is_logged e.tag) e.tag) (λ _. one_in (body_of e)) c h) [
+no_own_by t index c (Some e) l h = elim (broken (suited (is_logged e.tag) e.tag) (λ _. one_in (body_of t.language e)) c h) [
   | inl k ↦ let p = unsuited (is_logged e.tag) e.tag c k in inl (inr (e, l, p.0, p.1))
-  | inr k ↦ let p = not_one (body_of e) c k.2 in inr (e, l, suits (is_logged e.tag) e.tag k.1, p.0, p.1)
+  | inr k ↦ let p = not_one (body_of t.language e) c k.2 in inr (e, l, suits (is_logged e.tag) e.tag k.1, p.0, p.1)
 ]
 
-pub own_broken : (t : Map) (index : ℕ) (c : Cause) → logged_of (look t index) ≡ refused (List Piece) c → MetOwn t index c
+pub own_broken : (t : Map) (index : ℕ) (c : Cause) → logged_of t.language (look t index) ≡ refused (List Piece) c → MetOwn t index c
 own_broken t index c h = no_own_by t index c (look t index) refl h
 
-pub own_back : (t : Map) (index : ℕ) (ps : List Piece) → IsOwn t index ps → logged_of (look t index) ≡ done ps
+pub own_back : (t : Map) (index : ℕ) (ps : List Piece) → IsOwn t index ps → logged_of t.language (look t index) ≡ done ps
 own_back t index ps o = rw (o.there, o.tag, o.body) refl
 
-pub own_refused : (t : Map) (index : ℕ) (c : Cause) → MetOwn t index c → logged_of (look t index) ≡ refused (List Piece) c
+pub own_refused : (t : Map) (index : ℕ) (c : Cause) → MetOwn t index c → logged_of t.language (look t index) ≡ refused (List Piece) c
 own_refused t index c (inl (inl m)) = rw (m.0, m.1) refl
 own_refused t index c (inl (inr m)) = rw (m.1, m.2, m.3) refl
-own_refused t index c (inr m) = rw (m.1, m.2, refused_one (body_of m.0) m.3, m.4) refl
+own_refused t index c (inr m) = rw (m.1, m.2, refused_one (body_of t.language m.0) m.3, m.4) refl
 
-pub stamp_found : (e : Entry) (ps : List Piece) → stamp_form (Some e) ≡ done ps → body_of e ≡ One ps
-stamp_found e ps h = one_is (body_of e) ps h
+pub stamp_found : (l : Language) (e : Entry) (ps : List Piece) → stamp_form l (Some e) ≡ done ps → body_of l e ≡ One ps
+stamp_found l e ps h = one_is (body_of l e) ps h
 
-pub stamp_broken : (e : Entry) (c : Cause) → stamp_form (Some e) ≡ refused (List Piece) c → IsNotOne (body_of e) × (c ≡ causes.Unsupported)
-stamp_broken e c h = not_one (body_of e) c h
+pub stamp_broken : (l : Language) (e : Entry) (c : Cause) → stamp_form l (Some e) ≡ refused (List Piece) c → IsNotOne (body_of l e) × (c ≡ causes.Unsupported)
+stamp_broken l e c h = not_one (body_of l e) c h
 
-pub stamp_refused : (e : Entry) → IsNotOne (body_of e) → stamp_form (Some e) ≡ refused (List Piece) causes.Unsupported
-stamp_refused e h = refused_one (body_of e) h
+pub stamp_refused : (l : Language) (e : Entry) → IsNotOne (body_of l e) → stamp_form l (Some e) ≡ refused (List Piece) causes.Unsupported
+stamp_refused l e h = refused_one (body_of l e) h

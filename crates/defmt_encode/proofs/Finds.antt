@@ -6,7 +6,9 @@ use Rattle.std.specs.Char.{IsScalar}
 use lib.Utf8.{scalar}
 use Rattle.std.proofs.Math.Nat.{mul-div_cancel, mul-add-mod_self_right, mod-eq_of_lt, mul-lt-mul_of_pos_right}
 use Rattle.byteorder.specs.Endian.{little_bytes, twos_complement}
-use Rattle.defmt_grammar.specs.Sizes.{size_bits, IsSigned}
+use Rattle.defmt_grammar.specs.Sizes.{size_bits, float_bits, float_bytes, IsSigned}
+use Rattle.defmt_grammar.specs.declared.kind.FloatSize.{FloatSize}
+use Rattle.defmt_grammar.specs.declared.kind.FloatSize.TheVariants as floats
 use Rattle.defmt_grammar.specs.declared.kind.IntSize.{IntSize}
 use Rattle.defmt_grammar.specs.declared.kind.IntSize.TheVariants.{W8, W16, W32, W64, W128, Native}
 use Rattle.defmt_grammar.specs.declared.kind.Kind.TheVariants as kinds
@@ -14,13 +16,16 @@ use Rattle.defmt_grammar.specs.declared.slot.Slot.{Slot}
 use Rattle.defmt_grammar.specs.declared.slot.Slot.TheVariants as slots
 use Rattle.defmt_intern.specs.Table.{Map}
 use Rattle.defmt_values.specs.Entries.{look}
-use Rattle.defmt_values.specs.Plain.{Val, uint, int, flag, char, str, istr, bytes, bits}
+use Rattle.defmt_values.specs.Fits.{IsText}
+use Rattle.defmt_values.specs.Plain.{Val, uint, int, flag, char, str, istr, bytes, bits, float}
 use Rattle.defmt_values.proofs.Powers.{some}
-use Rattle.defmt_encode.specs.Carry.{size_bytes, flag_byte, bytes_val}
+use Rattle.defmt_encode.specs.Carry.{size_bytes, flag_byte, text_end, text_bytes, bytes_val}
 use Rattle.defmt_encode.specs.Fields.{Sums, FoundVal}
-use Rattle.defmt_encode.specs.Read.{◌⇒◌, number_at, signed_at, chunk_at, flag_of, char_of, text_of, bytes_at, text_at, interned_of, uint_at, int_at, flag_at, char_at, str_at, istr_at, slice_at, array_at, window_at}
+use Rattle.defmt_encode.specs.Lengths.{TextFits}
+use Rattle.defmt_encode.specs.Read.{◌⇒◌, number_at, signed_at, chunk_at, flag_of, char_of, text_of, ended_at, bytes_at, text_at, shown_text_at, interned_of, uint_at, int_at, flag_at, char_at, str_at, float_at, shown_at, istr_at, slice_at, array_at, window_at}
 use Rattle.defmt_encode.specs.declared.cause.Cause.TheVariants as causes
 use Rattle.defmt_encode.proofs.Chains.{done, same, bound, chosen}
+use Rattle.defmt_encode.proofs.Ends.{ended_found}
 use Rattle.defmt_encode.proofs.Entries.{interned_found}
 use Rattle.defmt_encode.proofs.Numbers.{AreBytes, part_sound, number_found, chunk_found}
 use Rattle.defmt_encode.proofs.Signed.{twos}
@@ -68,6 +73,10 @@ size_power W32 = refl
 size_power W64 = refl
 size_power W128 = refl
 size_power Native = refl
+
+pub float_power : (size : FloatSize) → 256 ^ float_bytes size ≡ 2 ^ float_bits size
+float_power floats.W32 = refl
+float_power floats.W64 = refl
 
 module _ (t : Map) (left w s : ℕ) (from : List ℕ) (y : Val3) (are : AreBytes from) where
   pub uint_found : (size : IntSize) → uint_at size s from ≡ done y → FoundVal t left (slots.One (kinds.Uint size)) w s y.1 y.0 from y.2
@@ -146,9 +155,38 @@ module _ (t : Map) (left w s : ℕ) (from : List ℕ) (y : Val3) (are : AreBytes
       let u = chosen (is_utf8 b.0.0) b.0.0 causes.BadText d.0 d.1 in
       let k : b.0 ≡ a.0 = ap (λ (x : List ℕ). (x, b.0.1)) u.1 ∙ same (d.0, b.0.1) a.0 d.2 in
       let n = counted b.0 b.1 in
-      let i : FoundVal t left (slots.One kinds.Str) w s s (str b.0.0) from b.0.1 = record { fits = refl; sound = IsUtf8-from_is_utf8 b.0.0 u.0; lengths = n.0; sums = leaf s; carries = n.1 } in
+      let i : FoundVal t left (slots.One kinds.Str) w s s (str b.0.0) from b.0.1 = record { fits = inl refl; sound = IsUtf8-from_is_utf8 b.0.0 u.0; lengths = n.0; sums = leaf s; carries = n.1 } in
       val_to t left (slots.One kinds.Str) w s from (str a.0.0, s, a.0.1) y
       (subst (λ (p : List ℕ × List ℕ). FoundVal t left (slots.One kinds.Str) w s s (str p.0) from p.1) k i) a.2
+
+  -- a text of Debug or Display
+  pub shown_found : (slot : Slot) → IsText slot → ((x : List ℕ) → text_bytes slot x ≡ x ++ text_end ∷ []) → ((n : ℕ) → TextFits slot n) → shown_at s from ≡ done y → FoundVal t left slot w s y.1 y.0 from y.2
+  unfolding bytes_val
+  shown_found slot is ends long e =
+      let a = bound (shown_text_at from) (λ r. Ok (str r.0, s, r.1)) y e in
+      let b = bound (ended_at from) (λ r. text_of r.0 ⇒ λ text. Ok (text, r.1)) a.0 a.1 in
+      let d = bound (text_of b.0.0) (λ text. Ok (text, b.0.1)) a.0 b.2 in
+      let u = chosen (is_utf8 b.0.0) b.0.0 causes.BadText d.0 d.1 in
+      let k : b.0 ≡ a.0 = ap (λ (x : List ℕ). (x, b.0.1)) u.1 ∙ same (d.0, b.0.1) a.0 d.2 in
+      let n = ended_found from b.0 b.1 in
+      let i : FoundVal t left slot w s s (str b.0.0) from b.0.1 = record {
+        fits = is;
+        sound = IsUtf8-from_is_utf8 b.0.0 u.0;
+        lengths = long (length b.0.0);
+        sums = leaf s;
+        carries = n.carries ∙ ap (λ (x : List ℕ). x ++ b.0.1) (sym (ends b.0.0));
+      } in
+      val_to t left slot w s from (str a.0.0, s, a.0.1) y
+      (subst (λ (p : List ℕ × List ℕ). FoundVal t left slot w s s (str p.0) from p.1) k i) a.2
+
+  pub float_found : (size : FloatSize) → float_at size s from ≡ done y → FoundVal t left (slots.One (kinds.Float size)) w s y.1 y.0 from y.2
+  unfolding bytes_val
+  float_found size e =
+      let b = bound (number_at (float_bytes size) from) (λ r. Ok (float r.0, s, r.1)) y e in
+      let n = number_found (float_bytes size) from b.0 are b.1 in
+      let small : b.0.0 < 2 ^ float_bits size = subst (λ (m : ℕ). b.0.0 < m) (float_power size) n.small in
+      val_to t left (slots.One (kinds.Float size)) w s from (float b.0.0, s, b.0.1) y
+      (record { fits = record { size = size; slot_is = refl; in_range = small }; sound = tt; lengths = tt; sums = leaf s; carries = n.carries }) b.2
 
   pub istr_found : istr_at t s from ≡ done y → FoundVal t left (slots.One kinds.Istr) w s y.1 y.0 from y.2
   unfolding bytes_val

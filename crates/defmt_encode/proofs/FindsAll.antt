@@ -1,5 +1,6 @@
 -- What is read is carried by the bytes: arguments, elements, Format values and lists of them.
-use Rattle.std.proofs.Common.{◌≡◌, ◌<◌, ◌⊎◌, inl, inr, ◌+◌, ◌-◌, ◌*◌, ◌%◌, ℕ, zero, suc, List, [], ◌∷◌, ◌++◌, Option, Some, None, Ok, refl, sym, ap, ◌∙◌, subst, arith, append_assoc}
+use Rattle.std.proofs.Common.{◌≡◌, ◌<◌, ◌⊎◌, inl, inr, ◌+◌, ◌-◌, ◌*◌, ◌%◌, ◌==◌, ℕ, zero, suc, Bool, true, false, List, [], ◌∷◌, ◌++◌, length, Option, Some, None, Ok, if◌then◌else◌, refl, sym, ap, ◌∙◌, subst, arith, append_assoc}
+use Rattle.std.proofs.lemmas.Bool.{eqb-true, eqb-false}
 use Rattle.byteorder.specs.Endian.{little_bytes}
 use Rattle.defmt_grammar.specs.declared.kind.Kind.TheVariants as kinds
 use Rattle.defmt_grammar.specs.declared.piece.Piece.{Piece}
@@ -9,18 +10,18 @@ use Rattle.defmt_intern.specs.Table.{Map}
 use Rattle.defmt_intern.specs.declared.parsed.Parsed.{Parsed}
 use Rattle.defmt_intern.specs.declared.parsed.Parsed.TheVariants.{Unsupported, Raw, One, Variants}
 use Rattle.defmt_values.specs.Entries.{look, variant_at, Place, places_of}
-use Rattle.defmt_values.specs.Fits.{IsForm, HasPieces, IsList, FitsVals, FitsElems, weigh_val, weigh_vals, weigh_elems}
-use Rattle.defmt_values.specs.Plain.{Val, format, seq, Vals, no_vals, val, Elems, no_elems, elem, elems_len}
+use Rattle.defmt_values.specs.Fits.{IsForm, HasPieces, IsList, FitsVals, FitsElems, weigh_val, weigh_vals, weigh_elems, weigh_nodes}
+use Rattle.defmt_values.specs.Plain.{Val, format, seq, sequence, Vals, no_vals, val, Elems, no_elems, elem, Nodes, no_nodes, node, elems_len}
 use Rattle.defmt_values.specs.Scan.{node_places, index_or}
 use Rattle.defmt_values.proofs.Forms.{places_are, variant_small}
-use Rattle.defmt_encode.specs.Carry.{variant_byte, count_bytes, index_bytes, node_slots, slots_at, bytes_val, bytes_vals, bytes_elems}
-use Rattle.defmt_encode.specs.Fields.{Sums, FoundVal, FoundVals, FoundElems}
+use Rattle.defmt_encode.specs.Carry.{variant_byte, count_bytes, index_bytes, node_slots, slots_at, bytes_val, bytes_vals, bytes_elems, bytes_nodes}
+use Rattle.defmt_encode.specs.Fields.{IsNumber, Sums, FoundVal, FoundVals, FoundElems, FoundNodes}
 use Rattle.defmt_encode.specs.Lengths.{LengthsFit, ElemsLengthsFit}
-use Rattle.defmt_encode.specs.Read.{Read, ◌⇒◌, OneAt, number_at, there, variant_of, add, form_of, each_at, elem_at, elems_at, node_at, list_at, some_at, slot_at, value_at}
+use Rattle.defmt_encode.specs.Read.{Read, ◌⇒◌, OneAt, number_at, there, variant_of, add, form_of, each_at, elem_at, elems_at, indexed_at, node_at, list_at, some_at, member_at, nodes_at, sequence_at, slot_at, value_at}
 use Rattle.defmt_values.specs.Sound.{AreSound, ElemsSound}
 use Rattle.defmt_encode.proofs.Chains.{done, same, bound, add_found}
 use Rattle.defmt_encode.proofs.Entries.{form_found, node_slots_are}
-use Rattle.defmt_encode.proofs.Finds.{Val3, val_to, leaf, uint_found, int_found, flag_found, char_found, str_found, istr_found, slice_found, array_found, window_found}
+use Rattle.defmt_encode.proofs.Finds.{Val3, val_to, leaf, uint_found, int_found, flag_found, char_found, str_found, shown_found, float_found, istr_found, slice_found, array_found, window_found}
 use Rattle.defmt_encode.proofs.Numbers.{AreBytes, bytes_rest, number_found}
 
 -- whatever this reader reads is carried by the bytes
@@ -187,32 +188,43 @@ elems_found t left index form one is f (suc n) w s from y h e =
 moved : (a b c rest : List ℕ) → a ++ ((b ++ c) ++ rest) ≡ ((a ++ b) ++ c) ++ rest
 moved a b c rest = ap (λ (x : List ℕ). a ++ x) (append_assoc b c rest) ∙ sym (append_assoc a b (c ++ rest)) ∙ sym (append_assoc (a ++ b) c rest)
 
-abbrev pub node_elem : OneAt → ℕ → ℕ → ℕ × List ℕ → Parsed → Read Val3
-node_elem one w s i form = elem_at one form w s i.1 ⇒ λ e. Ok (format i.0 e.0.0 e.0.1, e.1, e.2)
+-- what stands behind the index of a Format value
+pub record FoundIndexed (t : Map) (left index w s : ℕ) (y : Elem3) (from : List ℕ) : Type 0 where
+  pub form : Parsed
+  pub up : 0 < left
+  pub is : IsForm t index form
+  pub elem : FoundElem t (left - 1) index form w s y from
 
-abbrev pub node_form : Map → OneAt → ℕ → ℕ → ℕ × List ℕ → Read Val3
-node_form t one w s i = form_of (look t i.0) ⇒ node_elem one w s i
+abbrev pub indexed_elem : OneAt → ℕ → ℕ → List ℕ → Parsed → Read Elem3
+indexed_elem one w s from form = elem_at one form w s from
+
+indexed_found : (t : Map) (left : ℕ) (one : OneAt) → 0 < left → IsReader t (left - 1) one → (index w s : ℕ) (from : List ℕ) (y : Elem3) → AreBytes from → indexed_at t one index w s from ≡ done y → FoundIndexed t left index w s y from
+indexed_found t left one up is index w s from y h e =
+    let b = bound (form_of t.language (look t index)) (indexed_elem one w s from) y e in
+    let f = form_found t index b.0 b.1 in
+    record { form = b.0; up = up; is = f.0; elem = elem_found t (left - 1) index b.0 one is f.0 w s from y h b.2 }
+
+abbrev pub node_rest : Map → OneAt → ℕ → ℕ → ℕ × List ℕ → Read Val3
+node_rest t one w s i = indexed_at t one i.0 w s i.1 ⇒ λ e. Ok (format i.0 e.0.0 e.0.1, e.1, e.2)
 
 node_found : (t : Map) (left : ℕ) (one : OneAt) → 0 < left → IsReader t (left - 1) one → (w s : ℕ) (from : List ℕ) (y : Val3) → AreBytes from → node_at t one w s from ≡ done y → FoundVal t left (slots.One kinds.Format) w s y.1 y.0 from y.2
 unfolding bytes_val
 node_found t left one up is w s from y h e =
-    let b0 = bound (number_at 2 from) (node_form t one w s) y e in
+    let b0 = bound (number_at 2 from) (node_rest t one w s) y e in
     let i : ℕ = b0.0.0 in
-    let b1 = bound (form_of (look t i)) (node_elem one w s b0.0) y b0.2 in
-    let b2 = bound (elem_at one b1.0 w s b0.0.1) (λ e. Ok (format i e.0.0 e.0.1, e.1, e.2)) y b1.2 in
+    let b1 = bound (indexed_at t one i w s b0.0.1) (λ e. Ok (format i e.0.0 e.0.1, e.1, e.2)) y b0.2 in
     let n = number_found 2 from b0.0 h b0.1 in
-    let f = form_found t i b1.0 b1.1 in
-    let a = elem_found t (left - 1) i b1.0 one is f.0 w s b0.0.1 b2.0 (bytes_rest from (little_bytes 2 i) b0.0.1 h n.carries) b2.1 in
-    let o : Option ℕ = b2.0.0.0 in
-    let vs : Vals = b2.0.0.1 in
-    val_to t left (slots.One kinds.Format) w s from (format i o vs, b2.0.1, b2.0.2) y
+    let a = indexed_found t left one up is i w s b0.0.1 b1.0 (bytes_rest from (little_bytes 2 i) b0.0.1 h n.carries) b1.1 in
+    let o : Option ℕ = b1.0.0.0 in
+    let vs : Vals = b1.0.0.1 in
+    val_to t left (slots.One kinds.Format) w s from (format i o vs, b1.0.1, b1.0.2) y
     (record {
-      fits = (b1.0, a.pieces, refl, up, f.0, a.has, a.fits);
-      sound = a.sound;
-      lengths = a.lengths;
-      sums = a.sums;
-      carries = n.carries ∙ ap (λ (x : List ℕ). little_bytes 2 i ++ x) a.carries ∙ moved (little_bytes 2 i) (variant_byte o) (bytes_vals t (node_slots t i o) vs) b2.0.2;
-    }) b2.2
+      fits = (a.form, a.elem.pieces, refl, a.up, a.is, a.elem.has, a.elem.fits);
+      sound = a.elem.sound;
+      lengths = a.elem.lengths;
+      sums = a.elem.sums;
+      carries = n.carries ∙ ap (λ (x : List ℕ). little_bytes 2 i ++ x) a.elem.carries ∙ moved (little_bytes 2 i) (variant_byte o) (bytes_vals t (node_slots t i o) vs) b1.0.2;
+    }) b1.2
 
 -- ---- lists of Format values
 
@@ -234,13 +246,13 @@ abbrev pub list_elems : OneAt → ℕ → ℕ → ℕ → ℕ × List ℕ → Pa
 list_elems one count w s i form = elems_at one form count w s i.1 ⇒ λ r. Ok (seq (Some i.0) r.0, r.1, r.2)
 
 abbrev pub list_form : Map → OneAt → ℕ → ℕ → ℕ → ℕ × List ℕ → Read Val3
-list_form t one count w s i = form_of (look t i.0) ⇒ list_elems one count w s i
+list_form t one count w s i = form_of t.language (look t i.0) ⇒ list_elems one count w s i
 
 list_found : (t : Map) (left count : ℕ) (one : OneAt) → 0 < left → 0 < count → IsReader t (left - 1) one → (w s : ℕ) (from : List ℕ) (y : Val3) → AreBytes from → list_at t one count w s from ≡ done y → FoundList t left count w s y.1 y.0 from y.2
 list_found t left count one up few is w s from y h e =
     let b0 = bound (number_at 2 from) (list_form t one count w s) y e in
     let i : ℕ = b0.0.0 in
-    let b1 = bound (form_of (look t i)) (list_elems one count w s b0.0) y b0.2 in
+    let b1 = bound (form_of t.language (look t i)) (list_elems one count w s b0.0) y b0.2 in
     let b2 = bound (elems_at one b1.0 count w s b0.0.1) (λ r. Ok (seq (Some i) r.0, r.1, r.2)) y b1.2 in
     let n = number_found 2 from b0.0 h b0.1 in
     let f = form_found t i b1.0 b1.1 in
@@ -288,6 +300,91 @@ listed t left slot count w s r v from after rest k e f =
     } in
     subst (λ (x : Val). FoundVal t left slot w s r x from rest) f.is m
 
+-- ---- sequences
+
+pub member_found : (t : Map) (left : ℕ) (one : Option OneAt) → IsBelow t left one → (index w s : ℕ) (from : List ℕ) (y : Elem3) → AreBytes from → member_at t one index w s from ≡ done y → FoundIndexed t left index w s y from
+member_found t left None b index w s from y h e = absurd (cc)
+member_found t left (Some one) b index w s from y h e = indexed_found t left one b.0 b.1 index w s from y h e
+
+abbrev pub Nodes3 : Type 0
+Nodes3 = Nodes × ℕ × List ℕ
+
+pub nodes_none : (t : Map) (left w s : ℕ) (from : List ℕ) → FoundNodes t left w s s no_nodes from from
+unfolding bytes_nodes
+nodes_none t left w s from = record { fits = tt; sound = tt; lengths = tt; sums = leaf s; carries = refl }
+
+-- one more element in front of fitting ones
+pub nodes_more : (t : Map) (left i w s : ℕ) (from mid : List ℕ) (e : Elem3) (r : Nodes3) → IsNumber 2 i from mid → 0 < i → FoundIndexed t left i w s e mid → FoundNodes t left w e.1 r.1 r.0 e.2 r.2
+    → FoundNodes t left w s r.1 (node i e.0.0 e.0.1 r.0) from r.2
+unfolding bytes_nodes
+nodes_more t left i w s from mid e r n some first more =
+    let body : List ℕ = bytes_vals t (node_slots t i e.0.0) e.0.1 in
+    record {
+      fits = (first.form, first.elem.pieces, some, first.up, first.is, first.elem.has, first.elem.fits, more.fits);
+      sound = (first.elem.sound, more.sound);
+      lengths = (first.elem.lengths, more.lengths);
+      sums = two_sums s (w + weigh_vals t (node_places t i e.0.0) w e.0.1) (weigh_nodes t w r.0) e.1 r.1 first.elem.sums more.sums;
+      carries = joined from ((little_bytes 2 i ++ variant_byte e.0.0) ++ body) (bytes_nodes t r.0) e.2 r.2
+          (n.carries ∙ ap (λ (x : List ℕ). little_bytes 2 i ++ x) first.elem.carries ∙ moved (little_bytes 2 i) (variant_byte e.0.0) body e.2) more.carries;
+    }
+
+abbrev pub nodes_tail : Map → Option OneAt → ℕ → ℕ → ℕ → Elem3 → Read Nodes3
+nodes_tail t one n w i e = nodes_at t one n w e.1 e.2 ⇒ λ r. Ok (node i e.0.0 e.0.1 r.0, r.1, r.2)
+
+abbrev pub nodes_behind : Map → Option OneAt → ℕ → ℕ → ℕ → ℕ × List ℕ → Bool → Read Nodes3
+nodes_behind t one n w s i ends = if ends then Ok (no_nodes, s, i.1) else (member_at t one i.0 w s i.1 ⇒ nodes_tail t one n w i.0)
+
+abbrev pub nodes_rest : Map → Option OneAt → ℕ → ℕ → ℕ → ℕ × List ℕ → Read Nodes3
+nodes_rest t one n w s i = nodes_behind t one n w s i (i.0 == 0)
+
+-- fitting elements, and the index 0 behind them
+pub record FoundEnd (t : Map) (left w s : ℕ) (y : Nodes3) (from : List ℕ) : Type 0 where
+  pub rest : List ℕ
+  pub found : FoundNodes t left w s y.1 y.0 from rest
+  pub ends : rest ≡ little_bytes 2 0 ++ y.2
+
+end_to : (t : Map) (left w s : ℕ) (from : List ℕ) (x y : Nodes3) → FoundEnd t left w s x from → done x ≡ done y → FoundEnd t left w s y from
+end_to t left w s from x y f e = subst (λ (p : Nodes3). FoundEnd t left w s p from) (same x y e) f
+
+module _ (t : Map) (left : ℕ) (one : Option OneAt) (b : IsBelow t left one) where
+  behind_found : (n w s : ℕ) (from : List ℕ) (i : ℕ × List ℕ) (y : Nodes3) (d : Bool) → (i.0 == 0) ≡ d → AreBytes from → IsNumber 2 i.0 from i.1
+      → ((s : ℕ) (from : List ℕ) (y : Nodes3) → AreBytes from → nodes_at t one n w s from ≡ done y → FoundEnd t left w s y from)
+      → nodes_behind t one n w s i d ≡ done y → FoundEnd t left w s y from
+  behind_found n w s from i y true z h k ih e =
+      end_to t left w s from (no_nodes, s, i.1) y
+      (record { rest = from; found = nodes_none t left w s from; ends = k.carries ∙ ap (λ (x : ℕ). little_bytes 2 x ++ i.1) (eqb-true i.0 0 z) }) e
+  behind_found n w s from i y false z h k ih e =
+      let b1 = bound (member_at t one i.0 w s i.1) (nodes_tail t one n w i.0) y e in
+      let b2 = bound (nodes_at t one n w b1.0.1 b1.0.2) (λ r. Ok (node i.0 b1.0.0.0 b1.0.0.1 r.0, r.1, r.2)) y b1.2 in
+      let h1 = bytes_rest from (little_bytes 2 i.0) i.1 h k.carries in
+      let first = member_found t left one b i.0 w s i.1 b1.0 h1 b1.1 in
+      let front : List ℕ = variant_byte b1.0.0.0 ++ bytes_vals t (node_slots t i.0 b1.0.0.0) b1.0.0.1 in
+      let more = ih b1.0.1 b1.0.2 b2.0 (bytes_rest i.1 front b1.0.2 h1 first.elem.carries) b2.1 in
+      let some : 0 < i.0 = let ne = eqb-false i.0 0 z in omega (arith, ne) in
+      end_to t left w s from (node i.0 b1.0.0.0 b1.0.0.1 b2.0.0, b2.0.1, b2.0.2) y
+      (record { rest = more.rest; found = nodes_more t left i.0 w s from i.1 b1.0 (b2.0.0, b2.0.1, more.rest) k some first more.found; ends = more.ends }) b2.2
+
+  nodes_found : (n w s : ℕ) (from : List ℕ) (y : Nodes3) → AreBytes from → nodes_at t one n w s from ≡ done y → FoundEnd t left w s y from
+  unfolding nodes_at
+  nodes_found zero w s from y h e = absurd (cc)
+  nodes_found (suc n) w s from y h e =
+      let b0 = bound (number_at 2 from) (nodes_rest t one n w s) y e in
+      behind_found n w s from b0.0 y (b0.0.0 == 0) refl h (number_found 2 from b0.0 h b0.1) (λ s from y. nodes_found n w s from y) b0.2
+
+  sequence_found : (w s : ℕ) (from : List ℕ) (y : Val3) → AreBytes from → sequence_at t one w s from ≡ done y → FoundVal t left (slots.One kinds.Sequence) w s y.1 y.0 from y.2
+  unfolding bytes_val
+  sequence_found w s from y h e =
+      let a = bound (nodes_at t one (length from) w s from) (λ r. Ok (sequence r.0, r.1, r.2)) y e in
+      let f = nodes_found (length from) w s from a.0 h a.1 in
+      val_to t left (slots.One kinds.Sequence) w s from (sequence a.0.0, a.0.1, a.0.2) y
+      (record {
+        fits = (refl, f.found.fits);
+        sound = f.found.sound;
+        lengths = f.found.lengths;
+        sums = f.found.sums;
+        carries = joined from (bytes_nodes t a.0.0) (little_bytes 2 0) f.rest a.0.2 f.found.carries f.ends;
+      }) a.2
+
 -- ---- each slot
 
 slot_found : (t : Map) (left : ℕ) (one : Option OneAt) → IsBelow t left one → (slot : Slot) (w s : ℕ) (from : List ℕ) (y : Val3) → AreBytes from → slot_at t one slot w s from ≡ done y → FoundVal t left slot w s y.1 y.0 from y.2
@@ -308,6 +405,10 @@ slot_found t left one k (slots.One kinds.FormatSlice) w s from y h e =
 slot_found t left one k (slots.One (kinds.FormatArray count)) w s from y h e =
     listed t left (slots.One (kinds.FormatArray count)) count w s y.1 y.0 from from y.2 (inr refl) refl (some_found t left count one k w s from y h e)
 slot_found t left one k (slots.One (kinds.Bits lo hi)) w s from y h e = absurd (cc)
+slot_found t left one k (slots.One (kinds.Float size)) w s from y h e = float_found t left w s from y h size e
+slot_found t left one k (slots.One kinds.Debug) w s from y h e = shown_found t left w s from y h (slots.One kinds.Debug) (inr (inl refl)) (λ x. refl) (λ n. tt) e
+slot_found t left one k (slots.One kinds.Display) w s from y h e = shown_found t left w s from y h (slots.One kinds.Display) (inr (inr refl)) (λ x. refl) (λ n. tt) e
+slot_found t left one k (slots.One kinds.Sequence) w s from y h e = sequence_found t left one k w s from y h e
 slot_found t left one k (slots.Bits first width) w s from y h e = window_found t left w s from y h first width e
 
 pub value_found : (t : Map) (left : ℕ) → IsReader t left (value_at t left)

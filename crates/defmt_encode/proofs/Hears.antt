@@ -38,7 +38,7 @@ own_vals t index vs rest f g short =
     let own : own_slots t index ≡ slots_at (places_of f.pieces) = own_slots_are t index f.entry f.pieces f.there f.body in
     let size : LengthsFit t (slots_at (places_of f.pieces)) vs = subst (λ (q : List Slot). LengthsFit t q vs) own short in
     ap (λ (q : List Slot). each_at (value_at t 16) (places_of f.pieces) 1 0 (bytes_vals t q vs ++ rest)) own
-    ∙ vals_back t 16 (places_of f.pieces) 1 0 rest vs f.values g (omega arith) (own_used f.entry f.pieces f.body) size (omega (arith, f.light))
+    ∙ vals_back t 16 (places_of f.pieces) 1 0 rest vs f.values g (omega arith) (own_used t.language f.entry f.pieces f.body) size (omega (arith, f.light))
 
 abbrev pub stamp_rest : Map → List ℕ → List Piece → Read (Vals × List ℕ)
 stamp_rest t from ps = each_at (value_at t 16) (places_of ps) 1 0 from ⇒ λ r. Ok (r.0, r.2)
@@ -47,7 +47,7 @@ stamp_by : (t : Map) (o : Option ℕ) (stamp : Vals) (rest : List ℕ) → FitsS
 unfolding bytes_vals
 stamp_by t None stamp rest f g short = rw f refl
 stamp_by t (Some index) stamp rest f g short =
-    let form : stamp_form (look t index) ≡ done f.pieces = rw (f.there, f.body) refl in
+    let form : stamp_form t.language (look t index) ≡ done f.pieces = rw (f.there, f.body) refl in
     ap (λ (q : Read (List Piece)). q ⇒ stamp_rest t (bytes_vals t (own_slots t index) stamp ++ rest)) form
     ∙ ap (λ (q : Read Args3). q ⇒ λ r. Ok (r.0, r.2)) (own_vals t index stamp rest f g short)
 
@@ -93,10 +93,10 @@ unfolding bytes_vals
 stamp_found_by t None from y s h e = subst (λ (p : Stamp2). FitsStamp t None p.0 × AreSound p.0 × LengthsFit t [] p.0 × (from ≡ bytes_vals t [] p.0 ++ p.1)) (same (no_vals, from) y e) (refl, tt, tt, refl)
 stamp_found_by t (Some index) from y s h e =
     let entry = stamp_entry t index s in
-    let e' : (stamp_form (Some entry.0) ⇒ stamp_rest t from) ≡ done y = ap (λ (o : Option Entry). stamp_form o ⇒ stamp_rest t from) (sym entry.1) ∙ e in
-    let b0 = bound (stamp_form (Some entry.0)) (stamp_rest t from) y e' in
+    let e' : (stamp_form t.language (Some entry.0) ⇒ stamp_rest t from) ≡ done y = ap (λ (o : Option Entry). stamp_form t.language o ⇒ stamp_rest t from) (sym entry.1) ∙ e in
+    let b0 = bound (stamp_form t.language (Some entry.0)) (stamp_rest t from) y e' in
     let ps : List Piece = b0.0 in
-    let body = stamp_found entry.0 ps b0.1 in
+    let body = stamp_found t.language entry.0 ps b0.1 in
     let b1 = bound (each_at (value_at t 16) (places_of ps) 1 0 from) (λ r. Ok (r.0, r.2)) y b0.2 in
     let f = each_found t 16 (value_at t 16) (value_found t 16) (places_of ps) 1 0 from b1.0 h b1.1 in
     let m : b1.0.1 ≤ 8192 = f.sums.kept (omega arith) in
@@ -124,13 +124,13 @@ abbrev pub rest_place : Catalog → ℕ × List ℕ → List Piece → Read Mess
 rest_place t i ps = place_at t.profile i.1 ⇒ rest_stamp t.entries i.0 ps
 
 abbrev pub rest_own : Catalog → ℕ × List ℕ → Read Message4
-rest_own t i = logged_of (look t.entries i.0) ⇒ rest_place t i
+rest_own t i = logged_of t.entries.language (look t.entries i.0) ⇒ rest_place t i
 
 pub heard_found : (t : Catalog) (bytes : List ℕ) (y : Message4) → AreBytes bytes → message_at t bytes ≡ done y → IsHeard t bytes y.0 y.1 y.2 y.3
 heard_found t bytes y h e =
     let b0 = bound (number_at 2 bytes) (rest_own t) y e in
     let i : ℕ = b0.0.0 in
-    let b1 = bound (logged_of (look t.entries i)) (rest_place t b0.0) y b0.2 in
+    let b1 = bound (logged_of t.entries.language (look t.entries i)) (rest_place t b0.0) y b0.2 in
     let ps : List Piece = b1.0 in
     let b2 = bound (place_at t.profile b0.0.1) (rest_stamp t.entries i ps) y b1.2 in
     let place : Option ℕ = b2.0.0 in

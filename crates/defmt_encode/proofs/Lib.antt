@@ -2,6 +2,7 @@ pub mod Back
 pub mod Chain
 pub mod Chains
 pub mod Delimiters
+pub mod Ends
 pub mod Entries
 pub mod Finds
 pub mod FindsAll

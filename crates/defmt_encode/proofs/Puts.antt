@@ -1,13 +1,15 @@
 -- Steps of the loops that put values.
 use Rattle.std.proofs.Common.{◌≡◌, ◌≤◌, ℕ, List, [], ◌∷◌, ◌++◌, map, refl, sym, ap, subst, ◌∙◌, arith, append_assoc}
 use Rattle.std.proofs.lemmas.List.{append-nil}
+use Rattle.byteorder.specs.Endian.{little_bytes}
 use Rattle.defmt_grammar.specs.declared.slot.Slot.{Slot}
 use Rattle.defmt_intern.specs.Table.{Map}
-use Rattle.defmt_values.specs.Plain.{vals_size, elems_size}
-use Rattle.defmt_values.specs.View.{plain, vals_of, elems_of}
+use Rattle.defmt_values.specs.Plain.{vals_size, elems_size, nodes_size}
+use Rattle.defmt_values.specs.View.{plain, vals_of, elems_of, nodes_of}
 use Rattle.defmt_values.specs.declared.value.Item.{Item}
+use Rattle.defmt_values.specs.declared.value.Node.{Node}
 use Rattle.defmt_values.specs.declared.value.Value.{Value}
-use Rattle.defmt_encode.specs.Carry.{bytes_val, bytes_vals, bytes_elems, variant_byte, node_slots}
+use Rattle.defmt_encode.specs.Carry.{bytes_val, bytes_vals, bytes_elems, bytes_nodes, variant_byte, node_slots}
 use Rattle.defmt_encode.specs.Out.{Wrote, Refuses}
 use Rattle.defmt_encode.proofs.Chain.{refused_more, refused_behind}
 
@@ -49,3 +51,15 @@ module _ (t : Map) (i : ℕ) (items more : List Item) (x : Item) (p : items ≡ 
 pub elems_none : (t : Map) (i : ℕ) (items : List Item) → items ≡ [] → bytes_elems t i (elems_of items) ≡ []
 unfolding bytes_elems
 elems_none t i items p = rw p refl
+
+module _ (t : Map) (nodes more : List Node) (x : Node) (p : nodes ≡ x ∷ more) where
+  pub nodes_step : bytes_nodes t (nodes_of nodes) ≡ ((little_bytes 2 x.index ++ variant_byte x.variant) ++ bytes_vals t (node_slots t x.index x.variant) x.args) ++ bytes_nodes t (nodes_of more)
+  unfolding bytes_nodes
+  nodes_step = rw p refl
+
+  pub nodes_smaller : (n : ℕ) → nodes_size (nodes_of nodes) ≤ n → nodes_size (nodes_of more) ≤ n
+  nodes_smaller n h = let e = ap (λ (xs : List Node). nodes_size (nodes_of xs)) p in omega (arith, e)
+
+pub nodes_none : (t : Map) (nodes : List Node) → nodes ≡ [] → bytes_nodes t (nodes_of nodes) ≡ []
+unfolding bytes_nodes
+nodes_none t nodes p = rw p refl

@@ -1,5 +1,5 @@
 -- What carries a value reads as it: values without values inside, entries and variants.
-use Rattle.std.proofs.Common.{◌≡◌, ◌<◌, ◌≤◌, ◌^◌, ◌+◌, ◌-◌, ◌*◌, ◌/◌, ◌%◌, ℕ, zero, suc, ℤ, Bool, true, false, List, ◌∷◌, ◌++◌, length, Option, Some, None, refl, sym, ap, ◌∙◌, subst, arith, append_assoc, add-zero, pow-add}
+use Rattle.std.proofs.Common.{◌≡◌, ◌<◌, ◌≤◌, ◌^◌, ◌+◌, ◌-◌, ◌*◌, ◌/◌, ◌%◌, ℕ, zero, suc, ℤ, Bool, true, false, List, [], ◌∷◌, ◌++◌, length, Option, Some, None, refl, sym, ap, ◌∙◌, subst, arith, append_assoc, add-zero, pow-add}
 use Rattle.std.proofs.lemmas.Bool.{le-leb}
 use Rattle.std.proofs.Math.Nat.{div-add-mod, div-lt_iff_lt-mul}
 use Rattle.std.proofs.Math.Utf8.{scalar_fits}
@@ -7,20 +7,22 @@ use Rattle.std.specs.Char.{IsScalar}
 use Rattle.std.specs.Str.{IsUtf8}
 use Rattle.std.specs.Int.{w128, cast_unsigned}
 use Rattle.byteorder.specs.Endian.{little_bytes}
-use Rattle.defmt_grammar.specs.Sizes.{size_bits, IsSigned}
+use Rattle.defmt_grammar.specs.Sizes.{size_bits, float_bits, float_bytes, IsSigned}
+use Rattle.defmt_grammar.specs.declared.kind.FloatSize.{FloatSize}
 use Rattle.defmt_grammar.specs.declared.kind.IntSize.{IntSize}
 use Rattle.defmt_grammar.specs.declared.piece.Piece.{Piece}
 use Rattle.defmt_intern.specs.Table.{Map}
 use Rattle.defmt_intern.specs.declared.parsed.Parsed.{Parsed}
 use Rattle.defmt_values.specs.Fits.{IsInterned, HasPieces}
-use Rattle.defmt_values.specs.Plain.{Val, uint, int, flag, char, str, istr, bytes, bits}
+use Rattle.defmt_values.specs.Plain.{Val, uint, int, flag, char, str, istr, bytes, bits, float}
 use Rattle.defmt_values.proofs.Forms.{index_small, variant_small}
 use Rattle.defmt_values.proofs.Powers.{some}
-use Rattle.defmt_encode.specs.Carry.{size_bytes, flag_byte, variant_byte}
-use Rattle.defmt_encode.specs.Read.{Read, ◌⇒◌, number_at, chunk_at, bytes_at, uint_at, int_at, flag_at, char_at, str_at, istr_at, slice_at, array_at, window_at, add, variant_of, some_at, list_at, value_at, below}
+use Rattle.defmt_encode.specs.Carry.{size_bytes, flag_byte, text_end, variant_byte}
+use Rattle.defmt_encode.specs.Read.{Read, ◌⇒◌, number_at, chunk_at, bytes_at, uint_at, int_at, flag_at, char_at, str_at, float_at, shown_at, istr_at, slice_at, array_at, window_at, add, variant_of, some_at, list_at, value_at, below}
 use Rattle.defmt_encode.proofs.Chains.{done}
+use Rattle.defmt_encode.proofs.Ends.{no_end, ended_back}
 use Rattle.defmt_encode.proofs.Entries.{interned_back}
-use Rattle.defmt_encode.proofs.Finds.{size_is, size_some, size_few, size_power}
+use Rattle.defmt_encode.proofs.Finds.{size_is, size_some, size_few, size_power, float_power}
 use Rattle.defmt_encode.proofs.FindsAll.{one_byte}
 use Rattle.defmt_encode.proofs.Numbers.{number_back, chunk_back, is_text}
 use Rattle.defmt_encode.proofs.Signed.{complement, complements}
@@ -55,6 +57,14 @@ module _ (s : ℕ) (rest : List ℕ) where
 
   pub str_back : (t : List ℕ) → length t < 2 ^ 32 → IsUtf8 t → str_at s ((little_bytes 4 (length t) ++ t) ++ rest) ≡ done (str t, s, rest)
   str_back t h u = rw (counted_back t h, ← is_text t u) refl
+
+  pub shown_back : (t : List ℕ) → IsUtf8 t → shown_at s ((t ++ text_end ∷ []) ++ rest) ≡ done (str t, s, rest)
+  shown_back t u = rw (ended_back t rest (no_end t u), ← is_text t u) refl
+
+  pub float_back : (size : FloatSize) (n : ℕ) → n < 2 ^ float_bits size → float_at size s (little_bytes (float_bytes size) n ++ rest) ≡ done (float n, s, rest)
+  float_back size n h =
+      let small : n < 256 ^ float_bytes size = subst (λ (m : ℕ). n < m) (sym (float_power size)) h in
+      rw (number_back (float_bytes size) n rest small) refl
 
   pub slice_back : (t : List ℕ) → length t < 2 ^ 32 → slice_at s ((little_bytes 4 (length t) ++ t) ++ rest) ≡ done (bytes t, s, rest)
   slice_back t h = rw (counted_back t h) refl

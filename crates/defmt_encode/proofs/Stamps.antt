@@ -1,9 +1,9 @@
 -- The entry at the timestamp's index.
 use Rattle.std.proofs.Common.{◌≡◌, ℕ, Bool, true, nat_lt, Option, Some, None, refl, ap, ◌∙◌, cond}
-use Rattle.std.specs.FinMap as map
 use Rattle.std.proofs.lemmas.Bool.{and_parts}
 use Rattle.defmt_intern.specs.Stamp.{has_stamp, stamp_of}
-use Rattle.defmt_intern.specs.Table.{Map}
+use Rattle.defmt_intern.specs.Entries as map
+use Rattle.defmt_intern.specs.Entries.{Map}
 use Rattle.defmt_intern.specs.declared.entry.Entry.{Entry}
 use Rattle.defmt_intern.proofs.Stamps.{stamp_found}
 use Rattle.defmt_values.specs.Entries.{look}

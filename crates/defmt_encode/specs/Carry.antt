@@ -2,6 +2,7 @@
 use Rattle.std.specs.Prelude.{◌/◌, ◌^◌, ℕ, Bool, true, false, List, [], ◌∷◌, ◌++◌, length, Option, Some, None, Result, Ok, Err}
 use Rattle.std.specs.Int.{w128, cast_unsigned}
 use Rattle.byteorder.specs.Endian.{little_bytes}
+use Rattle.defmt_grammar.specs.Sizes.{float_bytes}
 use Rattle.defmt_grammar.specs.Slots.{slots_of}
 use Rattle.defmt_grammar.specs.declared.kind.IntSize.{IntSize}
 use Rattle.defmt_grammar.specs.declared.kind.IntSize.TheVariants.{W8, W16, W32, W64, W128, Native}
@@ -11,7 +12,7 @@ use Rattle.defmt_grammar.specs.declared.slot.Slot.{Slot}
 use Rattle.defmt_grammar.specs.declared.slot.Slot.TheVariants as slots
 use Rattle.defmt_intern.specs.Table.{Map}
 use Rattle.defmt_values.specs.Entries.{look, Place}
-use Rattle.defmt_values.specs.Plain.{Val, uint, int, flag, char, str, istr, bytes, bits, format, seq, Vals, no_vals, val, Elems, no_elems, elem, elems_len}
+use Rattle.defmt_values.specs.Plain.{Val, uint, int, flag, char, str, istr, bytes, bits, format, seq, float, sequence, Vals, no_vals, val, Elems, no_elems, elem, Nodes, no_nodes, node, elems_len}
 use Rattle.defmt_values.specs.Scan.{◌>>=◌, form_at, pick, own_form, index_or}
 use Rattle.defmt_intern.specs.Stamp.{stamp_of}
 use Rattle.defmt_encode.specs.Placed.{place_bytes}
@@ -34,9 +35,23 @@ abbrev pub int_width : Slot → ℕ
 int_width (slots.One (kinds.Int size)) = size_bytes size
 int_width slot = 0
 
+abbrev pub float_width : Slot → ℕ
+float_width (slots.One (kinds.Float size)) = float_bytes size
+float_width slot = 0
+
 abbrev pub flag_byte : Bool → ℕ
 flag_byte true = 1
 flag_byte false = 0
+
+-- the byte behind a text of Debug or Display: no text in UTF-8 has it
+abbrev pub text_end : ℕ
+text_end = 255
+
+-- in front of a text stands the number of its bytes, but behind one of Debug or Display its end
+abbrev pub text_bytes : Slot → List ℕ → List ℕ
+text_bytes (slots.One kinds.Debug) s = s ++ text_end ∷ []
+text_bytes (slots.One kinds.Display) s = s ++ text_end ∷ []
+text_bytes slot s = little_bytes 4 (length s) ++ s
 
 -- in front of bytes stands their number, but in front of those of a byte array
 abbrev pub length_bytes : Slot → ℕ → List ℕ
@@ -76,7 +91,7 @@ node_slots t index variant = slots_in (form_at t index >>= λ form. pick form va
 
 -- the slots of the arguments of an entry's own text
 abbrev pub own_slots : Map → ℕ → List Slot
-own_slots t index = slots_in (own_form (look t index))
+own_slots t index = slots_in (own_form t.language (look t index))
 
 unfoldable mutual
   -- One value of a slot. Numbers come with their lowest byte first, signed ones in two's complement.
@@ -85,7 +100,7 @@ unfoldable mutual
   bytes_val t slot (int n) = little_bytes (int_width slot) (cast_unsigned w128 n)
   bytes_val t slot (flag b) = flag_byte b ∷ []
   bytes_val t slot (char c) = little_bytes 4 c
-  bytes_val t slot (str s) = little_bytes 4 (length s) ++ s
+  bytes_val t slot (str s) = text_bytes slot s
   bytes_val t slot (istr index) = little_bytes 2 index
   bytes_val t slot (bytes s) = length_bytes slot (length s) ++ s
   bytes_val t slot (bits n) = little_bytes (window_width slot) (n / 256 ^ window_first slot)
@@ -93,6 +108,8 @@ unfoldable mutual
       (little_bytes 2 index ++ variant_byte variant) ++ bytes_vals t (node_slots t index variant) vs
   bytes_val t slot (seq index es) =
       (count_bytes slot (elems_len es) ++ index_bytes index) ++ bytes_elems t (index_or index) es
+  bytes_val t slot (float n) = little_bytes (float_width slot) n
+  bytes_val t slot (sequence ns) = bytes_nodes t ns ++ little_bytes 2 0
 
   -- the values of slots, one after another
   pub bytes_vals : Map → List Slot → Vals → List ℕ
@@ -106,6 +123,13 @@ unfoldable mutual
   bytes_elems t index (elem variant vs es) =
       (variant_byte variant ++ bytes_vals t (node_slots t index variant) vs)
       ++ bytes_elems t index es
+
+  -- the elements of a sequence, each as a Format value of its own, in front of the index 0
+  pub bytes_nodes : Map → Nodes → List ℕ
+  bytes_nodes t no_nodes = []
+  bytes_nodes t (node index variant vs ns) =
+      ((little_bytes 2 index ++ variant_byte variant)
+      ++ bytes_vals t (node_slots t index variant) vs) ++ bytes_nodes t ns
 
 -- the slots of places
 abbrev pub slots_at : List Place → List Slot

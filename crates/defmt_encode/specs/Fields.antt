@@ -10,11 +10,11 @@ use Rattle.defmt_encode.specs.Placed.{HasPlace, place_bytes}
 use Rattle.defmt_intern.specs.declared.parsed.Parsed.{Parsed}
 use Rattle.defmt_intern.specs.declared.parsed.Parsed.TheVariants.{One}
 use Rattle.defmt_values.specs.Entries.{look, is_logged, Place}
-use Rattle.defmt_values.specs.Fits.{FitsVal, FitsVals, FitsElems, FitsStamp, weigh_val, weigh_vals, weigh_elems}
-use Rattle.defmt_values.specs.Plain.{Val, Vals, Elems}
-use Rattle.defmt_encode.specs.Carry.{bytes_val, bytes_vals, bytes_elems, slots_at, stamp_slots}
-use Rattle.defmt_values.specs.Sound.{IsSound, AreSound, ElemsSound}
-use Rattle.defmt_encode.specs.Lengths.{LengthFits, LengthsFit, ElemsLengthsFit}
+use Rattle.defmt_values.specs.Fits.{FitsVal, FitsVals, FitsElems, FitsNodes, FitsStamp, weigh_val, weigh_vals, weigh_elems, weigh_nodes}
+use Rattle.defmt_values.specs.Plain.{Val, Vals, Elems, Nodes}
+use Rattle.defmt_encode.specs.Carry.{bytes_val, bytes_vals, bytes_elems, bytes_nodes, slots_at, stamp_slots}
+use Rattle.defmt_values.specs.Sound.{IsSound, AreSound, ElemsSound, NodesSound}
+use Rattle.defmt_encode.specs.Lengths.{LengthFits, LengthsFit, ElemsLengthsFit, NodesLengthsFit}
 use Rattle.defmt_intern.specs.Stamp.{stamp_of}
 use Rattle.defmt_grammar.specs.declared.slot.Slot.{Slot}
 
@@ -60,6 +60,14 @@ pub record FoundElems (t : Map) (left index : ℕ) (form : Parsed) (w s r : ℕ)
   pub sums : Sums s (weigh_elems t index w es) r
   pub carries : bytes ≡ bytes_elems t index es ++ rest
 
+-- fitting elements of a sequence
+pub record FoundNodes (t : Map) (left w s r : ℕ) (ns : Nodes) (bytes rest : List ℕ) : Type 0 where
+  pub fits : FitsNodes t left ns
+  pub sound : NodesSound ns
+  pub lengths : NodesLengthsFit t ns
+  pub sums : Sums s (weigh_nodes t w ns) r
+  pub carries : bytes ≡ bytes_nodes t ns ++ rest
+
 -- the place of a profile, where it has one
 pub record FoundPlace (p : Profile) (place : Option ℕ) (bytes rest : List ℕ) : Type 0 where
   pub has : HasPlace p place
@@ -77,4 +85,4 @@ pub record IsOwn (t : Map) (index : ℕ) (pieces : List Piece) : Type 0 where
   pub entry : Entry
   pub there : look t index ≡ Some entry
   pub tag : is_logged entry.tag ≡ true
-  pub body : body_of entry ≡ One pieces
+  pub body : body_of t.language entry ≡ One pieces

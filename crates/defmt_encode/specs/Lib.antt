@@ -1,6 +1,7 @@
 pub mod Carry
 pub mod Cause
 pub mod Fields
+pub mod Front
 pub mod Heard
 pub mod Lengths
 pub mod Met

@@ -1,8 +1,10 @@
 -- Why bytes are no message: what stands in front, and the field that is refused behind it, with its
 -- cause.
-use Rattle.std.specs.Prelude.{◌≡◌, ◌⊎◌, ◌<◌, ◌≤◌, ◌+◌, ◌*◌, ℕ, zero, suc, Bool, true, false, List, ◌∷◌, ◌++◌, length, Option, Some, None}
+use Rattle.std.specs.Prelude.{◌≡◌, ◌≢◌, ◌⊎◌, ◌<◌, ◌≤◌, ◌+◌, ◌*◌, ℕ, zero, suc, Bool, true, false, List, ◌∷◌, ◌++◌, length, Option, Some, None}
+use Rattle.std.specs.List.{AllByRecursion}
 use Rattle.std.specs.Str.{is_utf8}
 use lib.Utf8.{scalar}
+use Rattle.defmt_grammar.specs.Sizes.{float_bytes}
 use Rattle.defmt_grammar.specs.declared.kind.Kind.TheVariants as kinds
 use Rattle.defmt_grammar.specs.declared.piece.Piece.{Piece}
 use Rattle.defmt_grammar.specs.declared.slot.Slot.{Slot}
@@ -18,10 +20,10 @@ use Rattle.defmt_intern.specs.declared.parsed.Parsed.{Parsed}
 use Rattle.defmt_intern.specs.declared.parsed.Parsed.TheVariants.{One, Variants}
 use Rattle.defmt_values.specs.Entries.{look, is_format, is_interned, is_logged, variant_at, Place, places_of}
 use Rattle.defmt_values.specs.Fits.{IsForm, HasPieces}
-use Rattle.defmt_values.specs.Plain.{Vals, Elems, elems_len}
-use Rattle.defmt_encode.specs.Carry.{size_bytes, variant_byte}
+use Rattle.defmt_values.specs.Plain.{Vals, Elems, Nodes, elems_len}
+use Rattle.defmt_encode.specs.Carry.{size_bytes, text_end, variant_byte}
 use Rattle.defmt_encode.specs.Cause.{cause_number}
-use Rattle.defmt_encode.specs.Fields.{IsNumber, IsChunk, FoundVals, FoundElems, FoundStamp, FoundPlace, IsOwn}
+use Rattle.defmt_encode.specs.Fields.{IsNumber, IsChunk, FoundVals, FoundElems, FoundNodes, FoundStamp, FoundPlace, IsOwn}
 use Rattle.defmt_encode.specs.Read.{tag_cause, is_padding}
 use Rattle.defmt_intern.specs.Stamp.{stamp_of}
 use Rattle.defmt_encode.specs.declared.cause.Cause.{Cause}
@@ -51,6 +53,16 @@ abbrev pub MetStr : List ℕ → Cause → Type 0
 MetStr bytes c = MetBytes bytes c
     ⊎ ((n : ℕ) × (rest : List ℕ) × (text : List ℕ) × (after : List ℕ) × IsNumber 4 n bytes rest
     × IsChunk n text rest after × (is_utf8 text ≡ false) × (c ≡ causes.BadText))
+
+-- no end of a text is among bytes
+abbrev pub HasNoEnd : List ℕ → Type 0
+HasNoEnd bytes = AllByRecursion (λ b. b ≢ text_end) bytes
+
+-- a text of Debug or Display: no end stands behind it, or what stands in front of the first one isn't UTF-8
+abbrev pub MetShown : List ℕ → Cause → Type 0
+MetShown bytes c = (HasNoEnd bytes × (c ≡ causes.Short))
+    ⊎ ((text : List ℕ) × (rest : List ℕ) × HasNoEnd text × (bytes ≡ text ++ text_end ∷ rest)
+    × (is_utf8 text ≡ false) × (c ≡ causes.BadText))
 
 -- no entry has the index, or one whose tag doesn't suit
 abbrev pub IsUnsuited : Map → (Tag → Bool) → ℕ → Cause → Type 0
@@ -83,13 +95,15 @@ IsNotOne body = Unit {0}
 -- the entry of a Format value is refused
 abbrev pub MetForm : Map → ℕ → Cause → Type 0
 MetForm t index c = IsUnsuited t is_format index c
-    ⊎ ((e : Entry) × (look t index ≡ Some e) × (is_format e.tag ≡ true) × HasNoForm (body_of e)
+    ⊎ ((e : Entry) × (look t index ≡ Some e) × (is_format e.tag ≡ true)
+    × HasNoForm (body_of t.language e)
     × (c ≡ causes.Unsupported))
 
 -- the entry of a frame is refused
 abbrev pub MetOwn : Map → ℕ → Cause → Type 0
 MetOwn t index c = IsUnsuited t is_logged index c
-    ⊎ ((e : Entry) × (look t index ≡ Some e) × (is_logged e.tag ≡ true) × IsNotOne (body_of e)
+    ⊎ ((e : Entry) × (look t index ≡ Some e) × (is_logged e.tag ≡ true)
+    × IsNotOne (body_of t.language e)
     × (c ≡ causes.Unsupported))
 
 -- a variant's number is cut off, or no variant has it
@@ -142,11 +156,14 @@ pub record MetElems (t : Map) (left : ℕ) (one : OneMet) (index : ℕ) (form : 
   pub found : FoundElems t left index form w s sum elems bytes rest
   pub met : MetElem t left one form w sum rest c
 
+-- behind the index of a Format value: its entry is refused, or what stands behind it
+abbrev pub MetIndexed : Map → ℕ → OneMet → ℕ → ℕ → ℕ → List ℕ → Cause → Type 0
+MetIndexed t left one index w s bytes c = MetForm t index c
+    ⊎ ((form : Parsed) × IsForm t index form × HasForm form × MetElem t left one form w s bytes c)
+
 abbrev pub MetNode : Map → ℕ → OneMet → ℕ → ℕ → List ℕ → Cause → Type 0
 MetNode t left one w s bytes c = IsCut 2 bytes c
-    ⊎ ((i : ℕ) × (rest : List ℕ) × IsNumber 2 i bytes rest × MetForm t i c)
-    ⊎ ((i : ℕ) × (rest : List ℕ) × (form : Parsed) × IsNumber 2 i bytes rest × IsForm t i form
-    × HasForm form × MetElem t left one form w s rest c)
+    ⊎ ((i : ℕ) × (rest : List ℕ) × IsNumber 2 i bytes rest × MetIndexed t left one i w s rest c)
 
 abbrev pub MetList : Map → ℕ → OneMet → ℕ → ℕ → ℕ → List ℕ → Cause → Type 0
 MetList t left one count w s bytes c = IsCut 2 bytes c
@@ -159,6 +176,31 @@ abbrev pub MetSome : Map → ℕ → Level → ℕ → ℕ → ℕ → List ℕ 
 MetSome t left one zero w s bytes c = ⊥
 MetSome t left no_level (suc n) w s bytes c = c ≡ causes.Deep
 MetSome t left (level one) (suc n) w s bytes c = MetList t left one (suc n) w s bytes c
+
+-- behind the index of a sequence's element; where no level may be opened there is none
+abbrev pub MetMember : Map → ℕ → Level → ℕ → ℕ → ℕ → List ℕ → Cause → Type 0
+MetMember t left no_level index w s bytes c = c ≡ causes.Deep
+MetMember t left (level one) index w s bytes c = MetIndexed t left one index w s bytes c
+
+-- the next element of a sequence: its index is cut off, or isn't 0 and what stands behind it is refused
+abbrev pub MetNext : Map → ℕ → Level → ℕ → ℕ → List ℕ → Cause → Type 0
+MetNext t left one w s bytes c = IsCut 2 bytes c
+    ⊎ ((i : ℕ) × (rest : List ℕ) × IsNumber 2 i bytes rest × (0 < i)
+    × MetMember t left one i w s rest c)
+
+-- how many levels may be opened at a place, by what is below it
+abbrev pub levels : Level → ℕ → ℕ
+levels no_level left = 0
+levels (level one) left = suc left
+
+-- fitting elements of a sequence stand in front, and the next one is refused
+pub record MetNodes (t : Map) (left : ℕ) (one : Level) (w s : ℕ) (bytes : List ℕ) (c : Cause)
+    : Type 0 where
+  pub nodes : Nodes
+  pub sum : ℕ
+  pub rest : List ℕ
+  pub found : FoundNodes t (levels one left) w s sum nodes bytes rest
+  pub met : MetNext t left one w sum rest c
 
 -- a value of a slot, with what is refused one level below, where there is such a level; no slot of a
 -- text has the kind of a bit field
@@ -177,6 +219,10 @@ MetSlot t left one (slots.One kinds.FormatSlice) w s bytes c = IsCut 4 bytes c
     ⊎ ((n : ℕ) × (rest : List ℕ) × IsNumber 4 n bytes rest × MetSome t left one n w s rest c)
 MetSlot t left one (slots.One (kinds.FormatArray n)) w s bytes c = MetSome t left one n w s bytes c
 MetSlot t left one (slots.One (kinds.Bits lo hi)) w s bytes c = c ≡ causes.Short
+MetSlot t left one (slots.One (kinds.Float size)) w s bytes c = IsCut (float_bytes size) bytes c
+MetSlot t left one (slots.One kinds.Debug) w s bytes c = MetShown bytes c
+MetSlot t left one (slots.One kinds.Display) w s bytes c = MetShown bytes c
+MetSlot t left one (slots.One kinds.Sequence) w s bytes c = MetNodes t left one w s bytes c
 MetSlot t left one (slots.Bits first width) w s bytes c = IsCut width bytes c
 
 -- the same, where so many levels may still be opened
@@ -190,8 +236,9 @@ met_at t (suc left) = MetSlot t left (level (met_at t left))
 abbrev pub MetStamp : Map → Option ℕ → List ℕ → Cause → Type 0
 MetStamp t None bytes c = ⊥
 MetStamp t (Some index) bytes c =
-    ((e : Entry) × (look t index ≡ Some e) × IsNotOne (body_of e) × (c ≡ causes.Unsupported))
-    ⊎ ((e : Entry) × (ps : List Piece) × (look t index ≡ Some e) × (body_of e ≡ One ps)
+    ((e : Entry) × (look t index ≡ Some e) × IsNotOne (body_of t.language e)
+    × (c ≡ causes.Unsupported))
+    ⊎ ((e : Entry) × (ps : List Piece) × (look t index ≡ Some e) × (body_of t.language e ≡ One ps)
     × MetEach t 16 (met_at t 16) (places_of ps) 1 0 bytes c)
 
 -- behind a frame's place: the stamp, an argument, or what follows the last one

@@ -2,8 +2,8 @@
 use Rattle.std.specs.Prelude.{◌≡◌, ◌≤◌, ◌<◌, ◌+◌, ℕ, List, ◌++◌, length, take, drop, Result, Ok, Err}
 use Rattle.defmt_grammar.specs.declared.slot.Slot.{Slot}
 use Rattle.defmt_intern.specs.Table.{Map}
-use Rattle.defmt_values.specs.Plain.{Val, Vals, Elems}
-use Rattle.defmt_encode.specs.Carry.{bytes_val, bytes_vals, bytes_elems}
+use Rattle.defmt_values.specs.Plain.{Val, Vals, Elems, Nodes}
+use Rattle.defmt_encode.specs.Carry.{bytes_val, bytes_vals, bytes_elems, bytes_nodes}
 use Rattle.defmt_encode.specs.declared.put.Long.{Long}
 
 -- the most bytes of a message
@@ -54,3 +54,7 @@ HaveAtMost vs n = (t : Map) (slots : List Slot) → length (bytes_vals t slots v
 -- the same of the elements of a list, whatever its entry
 abbrev pub EachHasAtMost : Elems → ℕ → Type 0
 EachHasAtMost es n = (t : Map) (index : ℕ) → length (bytes_elems t index es) ≤ n
+
+-- the same of the elements of a sequence
+abbrev pub EachNodeHasAtMost : Nodes → ℕ → Type 0
+EachNodeHasAtMost ns n = (t : Map) → length (bytes_nodes t ns) ≤ n

@@ -1,8 +1,7 @@
 -- The parts of a message read from bytes, or the first cause for which there are none.
-use Rattle.std.specs.Prelude.{◌+◌, ◌*◌, ◌^◌, ◌==◌, ◌&&◌, ℕ, ℤ, zero, suc, Bool, true, false, nat_le, List, [], ◌∷◌, length, take, drop, Option, Some, None, Result, Ok, Err, if◌then◌else◌}
-use Rattle.std.specs.Str.{is_utf8}
-use lib.Utf8.{scalar}
-use Rattle.byteorder.specs.Endian.{little_number, twos_complement}
+use Rattle.std.specs.Prelude.{◌+◌, ◌*◌, ◌^◌, ◌==◌, ◌&&◌, ℕ, zero, suc, Bool, true, false, nat_le, List, [], ◌∷◌, length, Option, Some, None, Ok, Err, if◌then◌else◌}
+use Rattle.defmt_grammar.specs.Sizes.{float_bytes}
+use Rattle.defmt_grammar.specs.declared.kind.FloatSize.{FloatSize}
 use Rattle.defmt_grammar.specs.declared.kind.IntSize.{IntSize}
 use Rattle.defmt_grammar.specs.declared.kind.Kind.TheVariants as kinds
 use Rattle.defmt_grammar.specs.declared.piece.Piece.{Piece}
@@ -13,61 +12,19 @@ use Rattle.defmt_intern.specs.Catalog.{Catalog}
 use Rattle.defmt_intern.specs.Table.{Map}
 use Rattle.defmt_intern.specs.declared.table.Profile.{Profile}
 use Rattle.defmt_intern.specs.declared.table.Profile.TheVariants as profiles
+use Rattle.defmt_grammar.specs.declared.language.Language.{Language}
 use Rattle.defmt_intern.specs.declared.entry.Entry.{Entry}
 use Rattle.defmt_intern.specs.declared.entry.Tag.{Tag}
 use Rattle.defmt_intern.specs.declared.entry.Tag.TheVariants as tags
 use Rattle.defmt_intern.specs.declared.parsed.Parsed.{Parsed}
 use Rattle.defmt_intern.specs.declared.parsed.Parsed.TheVariants.{One, Variants}
 use Rattle.defmt_values.specs.Entries.{look, is_format, is_interned, is_logged, variant_at, Place, places_of}
-use Rattle.defmt_values.specs.Plain.{Val, uint, int, flag, char, str, istr, bytes as byte_list, bits, format, seq, Vals, no_vals, val, Elems, no_elems, elem}
+use Rattle.defmt_values.specs.Plain.{Val, uint, int, flag, char, str, istr, bytes as byte_list, bits, format, seq, float, sequence, Vals, no_vals, val, Elems, no_elems, elem, Nodes, no_nodes, node}
 use Rattle.defmt_encode.specs.Carry.{size_bytes}
+pub use Rattle.defmt_encode.specs.Front.{Read, ◌⇒◌, number_at, signed_at, chunk_at, flag_of, char_of, text_of, bytes_at, text_at, ended_at, shown_text_at}
 use Rattle.defmt_intern.specs.Stamp.{stamp_of}
 use Rattle.defmt_encode.specs.declared.cause.Cause.{Cause}
 use Rattle.defmt_encode.specs.declared.cause.Cause.TheVariants as causes
-
--- something that was read, or a cause
-abbrev pub Read : Type 0 → Type 0
-Read A = Result A Cause
-
-infixl 10 ◌⇒◌
-abbrev pub ◌⇒◌ : {A B : Type 0} → Read A → (A → Read B) → Read B
-(Ok x) ⇒ f = f x
-(Err e) ⇒ f = Err e
-
--- ---- fields
-
--- a number of so many bytes, and what follows
-abbrev pub number_at : ℕ → List ℕ → Read (ℕ × List ℕ)
-number_at width bytes =
-    if nat_le width (length bytes) then Ok (little_number width bytes, drop width bytes)
-    else Err causes.Short
-
--- the same in two's complement
-abbrev pub signed_at : ℕ → List ℕ → Read (ℤ × List ℕ)
-signed_at width bytes = number_at width bytes ⇒ λ r. Ok (twos_complement width r.0, r.1)
-
--- so many bytes, and what follows
-abbrev pub chunk_at : ℕ → List ℕ → Read (List ℕ × List ℕ)
-chunk_at n bytes =
-    if nat_le n (length bytes) then Ok (take n bytes, drop n bytes) else Err causes.Short
-
-abbrev pub flag_of : ℕ → Read Bool
-flag_of zero = Ok false
-flag_of (suc zero) = Ok true
-flag_of (suc (suc n)) = Err causes.BadBool
-
-abbrev pub char_of : ℕ → Read ℕ
-char_of n = if scalar n then Ok n else Err causes.BadChar
-
-abbrev pub text_of : List ℕ → Read (List ℕ)
-text_of s = if is_utf8 s then Ok s else Err causes.BadText
-
--- the number of bytes, and the bytes
-abbrev pub bytes_at : List ℕ → Read (List ℕ × List ℕ)
-bytes_at bytes = number_at 4 bytes ⇒ λ n. chunk_at n.0 n.1
-
-abbrev pub text_at : List ℕ → Read (List ℕ × List ℕ)
-text_at bytes = bytes_at bytes ⇒ λ s. text_of s.0 ⇒ λ text. Ok (text, s.1)
 
 -- ---- entries
 
@@ -90,9 +47,9 @@ form_in (One ps) = Ok (One ps)
 form_in (Variants forms) = Ok (Variants forms)
 form_in body = Err causes.Unsupported
 
-abbrev pub form_of : Option Entry → Read Parsed
-form_of None = Err causes.NoEntry
-form_of (Some e) = suited (is_format e.tag) e.tag ⇒ λ _. form_in (body_of e)
+abbrev pub form_of : Language → Option Entry → Read Parsed
+form_of l None = Err causes.NoEntry
+form_of l (Some e) = suited (is_format e.tag) e.tag ⇒ λ _. form_in (body_of l e)
 
 abbrev pub there : Option (List Piece) → Read (List Piece)
 there None = Err causes.BadVariant
@@ -134,6 +91,12 @@ abbrev pub istr_at : Map → ℕ → List ℕ → ReadVal
 istr_at t sum bytes =
     number_at 2 bytes ⇒ λ i. interned_of (look t i.0) ⇒ λ _. Ok (istr i.0, sum, i.1)
 
+abbrev pub float_at : FloatSize → ℕ → List ℕ → ReadVal
+float_at size sum bytes = number_at (float_bytes size) bytes ⇒ λ r. Ok (float r.0, sum, r.1)
+
+abbrev pub shown_at : ℕ → List ℕ → ReadVal
+shown_at sum bytes = shown_text_at bytes ⇒ λ s. Ok (str s.0, sum, s.1)
+
 abbrev pub slice_at : ℕ → List ℕ → ReadVal
 slice_at sum b = bytes_at b ⇒ λ s. Ok (byte_list s.0, sum, s.1)
 
@@ -173,19 +136,22 @@ elems_at one form (suc n) weight sum bytes =
     elems_at one form n weight e.1 e.2 ⇒ λ r.
     Ok (elem e.0.0 e.0.1 r.0, r.1, r.2)
 
--- a Format value, with the reader of what is one level below
+-- behind its index a Format value has its variant and its arguments, read with the reader of what is one level below
+abbrev pub indexed_at : Map → OneAt → ℕ → ℕ → ℕ → List ℕ → Read ((Option ℕ × Vals) × ℕ × List ℕ)
+indexed_at t one index weight sum bytes =
+    form_of t.language (look t index) ⇒ λ form. elem_at one form weight sum bytes
+
 abbrev pub node_at : Map → OneAt → ℕ → ℕ → List ℕ → ReadVal
 node_at t one weight sum bytes =
     number_at 2 bytes ⇒ λ i.
-    form_of (look t i.0) ⇒ λ form.
-    elem_at one form weight sum i.1 ⇒ λ e.
+    indexed_at t one i.0 weight sum i.1 ⇒ λ e.
     Ok (format i.0 e.0.0 e.0.1, e.1, e.2)
 
 -- a list that has elements
 abbrev pub list_at : Map → OneAt → ℕ → ℕ → ℕ → List ℕ → ReadVal
 list_at t one count weight sum bytes =
     number_at 2 bytes ⇒ λ i.
-    form_of (look t i.0) ⇒ λ form.
+    form_of t.language (look t i.0) ⇒ λ form.
     elems_at one form count weight sum i.1 ⇒ λ r.
     Ok (seq (Some i.0) r.0, r.1, r.2)
 
@@ -193,6 +159,26 @@ abbrev pub some_at : Map → Option OneAt → ℕ → ℕ → ℕ → List ℕ �
 some_at t one zero weight sum bytes = Ok (seq None no_elems, sum, bytes)
 some_at t None (suc n) weight sum bytes = Err causes.Deep
 some_at t (Some one) (suc n) weight sum bytes = list_at t one (suc n) weight sum bytes
+
+-- an element of a sequence behind its index
+abbrev pub member_at : Map → Option OneAt → ℕ → ℕ → ℕ → List ℕ
+    → Read ((Option ℕ × Vals) × ℕ × List ℕ)
+member_at t None index weight sum bytes = Err causes.Deep
+member_at t (Some one) index weight sum bytes = indexed_at t one index weight sum bytes
+
+-- the elements of a sequence, of which there are fewer than so many, and the index 0 behind them
+unfoldable pub nodes_at : Map → Option OneAt → ℕ → ℕ → ℕ → List ℕ → Read (Nodes × ℕ × List ℕ)
+nodes_at t below zero weight sum bytes = Err causes.Short
+nodes_at t below (suc n) weight sum bytes = number_at 2 bytes ⇒ λ i.
+    if i.0 == 0 then Ok (no_nodes, sum, i.1) else
+    (member_at t below i.0 weight sum i.1 ⇒ λ e.
+    nodes_at t below n weight e.1 e.2 ⇒ λ r.
+    Ok (node i.0 e.0.0 e.0.1 r.0, r.1, r.2))
+
+-- there are fewer elements than bytes
+abbrev pub sequence_at : Map → Option OneAt → ℕ → ℕ → List ℕ → ReadVal
+sequence_at t below weight sum bytes =
+    nodes_at t below (length bytes) weight sum bytes ⇒ λ r. Ok (sequence r.0, r.1, r.2)
 
 -- a value of a slot, with the reader of what is one level below, where there is such a level
 abbrev pub slot_at : Map → Option OneAt → OneAt
@@ -211,6 +197,10 @@ slot_at t below (slots.One kinds.FormatSlice) weight sum bytes =
 slot_at t below (slots.One (kinds.FormatArray count)) weight sum bytes =
     some_at t below count weight sum bytes
 slot_at t below (slots.One (kinds.Bits lo hi)) weight sum bytes = Err causes.Short
+slot_at t below (slots.One (kinds.Float size)) weight sum bytes = float_at size sum bytes
+slot_at t below (slots.One kinds.Debug) weight sum bytes = shown_at sum bytes
+slot_at t below (slots.One kinds.Display) weight sum bytes = shown_at sum bytes
+slot_at t below (slots.One kinds.Sequence) weight sum bytes = sequence_at t below weight sum bytes
 slot_at t below (slots.Bits first width) weight sum bytes = window_at first width sum bytes
 
 -- the same, where so many levels may still be opened
@@ -233,19 +223,19 @@ one_in body = Err causes.Unsupported
 abbrev pub only_at : IntSize → List ℕ → Read (Vals × ℕ × List ℕ)
 only_at size bytes = number_at (size_bytes size) bytes ⇒ λ r. Ok (val (uint r.0) no_vals, 0, r.1)
 
-abbrev pub logged_of : Option Entry → Read (List Piece)
-logged_of None = Err causes.NoEntry
-logged_of (Some e) = suited (is_logged e.tag) e.tag ⇒ λ _. one_in (body_of e)
+abbrev pub logged_of : Language → Option Entry → Read (List Piece)
+logged_of l None = Err causes.NoEntry
+logged_of l (Some e) = suited (is_logged e.tag) e.tag ⇒ λ _. one_in (body_of l e)
 
-abbrev pub stamp_form : Option Entry → Read (List Piece)
-stamp_form None = Err causes.Unsupported
-stamp_form (Some e) = one_in (body_of e)
+abbrev pub stamp_form : Language → Option Entry → Read (List Piece)
+stamp_form l None = Err causes.Unsupported
+stamp_form l (Some e) = one_in (body_of l e)
 
 -- the stamp's arguments, which have a sum of weights of their own
 abbrev pub stamp_at : Map → Option ℕ → List ℕ → Read (Vals × List ℕ)
 stamp_at t None bytes = Ok (no_vals, bytes)
 stamp_at t (Some index) bytes =
-    stamp_form (look t index) ⇒ λ ps.
+    stamp_form t.language (look t index) ⇒ λ ps.
     each_at (value_at t 16) (places_of ps) 1 0 bytes ⇒ λ r.
     Ok (r.0, r.2)
 
@@ -269,7 +259,7 @@ place_at profiles.Two bytes = number_at 2 bytes ⇒ λ r. Ok (Some r.0, r.1)
 abbrev pub message_at : Catalog → List ℕ → Read (Option ℕ × Vals × ℕ × Vals)
 message_at t bytes =
     number_at 2 bytes ⇒ λ i.
-    logged_of (look t.entries i.0) ⇒ λ ps.
+    logged_of t.entries.language (look t.entries i.0) ⇒ λ ps.
     place_at t.profile i.1 ⇒ λ q.
     stamp_at t.entries (stamp_of t.entries) q.1 ⇒ λ s.
     each_at (value_at t.entries 16) (places_of ps) 1 0 s.1 ⇒ λ r.

@@ -7,7 +7,7 @@ use Rattle.defmt_grammar.specs.declared.kind.Kind.TheVariants as kinds
 use Rattle.defmt_grammar.specs.declared.slot.Slot.{Slot}
 use Rattle.defmt_grammar.specs.declared.slot.Slot.TheVariants as slots
 use Rattle.defmt_intern.specs.Catalog.{Catalog}
-use Rattle.defmt_values.specs.Plain.{Val, Vals, Elems}
+use Rattle.defmt_values.specs.Plain.{Val, Vals, Elems, Nodes}
 use Rattle.defmt_values.specs.View.{plain}
 use Rattle.defmt_values.specs.declared.value.Item.{Item}
 use Rattle.defmt_values.specs.declared.value.Value.{Value}
@@ -74,6 +74,11 @@ ReadsElems (Ok r) expected = Ok (r.0, r.1, r.2.now) ≡ expected
 ReadsElems (Err (Bad c)) expected = Err c ≡ expected
 ReadsElems (Err Memory) expected = Unit {0}
 
+abbrev pub ReadsNodes : Result (Nodes × ℕ × Bor (List ℕ)) Fault → Read (Nodes × ℕ × List ℕ) → Type 0
+ReadsNodes (Ok r) expected = Ok (r.0, r.1, r.2.now) ≡ expected
+ReadsNodes (Err (Bad c)) expected = Err c ≡ expected
+ReadsNodes (Err Memory) expected = Unit {0}
+
 abbrev pub ReadsStamp : Result (Vals × Bor (List ℕ)) Fault → Read (Vals × List ℕ) → Type 0
 ReadsStamp (Ok r) expected = Ok (r.0, r.1.now) ≡ expected
 ReadsStamp (Err (Bad c)) expected = Err c ≡ expected
@@ -106,6 +111,7 @@ abbrev pub IsLeaf : Slot → Type 0
 IsLeaf (slots.One kinds.Format) = ⊥
 IsLeaf (slots.One kinds.FormatSlice) = ⊥
 IsLeaf (slots.One (kinds.FormatArray count)) = ⊥
+IsLeaf (slots.One kinds.Sequence) = ⊥
 IsLeaf slot = Unit {0}
 
 -- ---- the answers of `read_message`

@@ -1,10 +1,10 @@
 //! How many bytes values have in a message at most.
 ghost use Rattle.std.specs.Prelude.{◌≤◌};
-ghost use Rattle.defmt_encode.specs.Out.{HasAtMost, HaveAtMost, EachHasAtMost};
+ghost use Rattle.defmt_encode.specs.Out.{HasAtMost, HaveAtMost, EachHasAtMost, EachNodeHasAtMost};
 ghost use Rattle.defmt_values.specs.View.{plain};
 
 use crate::put::MESSAGE_LIMIT;
-use defmt_values::{Args, Items, Value, cut};
+use defmt_values::{Args, Items, Nodes, Value, cut};
 
 // The most bytes that a value has in a message, whatever its slot: more than a whole message may have where the slot
 // alone tells.
@@ -23,6 +23,8 @@ fn most_bytes(value: &Value) -> usize
         Value::Bits(_) => MESSAGE_LIMIT + 1,
         Value::Format(node) => most_of(&node.args).saturating_add(3),
         Value::Seq(seq) => most_of_each(&seq.items).saturating_add(6),
+        Value::Float(_) => 8,
+        Value::Sequence(nodes) => most_of_nodes(nodes).saturating_add(2),
     }
 }
 
@@ -49,6 +51,21 @@ fn most_of_each(items: &Items) -> usize
     let mut most = 0usize;
     'each: while let Some((item, more)) = cut(rest) {
         let one = most_of(&item.args).saturating_add(1);
+        most = most.saturating_add(one);
+        rest = more;
+    }
+    most
+}
+
+// The same of the elements of a sequence.
+#[cycle(most)]
+fn most_of_nodes(nodes: &Nodes) -> usize
+    ensures { result ≤ 2000 → EachNodeHasAtMost nodes.now result }
+{
+    let mut rest = nodes.as_slice();
+    let mut most = 0usize;
+    'each: while let Some((node, more)) = cut(rest) {
+        let one = most_of(&node.args).saturating_add(3);
         most = most.saturating_add(one);
         rest = more;
     }

@@ -1,13 +1,16 @@
 //! Fields of a message read from the front of bytes.
 ghost use Rattle.std.specs.Prelude.{◌≡◌, ◌≤◌, ◌<◌, ◌^◌, length, IfOk};
 ghost use Rattle.byteorder.specs.Endian.{little_number};
-ghost use Rattle.defmt_encode.specs.Read.{number_at, signed_at, chunk_at, bytes_at, text_at};
-ghost use Rattle.defmt_encode.specs.Reads.{pair_now, chunks_now, ReadsChunk, ReadsBuffer};
+ghost use Rattle.defmt_grammar.specs.Sizes.{float_bytes};
+ghost use Rattle.defmt_encode.specs.Read.{number_at, signed_at, chunk_at, ended_at, text_of, bytes_at, text_at, shown_text_at};
+ghost use Rattle.defmt_encode.specs.Reads.{now_of, pair_now, chunks_now, ReadsChunk, ReadsBuffer};
 
 use crate::cause::{Cause, Fault};
+use crate::put::TEXT_END;
 use byteorder::{ByteOrder, LittleEndian};
-use defmt_grammar::Text;
+use defmt_grammar::{FloatSize, Text};
 use dl_io::{Bytes, Memory};
+use memchr::memchr;
 use std::alloc::Global;
 use std::str;
 
@@ -88,6 +91,29 @@ pub fn word(bytes: &[u8]) -> Result<(u32, &[u8]), Cause>
     Ok((LittleEndian::read_u32(bytes), rest))
 }
 
+fn double_word(bytes: &[u8]) -> Result<(u64, &[u8]), Cause>
+    ensures { pair_now result ≡ number_at 8 bytes.now }
+{
+    if bytes.len() < 8 {
+        return Err(Cause::Short);
+    }
+    let (_, rest) = bytes.split_at(8);
+    Ok((LittleEndian::read_u64(bytes), rest))
+}
+
+/// The bits of a float.
+pub fn float(bytes: &[u8], size: FloatSize) -> Result<(u64, &[u8]), Cause>
+    ensures { pair_now result ≡ number_at (float_bytes size) bytes.now }
+{
+    match size {
+        FloatSize::W32 => {
+            let (bits, rest) = word(bytes)?;
+            Ok((u64::from(bits), rest))
+        }
+        FloatSize::W64 => double_word(bytes),
+    }
+}
+
 pub fn byte(bytes: &[u8]) -> Result<(u8, &[u8]), Cause>
     ensures { pair_now result ≡ number_at 1 bytes.now }
 {
@@ -106,14 +132,43 @@ fn counted(bytes: &[u8]) -> Result<(&[u8], &[u8]), Cause>
     chunk(rest, count as usize)
 }
 
+// Bytes in front of the first end of a text.
+fn ended(bytes: &[u8]) -> Result<(&[u8], &[u8]), Cause>
+    ensures { chunks_now result ≡ ended_at bytes.now }
+{
+    match memchr(TEXT_END, bytes) {
+        Some(end) => {
+            let (front, _) = bytes.split_at(end);
+            let (_, rest) = bytes.split_at(end + 1);
+            Ok((front, rest))
+        }
+        None => Err(Cause::Short),
+    }
+}
+
+// The text of bytes.
+fn as_text(bytes: &[u8]) -> Result<&str, Cause>
+    ensures { now_of result ≡ text_of bytes.now }
+{
+    match str::from_utf8(bytes) {
+        Ok(text) => Ok(text),
+        Err(_) => Err(Cause::BadText),
+    }
+}
+
 fn text(bytes: &[u8]) -> Result<(&str, &[u8]), Cause>
     ensures { chunks_now result ≡ text_at bytes.now }
 {
     let (front, rest) = counted(bytes)?;
-    match str::from_utf8(front) {
-        Ok(text) => Ok((text, rest)),
-        Err(_) => Err(Cause::BadText),
-    }
+    Ok((as_text(front)?, rest))
+}
+
+// A text of Debug or Display.
+fn shown_text(bytes: &[u8]) -> Result<(&str, &[u8]), Cause>
+    ensures { chunks_now result ≡ shown_text_at bytes.now }
+{
+    let (front, rest) = ended(bytes)?;
+    Ok((as_text(front)?, rest))
 }
 
 fn copied(alloc: Global, text: &str) -> Result<Text, Memory>
@@ -130,6 +185,13 @@ pub fn read_text(alloc: Global, bytes: &[u8]) -> Result<(Text, &[u8]), Fault>
     ensures { ReadsChunk result (text_at bytes.now) }
 {
     let (text, rest) = text(bytes)?;
+    Ok((copied(alloc, text)?, rest))
+}
+
+pub fn read_shown_text(alloc: Global, bytes: &[u8]) -> Result<(Text, &[u8]), Fault>
+    ensures { ReadsChunk result (shown_text_at bytes.now) }
+{
+    let (text, rest) = shown_text(bytes)?;
     Ok((copied(alloc, text)?, rest))
 }
 

@@ -43,7 +43,7 @@ fn form_in(body: &Parsed) -> Result<&Parsed, Cause>
 
 // What the entry of a Format value stands for.
 pub(crate) fn form_for(table: &Table, index: u16) -> Result<&Parsed, Cause>
-    ensures { now_of result ≡ form_of (look table.now.entries index) }
+    ensures { now_of result ≡ form_of table.now.entries.language (look table.now.entries index) }
 {
     let Some((entry, body)) = look_up(table, index) else {
         return Err(Cause::NoEntry);

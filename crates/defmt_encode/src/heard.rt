@@ -70,7 +70,7 @@ fn one_in(body: &Parsed) -> Result<&Pieces, Cause>
 
 // The pieces of a frame's own entry.
 fn logged(table: &Table, index: u16) -> Result<&Pieces, Cause>
-    ensures { now_of result ≡ logged_of (look table.now.entries index) }
+    ensures { now_of result ≡ logged_of table.now.entries.language (look table.now.entries index) }
 {
     let Some((entry, body)) = look_up(table, index) else {
         return Err(Cause::NoEntry);
@@ -80,7 +80,7 @@ fn logged(table: &Table, index: u16) -> Result<&Pieces, Cause>
 }
 
 fn stamp_form(table: &Table, index: u16) -> Result<&Pieces, Cause>
-    ensures { now_of result ≡ stamp_form (look table.now.entries index) }
+    ensures { now_of result ≡ stamp_form table.now.entries.language (look table.now.entries index) }
 {
     match look_up(table, index) {
         None => Err(Cause::Unsupported),

@@ -1,14 +1,16 @@
 //! Values inside which no values stand, read from the bytes of a message.
 ghost use Rattle.std.specs.Prelude.{◌≡◌, ◌≤◌, ◌<◌, ◌+◌, ◌^◌, ◌*◌, Option, ℕ};
 ghost use Rattle.defmt_grammar.specs.Slots.{IsSound};
-ghost use Rattle.defmt_encode.specs.Read.{istr_at, uint_at, int_at, flag_at, char_at, str_at, slice_at, array_at, window_at, slot_at, below, OneAt};
+ghost use Rattle.defmt_encode.specs.Read.{istr_at, uint_at, int_at, flag_at, char_at, str_at, float_at, shown_at, slice_at, array_at, window_at, slot_at, below, OneAt};
 ghost use Rattle.defmt_encode.specs.Reads.{ReadsVal, IsLeaf};
 
 use crate::cause::{Cause, Fault};
-use crate::field::{byte, index, number, read_array, read_bytes, read_text, signed, word};
+use crate::field::{
+    byte, float, index, number, read_array, read_bytes, read_shown_text, read_text, signed, word,
+};
 use crate::forms::interned;
 use crate::widths::size_bytes;
-use defmt_grammar::{IntSize, Kind, Slot};
+use defmt_grammar::{FloatSize, IntSize, Kind, Slot};
 use defmt_intern::Table;
 use defmt_values::{Value, power};
 use std::alloc::Global;
@@ -78,6 +80,20 @@ fn read_istr<'b>(
     Ok((Value::Istr(index), sum, rest))
 }
 
+fn read_float(size: FloatSize, sum: u128, bytes: &[u8]) -> Result<(Value, u128, &[u8]), Fault>
+    ensures { ReadsVal result (float_at size sum bytes.now) }
+{
+    let (bits, rest) = float(bytes, size)?;
+    Ok((Value::Float(bits), sum, rest))
+}
+
+fn read_shown(alloc: Global, sum: u128, bytes: &[u8]) -> Result<(Value, u128, &[u8]), Fault>
+    ensures { ReadsVal result (shown_at sum bytes.now) }
+{
+    let (text, rest) = read_shown_text(alloc, bytes)?;
+    Ok((Value::Str(text), sum, rest))
+}
+
 fn read_slice(alloc: Global, sum: u128, bytes: &[u8]) -> Result<(Value, u128, &[u8]), Fault>
     ensures { ReadsVal result (slice_at sum bytes.now) }
 {
@@ -128,7 +144,10 @@ pub(crate) fn read_leaf<'b>(
         Slot::One(Kind::Bytes) => read_slice(alloc, sum, bytes),
         Slot::One(Kind::ByteArray(count)) => read_byte_array(alloc, count, sum, bytes),
         Slot::One(Kind::Bits { .. }) => Err(Fault::Bad(Cause::Short)),
+        Slot::One(Kind::Float(size)) => read_float(size, sum, bytes),
+        Slot::One(Kind::Debug | Kind::Display) => read_shown(alloc, sum, bytes),
         Slot::Bits { first, width } => read_window(first, width, sum, bytes),
-        Slot::One(Kind::Format | Kind::FormatSlice | Kind::FormatArray(_)) => unreachable!(),
+        Slot::One(Kind::Format | Kind::FormatSlice | Kind::FormatArray(_) | Kind::Sequence) =>
+            unreachable!(),
     }
 }

@@ -19,6 +19,7 @@ mod put;
 mod read;
 mod slots;
 mod values;
+mod weights;
 mod widths;
 mod writing;
 

@@ -6,6 +6,9 @@ ghost use Rattle.defmt_encode.specs.Out.{Puts};
 /// The most bytes of a message.
 pub const MESSAGE_LIMIT: usize = 2000;
 
+/// The byte behind a text of Debug or Display.
+pub const TEXT_END: u8 = 0xff;
+
 /// A message has more than 2,000 bytes.
 #[derive(Clone, Copy, Debug)]
 pub struct Long;

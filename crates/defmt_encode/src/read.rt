@@ -1,34 +1,19 @@
 //! Values read from the bytes of a message.
-ghost use Rattle.std.specs.Prelude.{◌≡◌, ◌≤◌, IfOk};
+ghost use Rattle.std.specs.Prelude.{◌≤◌, length};
 ghost use Rattle.defmt_grammar.specs.Slots.{IsSound};
 ghost use Rattle.defmt_values.specs.Entries.{places_of};
-ghost use Rattle.defmt_encode.specs.Read.{add, each_at, elem_at, elems_at, node_at, list_at, some_at, slot_at, value_at, below};
-ghost use Rattle.defmt_encode.specs.Reads.{ReadsVal, ReadsVals, ReadsElem, ReadsElems, with_vals};
+ghost use Rattle.defmt_encode.specs.Read.{each_at, elem_at, elems_at, indexed_at, node_at, list_at, some_at, member_at, nodes_at, slot_at, value_at, below};
+ghost use Rattle.defmt_encode.specs.Reads.{ReadsVal, ReadsVals, ReadsElem, ReadsElems, ReadsNodes, with_vals};
 
 use crate::cause::{Cause, Fault};
 use crate::field::{index, word};
 use crate::forms::{form_for, variant_of};
 use crate::leaves::read_leaf;
+use crate::weights::add;
 use defmt_grammar::{Kind, Pieces, Slot};
 use defmt_intern::{Parsed, Table};
-use defmt_values::{Args, Item, Items, Node, Seq, Value, cut};
+use defmt_values::{Args, Item, Items, Node, Nodes, Seq, Value, cut};
 use std::alloc::Global;
-
-// The most that the weights of the Format values of a statement come to.
-const WEIGHT_LIMIT: u128 = 8192;
-
-// The sum with one more weight.
-fn add(weight: u128, sum: u128) -> Result<u128, Cause>
-    ensures value { result ≡ add weight sum }
-    ensures small { IfOk result (λ s. weight ≤ 8192) }
-{
-    let total = sum.saturating_add(weight);
-    if total <= WEIGHT_LIMIT {
-        Ok(total)
-    } else {
-        Err(Cause::Many)
-    }
-}
 
 // A value of a slot. At most `left` levels of Format values may still be opened.
 #[cycle(read)]
@@ -56,15 +41,14 @@ fn read_value<'b>(
             let (count, rest) = word(bytes)?;
             read_some(alloc, table, left, count, weight, sum, rest)
         }
-        Slot::One(Kind::FormatArray(count)) => read_some(
-            alloc,
-            table,
-            left,
-            u32::from(count),
-            weight,
-            sum,
-            bytes,
-        ),
+        Slot::One(Kind::FormatArray(count)) => {
+            let count = u32::from(count);
+            read_some(alloc, table, left, count, weight, sum, bytes)
+        }
+        Slot::One(Kind::Sequence) => {
+            let (nodes, sum, rest) = read_nodes(alloc, table, left, weight, sum, bytes)?;
+            Ok((Value::Sequence(nodes), sum, rest))
+        }
         leaf => read_leaf(alloc, table, leaf, sum, bytes),
     }
 }
@@ -83,8 +67,7 @@ fn read_node<'b>(
         (node_at table.now.entries (value_at table.now.entries left) weight sum bytes.now) }
 {
     let (index, rest) = index(bytes)?;
-    let form = form_for(table, index)?;
-    let (item, sum, rest) = read_item(alloc, table, form, left, weight, sum, rest)?;
+    let (item, sum, rest) = read_indexed(alloc, table, index, left, weight, sum, rest)?;
     let Item { variant, args } = item;
     Ok((
         Value::Format(Node {
@@ -95,6 +78,24 @@ fn read_node<'b>(
         sum,
         rest,
     ))
+}
+
+// Behind its index, the variant and the arguments of a Format value, inside which `left` levels may be opened.
+#[cycle(read)]
+fn read_indexed<'b>(
+    alloc: Global,
+    table: &Table,
+    index: u16,
+    left: u8,
+    weight: u128,
+    sum: u128,
+    bytes: &'b [u8],
+) -> Result<(Item, u128, &'b [u8]), Fault>
+    ensures { ReadsElem result (indexed_at table.now.entries
+        (value_at table.now.entries left) index weight sum bytes.now) }
+{
+    let form = form_for(table, index)?;
+    read_item(alloc, table, form, left, weight, sum, bytes)
 }
 
 // A list of so many elements.
@@ -238,4 +239,60 @@ fn read_item<'b>(
     let mut args = Args::new(alloc);
     let (sum, rest) = read_into(alloc, table, pieces, left, weight, sum, rest, &mut args)?;
     Ok((Item { variant, args }, sum, rest))
+}
+
+// The elements of a sequence and the index 0 behind them. There are fewer of them than bytes.
+#[cycle(read)]
+fn read_nodes<'b>(
+    alloc: Global,
+    table: &Table,
+    left: u8,
+    weight: u128,
+    sum: u128,
+    bytes: &'b [u8],
+) -> Result<(Nodes, u128, &'b [u8]), Fault>
+    ensures { ReadsNodes result (nodes_at table.now.entries
+        (below table.now.entries left) (length bytes.now) weight sum bytes.now) }
+{
+    let mut nodes = Nodes::new(alloc);
+    let mut total = sum;
+    let mut rest = bytes;
+    'each: for _ in 0..bytes.len() {
+        let (index, behind) = index(rest)?;
+        if index == 0 {
+            return Ok((nodes, total, behind));
+        }
+        let (item, after_sum, after) = read_member(
+            alloc, table, index, left, weight, total, behind,
+        )?;
+        let Item { variant, args } = item;
+        nodes.push(Node {
+            index,
+            variant,
+            args,
+        })?;
+        total = after_sum;
+        rest = after;
+    }
+    Err(Fault::Bad(Cause::Short))
+}
+
+// An element of a sequence behind its index. At most `left` levels of Format values may still be opened.
+#[cycle(read)]
+fn read_member<'b>(
+    alloc: Global,
+    table: &Table,
+    index: u16,
+    left: u8,
+    weight: u128,
+    sum: u128,
+    bytes: &'b [u8],
+) -> Result<(Item, u128, &'b [u8]), Fault>
+    ensures { ReadsElem result (member_at table.now.entries
+        (below table.now.entries left) index weight sum bytes.now) }
+{
+    if left == 0 {
+        return Err(Fault::Bad(Cause::Deep));
+    }
+    read_indexed(alloc, table, index, left - 1, weight, sum, bytes)
 }

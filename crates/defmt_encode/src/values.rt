@@ -1,16 +1,16 @@
 //! The bytes of values, put one after another.
-ghost use Rattle.std.specs.Prelude.{◌≤◌, ◌++◌, ◌/◌, ◌^◌, length};
+ghost use Rattle.std.specs.Prelude.{◌≤◌, ◌++◌, ◌/◌, ◌^◌, ◌∷◌, [], length};
 ghost use Rattle.byteorder.specs.Endian.{little_bytes};
-ghost use Rattle.defmt_encode.specs.Carry.{length_bytes, window_width, window_first, variant_byte, count_bytes, index_bytes, node_slots, bytes_val, bytes_vals, bytes_elems};
+ghost use Rattle.defmt_encode.specs.Carry.{text_end, text_bytes, length_bytes, window_width, window_first, variant_byte, count_bytes, index_bytes, node_slots, bytes_val, bytes_vals, bytes_elems, bytes_nodes};
 ghost use Rattle.defmt_encode.specs.Out.{Puts};
 ghost use Rattle.defmt_values.specs.View.{plain};
 
-use crate::put::{Long, put, put_bytes, put_number};
+use crate::put::{Long, TEXT_END, put, put_bytes, put_number};
 use crate::slots::node_slots;
-use crate::widths::{int_width, shifted, uint_width, window_first};
+use crate::widths::{float_width, int_width, shifted, uint_width, window_first};
 use defmt_grammar::{Kind, Slot};
 use defmt_intern::Table;
-use defmt_values::{Args, Item, Items, Value, cut};
+use defmt_values::{Args, Item, Items, Node, Nodes, Value, cut};
 
 /// Puts the bytes of a text behind the first `at` of a message, their number in four bytes in front. The buffer has at least 2,000 bytes, of
 /// which `at` are put. Answers how many are put then, or `Long` where these would be more than 2,000: then some of the first are put, or
@@ -33,6 +33,25 @@ pub fn put_slice(out: &mut [u8], at: usize, slot: Slot, bytes: &[u8]) -> Result<
     match slot {
         Slot::One(Kind::Bytes) => put_text(out, at, bytes),
         _ => put_bytes(out, at, bytes),
+    }
+}
+
+// A text and its end.
+fn put_ended(out: &mut [u8], at: usize, bytes: &[u8]) -> Result<usize, Long>
+    requires { (2000 ≤ length out.old) × (at ≤ 2000) }
+    ensures { Puts out.old out.new at result (bytes.now ++ text_end ∷ []) }
+{
+    let at = put_bytes(out, at, bytes)?;
+    put(out, at, TEXT_END)
+}
+
+fn put_str(out: &mut [u8], at: usize, slot: Slot, bytes: &[u8]) -> Result<usize, Long>
+    requires { (2000 ≤ length out.old) × (at ≤ 2000) }
+    ensures { Puts out.old out.new at result (text_bytes slot bytes.now) }
+{
+    match slot {
+        Slot::One(Kind::Debug | Kind::Display) => put_ended(out, at, bytes),
+        _ => put_text(out, at, bytes),
     }
 }
 
@@ -119,23 +138,19 @@ pub fn put_value(
         Value::Int(n) => put_number(out, at, n.cast_unsigned(), int_width(slot)),
         Value::Bool(b) => put(out, at, u8::from(*b)),
         Value::Char(c) => put_number(out, at, u128::from(u32::from(*c)), 4),
-        Value::Str(text) => put_text(out, at, text.as_str().as_bytes()),
+        Value::Str(text) => put_str(out, at, slot, text.as_str().as_bytes()),
         Value::Istr(index) => put_number(out, at, u128::from(*index), 2),
         Value::Bytes(bytes) => put_slice(out, at, slot, bytes.as_slice()),
         Value::Bits(n) => put_window(out, at, slot, *n),
-        Value::Format(node) => {
-            let at = put_head(out, at, node.index, node.variant)?;
-            put_args(
-                table,
-                node_slots(table, node.index, node.variant),
-                &node.args,
-                out,
-                at,
-            )
-        }
+        Value::Format(node) => put_node(table, node, out, at),
         Value::Seq(seq) => {
             let at = put_list_head(out, at, slot, seq.items.len(), seq.index)?;
             put_items(table, seq.index.unwrap_or(0), &seq.items, out, at)
+        }
+        Value::Float(bits) => put_number(out, at, u128::from(*bits), float_width(slot)),
+        Value::Sequence(nodes) => {
+            let at = put_nodes(table, nodes, out, at)?;
+            put_number(out, at, 0, 2)
         }
     }
 }
@@ -207,6 +222,39 @@ fn put_items(
     let mut end = at;
     'each: while let Some((item, more)) = cut(rest) {
         end = put_item(table, index, item, out, end)?;
+        rest = more;
+    }
+    Ok(end)
+}
+
+// A Format value: its index, its variant where it has one, and its arguments.
+#[cycle(put)]
+fn put_node(table: &Table, node: &Node, out: &mut [u8], at: usize) -> Result<usize, Long>
+    requires { (2000 ≤ length out.old) × (at ≤ 2000) }
+    ensures { Puts out.old out.new at result
+        ((little_bytes 2 node.now.index ++ variant_byte node.now.variant)
+        ++ bytes_vals table.now.entries
+        (node_slots table.now.entries node.now.index node.now.variant) node.now.args) }
+{
+    let at = put_head(out, at, node.index, node.variant)?;
+    put_args(
+        table,
+        node_slots(table, node.index, node.variant),
+        &node.args,
+        out,
+        at,
+    )
+}
+
+#[cycle(put)]
+fn put_nodes(table: &Table, nodes: &Nodes, out: &mut [u8], at: usize) -> Result<usize, Long>
+    requires { (2000 ≤ length out.old) × (at ≤ 2000) }
+    ensures { Puts out.old out.new at result (bytes_nodes table.now.entries nodes.now) }
+{
+    let mut rest = nodes.as_slice();
+    let mut end = at;
+    'each: while let Some((node, more)) = cut(rest) {
+        end = put_node(table, node, out, end)?;
         rest = more;
     }
     Ok(end)

@@ -1,8 +1,8 @@
 //! How many bytes the numbers of a slot have.
 ghost use Rattle.std.specs.Prelude.{◌≡◌, ◌≤◌, ◌/◌, ◌^◌};
-ghost use Rattle.defmt_encode.specs.Carry.{size_bytes, uint_width, int_width, window_first};
+ghost use Rattle.defmt_encode.specs.Carry.{size_bytes, uint_width, int_width, float_width, window_first};
 
-use defmt_grammar::{IntSize, Kind, Slot};
+use defmt_grammar::{FloatSize, IntSize, Kind, Slot};
 use defmt_values::power;
 
 /// How many bytes an integer of a size has. Native integers have four. Takes no memory.
@@ -36,6 +36,16 @@ pub(crate) fn int_width(slot: Slot) -> u8
 {
     match slot {
         Slot::One(Kind::Int(size)) => size_bytes(size),
+        _ => 0,
+    }
+}
+
+pub(crate) fn float_width(slot: Slot) -> u8
+    ensures { result ≡ float_width slot }
+{
+    match slot {
+        Slot::One(Kind::Float(FloatSize::W32)) => 4,
+        Slot::One(Kind::Float(FloatSize::W64)) => 8,
         _ => 0,
     }
 }

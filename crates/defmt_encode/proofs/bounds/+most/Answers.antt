@@ -1,7 +1,7 @@
 use Rattle.std.proofs.Common.{◌≡◌, ◌≤◌, ◌+◌, ℕ, map, sym, subst, arith}
-use Rattle.defmt_values.specs.View.{plain, vals_of, elems_of}
+use Rattle.defmt_values.specs.View.{plain, vals_of, elems_of, nodes_of}
 use Rattle.defmt_encode.specs.Out.{HasAtMost, HaveAtMost}
-use Rattle.defmt_encode.proofs.Most.{Above, AboveEach, above_more, above_all, each_more, each_all, vals_smaller, elems_smaller, uint_most, int_most, flag_most, char_most, istr_most, str_most, bytes_most, format_most, seq_most}
+use Rattle.defmt_encode.proofs.Most.{Above, AboveEach, AboveNodes, above_more, above_all, each_more, each_all, each_node_more, each_node_all, vals_smaller, elems_smaller, nodes_smaller, uint_most, int_most, flag_most, char_most, istr_most, str_most, float_most, bytes_most, format_most, seq_most, sequence_most}
 use Rattle.defmt_encode.proofs.bounds.+most.Goals as goal
 
 pub most_bytes-returns-in-Bool : goal.most_bytes-returns-in-Bool
@@ -37,6 +37,15 @@ most_bytes-returns-in-Seq t c = λ few.
     let low : c.most_of_each.result ≤ 2000 = omega (arith, few, within) in
     rw c.in-Seq.is (seq_most c.in-Seq.seq.index c.in-Seq.seq.items c.most_of_each.result c.saturating_add-in-Seq.result within (c.most_of_each.ensures low))
 
+pub most_bytes-returns-in-Float : goal.most_bytes-returns-in-Float
+most_bytes-returns-in-Float t c = λ few. rw c.in-Float.is (float_most c.in-Float.field-0)
+
+pub most_bytes-returns-in-Sequence : goal.most_bytes-returns-in-Sequence
+most_bytes-returns-in-Sequence t c = λ few.
+    let within : c.most_of_nodes.result + 2 ≤ c.saturating_add-in-Sequence.result = omega (arith, few) in
+    let low : c.most_of_nodes.result ≤ 2000 = omega (arith, few, within) in
+    rw c.in-Sequence.is (sequence_most c.in-Sequence.nodes c.most_of_nodes.result c.saturating_add-in-Sequence.result within (c.most_of_nodes.ensures low))
+
 pub most_of-each-preserved : goal.most_of-each-preserved
 most_of-each-preserved t c = record {
   smaller = vals_smaller c.each.values.now c.in-Some.more.now c.in-Some.value.now c.in-Some.ensures _ c.each.invariant.smaller;
@@ -64,3 +73,17 @@ most_of_each-each-preserved t c = record {
 
 pub most_of_each-returns : goal.most_of_each-returns
 most_of_each-returns t c = λ few. each_all c.args.items.now c.each.rest.now c.each.most c.in_default.ensures (c.each.invariant.above few)
+
+pub most_of_nodes-each-preserved : goal.most_of_nodes-each-preserved
+most_of_nodes-each-preserved t c = record {
+  smaller = nodes_smaller c.each.rest.now c.in-Some.more.now c.in-Some.node.now c.in-Some.ensures _ c.each.invariant.smaller;
+  above = λ few.
+      let sum : c.saturating_add-most.result ≡ c.each.most + c.most_of.result + 3 = omega (arith, few) in
+      let low : c.each.most ≤ 2000 = omega (arith, few) in
+      let one : HaveAtMost c.in-Some.node.now.args c.most_of.result = c.most_of.ensures (omega (arith, few)) in
+      subst (λ (k : ℕ). AboveNodes c.args.nodes.now (nodes_of c.in-Some.more.now) k) (sym sum)
+      (each_node_more c.args.nodes.now c.each.rest.now c.in-Some.more.now c.in-Some.node.now c.each.most c.most_of.result c.in-Some.ensures one (c.each.invariant.above low));
+}
+
+pub most_of_nodes-returns : goal.most_of_nodes-returns
+most_of_nodes-returns t c = λ few. each_node_all c.args.nodes.now c.each.rest.now c.each.most c.in_default.ensures (c.each.invariant.above few)

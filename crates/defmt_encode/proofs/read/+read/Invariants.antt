@@ -1,8 +1,8 @@
 use Rattle.std.proofs.Common.{◌≡◌, ◌≤◌, ◌+◌, ◌*◌, ◌-◌, length, All}
 use Rattle.defmt_grammar.specs.Slots.{IsSound}
 use Rattle.defmt_values.specs.Entries.{places_of, places_from}
-use Rattle.defmt_encode.specs.Read.{each_at, elems_at, value_at}
-use Rattle.defmt_encode.proofs.Joins.{before_vals, before_elems}
+use Rattle.defmt_encode.specs.Read.{each_at, elems_at, nodes_at, value_at, below}
+use Rattle.defmt_encode.proofs.Joins.{before_vals, before_elems, before_nodes}
 use Rattle.defmt_encode.proofs.read.+read.Given as goal
 
 abbrev pub decreases-read_value : goal.decreases-read_value
@@ -18,7 +18,16 @@ abbrev pub decreases-read_item : goal.decreases-read_item
 decreases-read_item l = 10 * l.left + 7
 
 abbrev pub decreases-read_node : goal.decreases-read_node
-decreases-read_node l = 10 * l.left + 8
+decreases-read_node l = 10 * l.left + 9
+
+abbrev pub decreases-read_indexed : goal.decreases-read_indexed
+decreases-read_indexed l = 10 * l.left + 8
+
+abbrev pub decreases-read_nodes : goal.decreases-read_nodes
+decreases-read_nodes l = 10 * l.left + 2
+
+abbrev pub decreases-read_member : goal.decreases-read_member
+decreases-read_member l = 10 * l.left + 1
 
 abbrev pub decreases-read_items : goal.decreases-read_items
 decreases-read_items l = 10 * l.left + 8
@@ -38,3 +47,6 @@ decreases-read_into-each l = length l.slots
 
 abbrev pub invariant-read_items-each : goal.invariant-read_items-each
 invariant-read_items-each l = before_elems l.items (elems_at (value_at l.table.entries l.left) l.form (l.count - l.counter) l.weight l.total l.rest) ≡ elems_at (value_at l.table.entries l.left) l.form l.count l.weight l.sum l.bytes
+
+abbrev pub invariant-read_nodes-each : goal.invariant-read_nodes-each
+invariant-read_nodes-each l = before_nodes l.nodes (nodes_at l.table.entries (below l.table.entries l.left) (length l.bytes - l.counter) l.weight l.total l.rest) ≡ nodes_at l.table.entries (below l.table.entries l.left) (length l.bytes) l.weight l.sum l.bytes

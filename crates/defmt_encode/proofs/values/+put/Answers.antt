@@ -5,7 +5,8 @@ use Rattle.defmt_values.specs.View.{plain}
 use Rattle.byteorder.specs.Endian.{little_bytes}
 use Rattle.defmt_values.specs.Plain.{elems_len}
 use Rattle.defmt_values.specs.Scan.{index_or}
-use Rattle.defmt_encode.specs.Carry.{bytes_val, bytes_vals, bytes_elems, variant_byte, count_bytes, index_bytes, node_slots}
+use Rattle.defmt_values.specs.declared.value.Node.{Node}
+use Rattle.defmt_encode.specs.Carry.{bytes_val, bytes_vals, bytes_elems, bytes_nodes, variant_byte, count_bytes, index_bytes, node_slots}
 use Rattle.defmt_encode.proofs.Chain.{refused_more, chain}
 use Rattle.defmt_encode.proofs.Puts as puts
 use Rattle.defmt_encode.proofs.values.+put.Goals as goal
@@ -80,24 +81,60 @@ put_item-returns t c =
     let args = rw c.node_slots.ensures at c.put_args.ensures in
     chain c.args.out.now c.put_variant.new.out c.put_args.new.out c.args.at c.in_ok-at.at c.put_args.result (variant_byte c.args.item.now.variant) (bytes_vals c.args.table.now.entries (node_slots c.args.table.now.entries c.args.index c.args.item.now.variant) c.args.item.now.args) c.in_ok-at.ensures args
 
-pub put_value-returns-in_err-at-in-Format : goal.put_value-returns-in_err-at-in-Format
-unfolding bytes_val
-put_value-returns-in_err-at-in-Format t c =
+pub put_node-returns-in_err-at : goal.put_node-returns-in_err-at
+put_node-returns-in_err-at t c =
     let p = err_from_is_err_and c.from_residual.result c.from_residual.ensures.1 in
-    rw (p.1, c.in-Format.is)
-    (refused_more c.args.out.now c.put_head.new.out c.args.at (little_bytes 2 c.in-Format.node.index ++ variant_byte c.in-Format.node.variant) (bytes_vals c.args.table.now.entries (node_slots c.args.table.now.entries c.in-Format.node.index c.in-Format.node.variant) c.in-Format.node.args) c.in_err-at-in-Format.ensures)
+    rw p.1
+    (refused_more c.args.out.now c.put_head.new.out c.args.at (little_bytes 2 c.args.node.now.index ++ variant_byte c.args.node.now.variant) (bytes_vals c.args.table.now.entries (node_slots c.args.table.now.entries c.args.node.now.index c.args.node.now.variant) c.args.node.now.args) c.in_err-at.ensures)
 
-pub put_value-returns-in_ok-at-in-Format : goal.put_value-returns-in_ok-at-in-Format
-unfolding bytes_val
-put_value-returns-in_ok-at-in-Format t c =
+pub put_node-returns : goal.put_node-returns
+put_node-returns t c =
     let args = rw c.node_slots.ensures at c.put_args.ensures in
-    rw c.in-Format.is
-    (chain c.args.out.now c.put_head.new.out c.put_args.new.out c.args.at c.in_ok-at-in-Format.at c.put_args.result (little_bytes 2 c.in-Format.node.index ++ variant_byte c.in-Format.node.variant) (bytes_vals c.args.table.now.entries (node_slots c.args.table.now.entries c.in-Format.node.index c.in-Format.node.variant) c.in-Format.node.args) c.in_ok-at-in-Format.ensures args)
+    chain c.args.out.now c.put_head.new.out c.put_args.new.out c.args.at c.in_ok-at.at c.put_args.result (little_bytes 2 c.args.node.now.index ++ variant_byte c.args.node.now.variant) (bytes_vals c.args.table.now.entries (node_slots c.args.table.now.entries c.args.node.now.index c.args.node.now.variant) c.args.node.now.args) c.in_ok-at.ensures args
+
+pub put_nodes-returns-in_err-end : goal.put_nodes-returns-in_err-end
+put_nodes-returns-in_err-end t c =
+    let p = err_from_is_err_and c.from_residual.result c.from_residual.ensures.1 in
+    rw p.1 (puts.passes c.args.out.now c.each.out c.put_node.new.out c.args.at c.each.end c.each.invariant.done _ _ _ _
+    (puts.nodes_step c.args.table.now.entries c.each.rest.now c.in-Some.more.now c.in-Some.node.now c.in-Some.ensures)
+    c.each.invariant.joins c.each.invariant.wrote c.in_err-end.ensures)
+
+pub put_nodes-each-preserved : goal.put_nodes-each-preserved
+put_nodes-each-preserved t c =
+    let x : Node = c.in-Some.node.now in
+    let one : List ℕ = (little_bytes 2 x.index ++ variant_byte x.variant) ++ bytes_vals c.args.table.now.entries (node_slots c.args.table.now.entries x.index x.variant) x.args in
+    record {
+      room = omega arith;
+      smaller = puts.nodes_smaller c.args.table.now.entries c.each.rest.now c.in-Some.more.now c.in-Some.node.now c.in-Some.ensures _ c.each.invariant.smaller;
+      done = c.each.invariant.done ++ one;
+      wrote = chain c.args.out.now c.each.out c.put_node.new.out c.args.at c.each.end (Ok c.in_ok-end.end) c.each.invariant.done one c.each.invariant.wrote c.in_ok-end.ensures;
+      joins = puts.joins_on c.each.invariant.done one _ _ _
+          (puts.nodes_step c.args.table.now.entries c.each.rest.now c.in-Some.more.now c.in-Some.node.now c.in-Some.ensures)
+          c.each.invariant.joins;
+    }
+
+pub put_nodes-returns : goal.put_nodes-returns
+put_nodes-returns t c =
+    puts.done_all c.args.out.now c.each.out c.args.at c.each.end c.each.invariant.done _ _ c.each.invariant.wrote c.each.invariant.joins
+    (puts.nodes_none c.args.table.now.entries c.each.rest.now c.in_default.ensures)
+
+pub put_value-returns-in_err-at-in-Sequence : goal.put_value-returns-in_err-at-in-Sequence
+unfolding bytes_val
+put_value-returns-in_err-at-in-Sequence t c =
+    let p = err_from_is_err_and c.from_residual-in_err-at-in-Sequence.result c.from_residual-in_err-at-in-Sequence.ensures.1 in
+    rw (p.1, c.in-Sequence.is)
+    (refused_more c.args.out.now c.put_nodes.new.out c.args.at (bytes_nodes c.args.table.now.entries c.in-Sequence.nodes) (little_bytes 2 0) c.in_err-at-in-Sequence.ensures)
+
+pub put_value-returns-in_ok-at-in-Sequence : goal.put_value-returns-in_ok-at-in-Sequence
+unfolding bytes_val
+put_value-returns-in_ok-at-in-Sequence t c =
+    rw c.in-Sequence.is
+    (chain c.args.out.now c.put_nodes.new.out c.put_number-in-Sequence.new.out c.args.at c.in_ok-at-in-Sequence.at c.put_number-in-Sequence.result (bytes_nodes c.args.table.now.entries c.in-Sequence.nodes) (little_bytes 2 0) c.in_ok-at-in-Sequence.ensures c.put_number-in-Sequence.ensures.puts)
 
 pub put_value-returns-in_err-at-in-Seq : goal.put_value-returns-in_err-at-in-Seq
 unfolding bytes_val
 put_value-returns-in_err-at-in-Seq t c =
-    let p = err_from_is_err_and c.from_residual-in_err-at-in-Seq.result c.from_residual-in_err-at-in-Seq.ensures.1 in
+    let p = err_from_is_err_and c.from_residual.result c.from_residual.ensures.1 in
     let head = rw c.len.ensures at c.in_err-at-in-Seq.ensures in
     rw (p.1, c.in-Seq.is)
     (refused_more c.args.out.now c.put_list_head.new.out c.args.at (count_bytes c.args.slot (elems_len c.in-Seq.seq.items) ++ index_bytes c.in-Seq.seq.index) (bytes_elems c.args.table.now.entries (index_or c.in-Seq.seq.index) c.in-Seq.seq.items) head)
