@@ -8,11 +8,12 @@ use Rattle.defmt_grammar.specs.declared.kind.Kind.{Kind}
 use Rattle.defmt_grammar.specs.declared.piece.Piece.{Piece}
 use Rattle.defmt_hints.specs.Printed.{parted}
 use Rattle.defmt_intern.specs.Table.{Map}
-use Rattle.defmt_values.specs.Plain.{Val, Vals, no_vals, val, vals_get, val_size, vals_size, elems_size}
-use Rattle.defmt_values.specs.View.{elems_of}
+use Rattle.defmt_values.specs.Plain.{Val, Vals, no_vals, val, vals_get, val_size, vals_size, elems_size, nodes_size}
+use Rattle.defmt_values.specs.View.{elems_of, nodes_of}
 use Rattle.defmt_values.specs.declared.value.Item.{Item}
+use Rattle.defmt_values.specs.declared.value.Node.{Node}
 use Rattle.defmt_eager.specs.Answers.{comma}
-use Rattle.defmt_eager.specs.Show.{Shown, show_val, shows, show_elems, acting, pieces_text, piece_text, node_pieces, param_text}
+use Rattle.defmt_eager.specs.Show.{Shown, show_val, shows, show_elems, show_nodes, acting, pieces_text, piece_text, node_pieces, param_text}
 
 -- ---- the text of a parameter
 
@@ -69,3 +70,16 @@ elems_none t i hint first items p = rw p (joined_none first)
 
 pub elems_smaller : (items more : List Item) (x : Item) (n : ℕ) → items ≡ x ∷ more → elems_size (elems_of items) ≤ n → elems_size (elems_of more) ≤ n
 elems_smaller items more x n p h = let e = ap (λ (xs : List Item). elems_size (elems_of xs)) p in omega (arith, e)
+
+-- ---- sequences
+
+pub nodes_step : (t : Map) (hint : Hint) (nodes more : List Node) (x : Node) → nodes ≡ x ∷ more → show_nodes t hint (nodes_of nodes) ≡ pieces_text hint (node_pieces t x.index x.variant) (shows t x.args) ++ show_nodes t hint (nodes_of more)
+unfolding show_nodes
+nodes_step t hint nodes more x p = rw p refl
+
+pub nodes_none : (t : Map) (hint : Hint) (nodes : List Node) → nodes ≡ [] → show_nodes t hint (nodes_of nodes) ≡ []
+unfolding show_nodes
+nodes_none t hint nodes p = rw p refl
+
+pub nodes_smaller : (nodes more : List Node) (x : Node) (n : ℕ) → nodes ≡ x ∷ more → nodes_size (nodes_of nodes) ≤ n → nodes_size (nodes_of more) ≤ n
+nodes_smaller nodes more x n p h = let e = ap (λ (xs : List Node). nodes_size (nodes_of xs)) p in omega (arith, e)

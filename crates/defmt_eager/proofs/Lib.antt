@@ -1,5 +1,6 @@
 pub mod Appends
 pub mod Bounds
+pub mod ByteBounds
 pub mod Fronts
 pub mod Parts
 mod PieceBounds

@@ -6,14 +6,15 @@ use Rattle.defmt_grammar.specs.declared.kind.Kind.{Kind}
 use Rattle.defmt_grammar.specs.declared.piece.Piece.{Piece}
 use Rattle.defmt_hints.specs.Printed.{printed_str, list_text, parted}
 use Rattle.defmt_intern.specs.Table.{Map}
-use Rattle.defmt_values.specs.Plain.{Val, Vals, Elems, vals_get}
+use Rattle.defmt_values.specs.Plain.{Val, Vals, Elems, Nodes, vals_get}
 use Rattle.defmt_values.specs.Scan.{index_or}
-use Rattle.defmt_values.specs.View.{elems_of}
+use Rattle.defmt_values.specs.View.{elems_of, nodes_of}
 use Rattle.defmt_values.specs.declared.value.Item.{Item}
+use Rattle.defmt_values.specs.declared.value.Node.{Node}
 use Rattle.defmt_eager.specs.Answers.{comma}
 use Rattle.defmt_eager.specs.Line.{printed_limit}
-use Rattle.defmt_eager.specs.Show.{Shown, acting, node_pieces, param_text, piece_text, pieces_text, show_val, show_elems, shows}
-use Rattle.defmt_eager.proofs.Appends.{param_none, param_some, pieces_step, joined, elems_step}
+use Rattle.defmt_eager.specs.Show.{Shown, acting, node_pieces, param_text, piece_text, pieces_text, show_val, show_elems, show_nodes, shows}
+use Rattle.defmt_eager.proofs.Appends.{param_none, param_some, pieces_step, joined, elems_step, nodes_step}
 use Rattle.defmt_eager.proofs.Bounds.{str_most}
 
 -- ---- pieces
@@ -56,6 +57,17 @@ parted_few (x ∷ xs) =
 pub list_few : (xs : List (List ℕ)) (most : ℕ) → 2 + length (joined false xs) ≤ most + 0 → length (list_text xs) ≤ most
 unfolding list_text
 list_few xs most h = omega (arith, parted_few xs, length-append (codes "[") (parted xs ++ codes "]"), length-append (parted xs) (codes "]"), h)
+
+-- ---- sequences
+
+-- the same of the elements of a sequence
+pub node_more : (t : Map) (hint : Hint) (all : Nodes) (rest more : List Node) (x : Node) (most one sum : ℕ) → rest ≡ x ∷ more → length (pieces_text hint (node_pieces t x.index x.variant) (shows t x.args)) ≤ one → sum ≡ most + one + 0
+    → ((n : ℕ) → length (show_nodes t hint (nodes_of rest)) ≤ n → length (show_nodes t hint all) ≤ most + n)
+    → (n : ℕ) → length (show_nodes t hint (nodes_of more)) ≤ n → length (show_nodes t hint all) ≤ sum + n
+node_more t hint all rest more x most one sum e few is above n h =
+    let text : List ℕ = pieces_text hint (node_pieces t x.index x.variant) (shows t x.args) in
+    let here : length (show_nodes t hint (nodes_of rest)) ≤ one + n = omega (arith, ap length (nodes_step t hint rest more x e), length-append text (show_nodes t hint (nodes_of more)), few, h) in
+    omega (arith, above (one + n) here, is)
 
 -- ---- interned strings
 

@@ -1,7 +1,7 @@
 -- What the calls answer.
 use Rattle.std.specs.Prelude.{◌≡◌, ◌≤◌, ◌<◌, ◌⊎◌, ℕ, ◌+◌, List, [], ◌++◌, Bool, codes, length, Option, Some, None, Result, Ok, Err, if◌then◌else◌}
 use Rattle.std.specs.Str.{IsUtf8}
-use Rattle.defmt_eager.specs.Line.{printed_limit, stamp_text, front_text, front_sizes, sizes_at, eager_line, IsLong, IsWide}
+use Rattle.defmt_eager.specs.Line.{printed_limit, stamp_text, front_text, front_sizes, eager_line, IsLong, IsWide}
 use Rattle.defmt_eager.specs.Show.{eager_text}
 use Rattle.defmt_eager.specs.declared.eager.EagerFault.{EagerFault}
 use Rattle.defmt_eager.specs.declared.eager.EagerFault.TheVariants.{Wide, Memory}
@@ -93,4 +93,5 @@ comma first = if first then [] else codes ", "
 -- more bytes than a number, a truth value or a character has under a hint: 300, and the zeros of a width
 abbrev pub most_bytes : Hint → ℕ
 most_bytes (hints.Radix base alt width) = 300 + width
+most_bytes (hints.Pad width) = 300 + width
 most_bytes hint = 300

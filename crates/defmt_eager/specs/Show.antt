@@ -1,6 +1,6 @@
 -- The text of statements (defmt book, "Display hints"). It knows nothing of messages as bytes: a value is printed as it
 -- stands, by the pieces of the entries that it names.
-use Rattle.std.specs.Prelude.{ℕ, ℤ, List, [], ◌∷◌, ◌++◌, Option, None, Some, Result, Ok, Err, if◌then◌else◌}
+use Rattle.std.specs.Prelude.{◌^◌, ℕ, ℤ, nat_lt, List, [], ◌∷◌, ◌++◌, Option, None, Some, Result, Ok, Err, if◌then◌else◌}
 use Rattle.std.specs.List.{slice_get}
 use Rattle.defmt_grammar.specs.declared.hint.Hint.{Hint}
 use Rattle.defmt_grammar.specs.declared.hint.Hint.TheVariants as hints
@@ -8,13 +8,13 @@ use Rattle.defmt_grammar.specs.declared.kind.Kind.{Kind}
 use Rattle.defmt_grammar.specs.declared.kind.Kind.TheVariants as kinds
 use Rattle.defmt_grammar.specs.declared.piece.Piece.{Piece}
 use Rattle.defmt_grammar.specs.declared.piece.Piece.TheVariants.{Literal, Param}
-use Rattle.defmt_hints.specs.Printed.{printed_uint, printed_int, printed_bits, printed_bool, printed_char, printed_str, printed_bytes, list_text}
+use Rattle.defmt_hints.specs.Printed.{printed_uint, printed_int, printed_bits, printed_bool, printed_char, printed_str, printed_bytes, printed_float, list_text}
 use Rattle.defmt_intern.specs.Table.{Map}
 use Rattle.defmt_intern.specs.declared.entry.Entry.{Entry}
 use Rattle.defmt_values.specs.Entries.{look}
-use Rattle.defmt_values.specs.Plain.{Val, uint, int, flag, char, str, istr, bytes, bits, format, seq, Vals, no_vals, val, Elems, no_elems, elem}
+use Rattle.defmt_values.specs.Plain.{Val, uint, int, flag, char, str, istr, bytes, bits, format, seq, float, sequence, Vals, no_vals, val, Elems, no_elems, elem, Nodes, no_nodes, node}
 use Rattle.defmt_values.specs.Scan.{◌>>=◌, form_at, pick, own_form, index_or}
-use Rattle.defmt_grammar.specs.Sizes.{size_bits, is_signed}
+use Rattle.defmt_grammar.specs.Sizes.{size_bits, float_bits, is_signed}
 
 -- the text of one value, for each kind of parameter that may stand for it and each hint that may act on it
 abbrev pub Shown : Type 0
@@ -36,7 +36,7 @@ node_pieces t index variant = pieces_in (form_at t index >>= λ form. pick form 
 
 -- the pieces of a statement's entry
 abbrev pub own_pieces : Map → ℕ → List Piece
-own_pieces t index = pieces_in (own_form (look t index))
+own_pieces t index = pieces_in (own_form t.language (look t index))
 
 -- the hint that acts on a parameter: its own, or where that is plain the one that acts round it
 abbrev pub acting : Hint → Hint → Hint
@@ -71,22 +71,35 @@ abbrev pub bits_text : Kind → ℕ → Hint → List ℕ
 bits_text (kinds.Bits lo hi) n hint = printed_bits n lo hi hint
 bits_text kind n hint = []
 
+-- A float prints in the size of its kind. Where a statement fits, its bits are of that size.
+abbrev pub float_text : Kind → ℕ → List ℕ
+float_text (kinds.Float size) n = if nat_lt n (2 ^ float_bits size) then printed_float size n else []
+float_text kind n = []
+
+-- what a device has printed by itself stands as it is, under every hint
+abbrev pub text_hint : Kind → Hint → Hint
+text_hint kinds.Debug hint = hints.Plain
+text_hint kinds.Display hint = hints.Plain
+text_hint kind hint = hint
+
 -- ---- values
 
 unfoldable mutual
-  -- the text of a value: as the display hints print it, or by the pieces of its entry, or a list of these
+  -- the text of a value: as the display hints print it, or by the pieces of its entry, or a list or a sequence of these
   pub show_val : Map → Val → Shown
   show_val t (uint n) = λ kind hint. printed_uint n hint
   show_val t (int n) = λ kind hint. int_text kind n hint
   show_val t (flag b) = λ kind hint. printed_bool b
   show_val t (char c) = λ kind hint. printed_char c hint
-  show_val t (str s) = λ kind hint. printed_str s hint
+  show_val t (str s) = λ kind hint. printed_str s (text_hint kind hint)
   show_val t (istr index) = λ kind hint. printed_str (interned_text (look t index)) hint
   show_val t (bytes s) = λ kind hint. printed_bytes s hint
   show_val t (bits n) = λ kind hint. bits_text kind n hint
   show_val t (format index variant vs) =
       λ kind hint. pieces_text hint (node_pieces t index variant) (shows t vs)
   show_val t (seq index es) = λ kind hint. list_text (show_elems t (index_or index) hint es)
+  show_val t (float n) = λ kind hint. float_text kind n
+  show_val t (sequence ns) = λ kind hint. show_nodes t hint ns
 
   -- the texts of arguments
   pub shows : Map → Vals → List Shown
@@ -98,6 +111,12 @@ unfoldable mutual
   show_elems t index hint no_elems = []
   show_elems t index hint (elem variant vs es) =
       pieces_text hint (node_pieces t index variant) (shows t vs) ∷ show_elems t index hint es
+
+  -- the texts of the elements of a sequence, one behind the other
+  pub show_nodes : Map → Hint → Nodes → List ℕ
+  show_nodes t hint no_nodes = []
+  show_nodes t hint (node index variant vs ns) =
+      pieces_text hint (node_pieces t index variant) (shows t vs) ++ show_nodes t hint ns
 
 -- the text of a statement, without stamp and level
 abbrev pub eager_text : Map → ℕ → Vals → List ℕ

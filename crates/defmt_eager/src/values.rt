@@ -2,16 +2,16 @@
 
 ghost use Rattle.std.specs.Prelude.{◌≤◌, ◌++◌, length};
 ghost use Rattle.defmt_eager.specs.Answers.{Puts, comma};
-ghost use Rattle.defmt_eager.specs.Show.{node_pieces, show_val, shows, show_elems, pieces_text, piece_text, param_text};
+ghost use Rattle.defmt_eager.specs.Show.{node_pieces, show_val, shows, show_elems, show_nodes, pieces_text, piece_text, param_text};
 ghost use Rattle.defmt_hints.specs.Printed.{list_text, parted};
 ghost use Rattle.defmt_values.specs.View.{plain};
 
-use crate::leaves::{put_bits, put_character, put_signed};
+use crate::leaves::{put_bits, put_character, put_float_of_kind, put_signed, text_hint};
 use crate::pieces::{acting, comma, interned_text, node_pieces};
 use defmt_grammar::{Hint, Kind, Param, Piece};
 use defmt_hints::{put, put_bool, put_bytes, put_str, put_wide_uint};
 use defmt_intern::Table;
-use defmt_values::{Args, Item, Items, Value, cut};
+use defmt_values::{Args, Item, Items, Nodes, Value, cut};
 
 // Writes the text of a value where a parameter of this kind stands, under the hint that acts on it.
 #[cycle(show)]
@@ -33,7 +33,7 @@ fn put_value(
         Value::Bool(value) => put_bool(out, at, *value),
         Value::Char(character) => put_character(out, at, *character, hint),
         Value::Bits(number) => put_bits(out, at, *number, kind, hint),
-        Value::Str(text) => put_str(out, at, text.as_str(), hint),
+        Value::Str(text) => put_str(out, at, text.as_str(), text_hint(kind, hint)),
         Value::Istr(index) => put_str(out, at, interned_text(table, *index), hint),
         Value::Bytes(bytes) => put_bytes(out, at, bytes.as_slice(), hint),
         Value::Format(node) => {
@@ -41,6 +41,8 @@ fn put_value(
             put_pieces(table, out, at, hint, pieces, &node.args)
         }
         Value::Seq(seq) => put_list(table, out, at, hint, seq.index.unwrap_or(0), &seq.items),
+        Value::Float(bits) => put_float_of_kind(out, at, *bits, kind),
+        Value::Sequence(nodes) => put_nodes(table, out, at, hint, nodes),
     }
 }
 
@@ -174,4 +176,21 @@ fn put_list(
     let open = put(out, at, b"[")?;
     let behind = put_items(table, out, open, hint, index, items)?;
     put(out, behind, b"]")
+}
+
+// Writes the elements of a sequence, one behind the other.
+#[cycle(show)]
+fn put_nodes(table: &Table, out: &mut [u8], at: usize, hint: Hint, nodes: &Nodes) -> Option<usize>
+    requires { at ≤ length out.old }
+    ensures { Puts result out.old at out.new (show_nodes table.now.entries hint nodes.now) }
+{
+    let mut place = at;
+    let mut rest = nodes.as_slice();
+    'each: while let Some((node, more)) = cut(rest) {
+        let pieces = node_pieces(table, node.index, node.variant);
+        let end = put_pieces(table, out, place, hint, pieces, &node.args)?;
+        place = end;
+        rest = more;
+    }
+    Some(place)
 }

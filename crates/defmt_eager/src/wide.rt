@@ -3,7 +3,7 @@ ghost use Rattle.std.specs.Prelude.{◌≡◌, ◌≤◌, ◌+◌, ◌*◌, nat_
 ghost use Rattle.std.specs.Bool.{OnTrue};
 ghost use Rattle.defmt_eager.specs.Answers.{most_bytes};
 ghost use Rattle.defmt_eager.specs.Line.{printed_limit};
-ghost use Rattle.defmt_eager.specs.Show.{eager_text, interned_text, piece_text, pieces_text, show_elems, show_val, shows};
+ghost use Rattle.defmt_eager.specs.Show.{eager_text, interned_text, piece_text, pieces_text, show_elems, show_nodes, show_val, shows};
 ghost use Rattle.defmt_grammar.specs.declared.hint.Hint.{Hint as AnyHint};
 ghost use Rattle.defmt_grammar.specs.declared.kind.Kind.{Kind as AnyKind};
 ghost use Rattle.defmt_hints.specs.Printed.{list_text, printed_bytes, printed_str};
@@ -15,7 +15,7 @@ use crate::eager::{EagerFault, PRINTED_LIMIT, text_of};
 use crate::pieces::{acting, interned_text, node_pieces, own_pieces};
 use defmt_grammar::{Hint, Piece};
 use defmt_intern::Table;
-use defmt_values::{Args, Items, Statement, Value, cut};
+use defmt_values::{Args, Items, Nodes, Statement, Value, cut};
 use dl_io::Memory;
 use std::alloc::Global;
 
@@ -25,7 +25,7 @@ pub(crate) fn most_bytes(hint: Hint) -> usize
     ensures few { result ≤ 555 }
 {
     match hint {
-        Hint::Radix { width, .. } => 300 + usize::from(width),
+        Hint::Radix { width, .. } | Hint::Pad(width) => 300 + usize::from(width),
         _ => 300,
     }
 }
@@ -77,7 +77,7 @@ fn value_bound(table: &Table, hint: Hint, value: &Value) -> usize
             let _number = *n;
             number_bound(hint)
         }
-        Value::Int(_) | Value::Bool(_) | Value::Char(_) => number_bound(hint),
+        Value::Int(_) | Value::Bool(_) | Value::Char(_) | Value::Float(_) => number_bound(hint),
         Value::Str(text) => bytes_of(text.len(), 2),
         Value::Bytes(bytes) => bytes_bound(bytes.as_slice(), hint),
         Value::Istr(index) => interned_bound(table, *index),
@@ -86,6 +86,7 @@ fn value_bound(table: &Table, hint: Hint, value: &Value) -> usize
             pieces_bound(table, hint, pieces, &node.args)
         }
         Value::Seq(seq) => list_bound(table, hint, seq.index.unwrap_or(0), &seq.items),
+        Value::Sequence(nodes) => nodes_bound(table, hint, nodes),
     }
 }
 
@@ -134,6 +135,22 @@ fn list_bound(table: &Table, hint: Hint, index: u16, items: &Items) -> usize
         let pieces = node_pieces(table, index, item.variant);
         let one = pieces_bound(table, hint, pieces, &item.args).saturating_add(2);
         most = most.saturating_add(one);
+        rest = more;
+    }
+    most
+}
+
+// The same of a sequence.
+#[cycle(bound)]
+fn nodes_bound(table: &Table, hint: Hint, nodes: &Nodes) -> usize
+    ensures { result ≤ printed_limit
+        → length (show_nodes table.now.entries hint nodes.now) ≤ result }
+{
+    let mut rest = nodes.as_slice();
+    let mut most = 0usize;
+    'each: while let Some((node, more)) = cut(rest) {
+        let pieces = node_pieces(table, node.index, node.variant);
+        most = most.saturating_add(pieces_bound(table, hint, pieces, &node.args));
         rest = more;
     }
     most

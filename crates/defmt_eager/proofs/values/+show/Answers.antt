@@ -3,13 +3,13 @@ use Rattle.std.proofs.lemmas.Grind.{common_steps}
 use Rattle.defmt_eager.proofs.Appends as appends
 use Rattle.defmt_eager.proofs.Parts as parts
 use Rattle.defmt_eager.proofs.PieceBounds.{index_is}
-use Rattle.defmt_eager.proofs.Utf8.{utf8_bits, utf8_close, utf8_comma, utf8_open}
+use Rattle.defmt_eager.proofs.Utf8.{utf8_bits, utf8_close, utf8_comma, utf8_float_text, utf8_open}
 use Rattle.defmt_eager.specs.Answers.{Placed, Puts, comma}
-use Rattle.defmt_eager.specs.Show.{node_pieces, piece_text, pieces_text, show_elems, show_val, shows}
+use Rattle.defmt_eager.specs.Show.{node_pieces, piece_text, pieces_text, show_elems, show_nodes, show_val, shows, text_hint}
 use Rattle.defmt_hints.proofs.Chains.{full_front}
 use Rattle.defmt_hints.proofs.Utf8Laws.{utf8_bool, utf8_bytes, utf8_str, utf8_uint}
 use Rattle.defmt_hints.specs.Printed.{list_text, parted}
-use Rattle.defmt_values.specs.View.{elems_of, plain}
+use Rattle.defmt_values.specs.View.{elems_of, nodes_of, plain}
 use Rattle.defmt_eager.proofs.values.+show.Goals as goal
 
 pub put_value-returns-in-Uint : goal.put_value-returns-in-Uint
@@ -34,7 +34,7 @@ put_value-returns-in-Bits t c = rw c.in-Bits.is (parts.puts_of c.put_bits.result
 
 pub put_value-returns-in-Str : goal.put_value-returns-in-Str
 unfolding show_val
-put_value-returns-in-Str t c = rw c.in-Str.is (parts.puts_of c.put_str.result _ _ _ _ (utf8_str _ c.args.hint c.as_str.ensures.utf8) (rw c.as_str.ensures.text at c.put_str.ensures))
+put_value-returns-in-Str t c = rw c.in-Str.is (parts.puts_of c.put_str.result _ _ _ _ (utf8_str _ (text_hint c.args.kind c.args.hint) c.as_str.ensures.utf8) (rw (c.as_str.ensures.text, c.text_hint.ensures) at c.put_str.ensures))
 
 pub put_value-returns-in-Istr : goal.put_value-returns-in-Istr
 unfolding show_val
@@ -53,6 +53,14 @@ unfolding show_val
 put_value-returns-in-Seq t c =
     rw c.in-Seq.is (subst (λ (i : ℕ). Puts c.put_list.result c.args.out.now c.args.at c.put_list.new.out (list_text (show_elems c.args.table.now.entries i c.args.hint c.in-Seq.seq.items)))
     (c.unwrap_or.ensures ∙ index_is c.in-Seq.seq.index) c.put_list.ensures)
+
+pub put_value-returns-in-Float : goal.put_value-returns-in-Float
+unfolding show_val
+put_value-returns-in-Float t c = rw c.in-Float.is (parts.puts_of c.put_float_of_kind.result _ _ _ _ (utf8_float_text c.args.kind _) c.put_float_of_kind.ensures)
+
+pub put_value-returns-in-Sequence : goal.put_value-returns-in-Sequence
+unfolding show_val
+put_value-returns-in-Sequence t c = rw c.in-Sequence.is c.put_nodes.ensures
 
 pub put_param-returns-in-None : goal.put_param-returns-in-None
 put_param-returns-in-None t c =
@@ -130,3 +138,21 @@ put_list-returns t c =
     let xs : List (List ℕ) = show_elems c.args.table.now.entries c.args.index c.args.hint c.args.items.now in
     parts.puts_two c.put-2.result c.put-2.new.out (codes "[") (parted xs ++ codes "]") c.requires (parts.placed utf8_open c.in_ok-open.ensures)
     (parts.puts_two c.put-2.result c.put-2.new.out (parted xs) (codes "]") (parts.placed_length c.requires (parts.placed utf8_open c.in_ok-open.ensures)).1 c.in_ok-behind.ensures (parts.puts_of c.put-2.result _ _ _ _ utf8_close c.put-2.ensures))
+
+pub put_nodes-each-preserved : goal.put_nodes-each-preserved
+put_nodes-each-preserved t c = record {
+  smaller = appends.nodes_smaller c.each.rest.now c.in-Some.more.now c.in-Some.node.now _ c.in-Some.ensures c.each.invariant.smaller;
+  pending = parts.pending_step (pieces_text c.args.hint (node_pieces c.args.table.now.entries c.in-Some.node.now.index c.in-Some.node.now.variant) (shows c.args.table.now.entries c.in-Some.node.now.args))
+      (show_nodes c.args.table.now.entries c.args.hint (nodes_of c.in-Some.more.now))
+      (appends.nodes_step c.args.table.now.entries c.args.hint c.each.rest.now c.in-Some.more.now c.in-Some.node.now c.in-Some.ensures) c.each.invariant.pending (rw c.node_pieces-pieces.ensures at c.in_ok-end.ensures);
+}
+
+pub put_nodes-returns-in_err-end : goal.put_nodes-returns-in_err-end
+put_nodes-returns-in_err-end t c =
+    rw c.from_residual.ensures (parts.pending_full (pieces_text c.args.hint (node_pieces c.args.table.now.entries c.in-Some.node.now.index c.in-Some.node.now.variant) (shows c.args.table.now.entries c.in-Some.node.now.args))
+    (show_nodes c.args.table.now.entries c.args.hint (nodes_of c.in-Some.more.now))
+    (appends.nodes_step c.args.table.now.entries c.args.hint c.each.rest.now c.in-Some.more.now c.in-Some.node.now c.in-Some.ensures) c.each.invariant.pending (rw c.node_pieces-pieces.ensures at c.in_err-end.ensures))
+
+pub put_nodes-returns : goal.put_nodes-returns
+put_nodes-returns t c =
+    parts.pending_end (appends.nodes_none c.args.table.now.entries c.args.hint c.each.rest.now c.in_default.ensures) c.each.invariant.pending

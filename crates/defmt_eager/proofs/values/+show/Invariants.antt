@@ -1,8 +1,8 @@
 use Rattle.std.proofs.Common.{◌≤◌, ◌+◌, ◌*◌, length}
 use Rattle.defmt_hints.specs.Printed.{parted}
-use Rattle.defmt_values.specs.Plain.{val_size, vals_size, elems_size}
-use Rattle.defmt_values.specs.View.{plain, elems_of}
-use Rattle.defmt_eager.specs.Show.{shows, show_elems, pieces_text}
+use Rattle.defmt_values.specs.Plain.{val_size, vals_size, elems_size, nodes_size}
+use Rattle.defmt_values.specs.View.{plain, elems_of, nodes_of}
+use Rattle.defmt_eager.specs.Show.{shows, show_elems, show_nodes, pieces_text}
 use Rattle.defmt_eager.proofs.Appends.{joined}
 use Rattle.defmt_eager.proofs.Parts.{Pending}
 use Rattle.defmt_eager.proofs.values.+show.Given as goal
@@ -42,3 +42,15 @@ invariant-put_items-each l = record {
 
 abbrev pub decreases-put_items-each : goal.decreases-put_items-each
 decreases-put_items-each l = length l.rest
+
+abbrev pub decreases-put_nodes : goal.decreases-put_nodes
+decreases-put_nodes l = 4 * nodes_size l.nodes.now + 1
+
+abbrev pub invariant-put_nodes-each : goal.invariant-put_nodes-each
+invariant-put_nodes-each l = record {
+  smaller : nodes_size (nodes_of l.rest) ≤ nodes_size l.nodes;
+  pending : Pending l.fn.out l.at (show_nodes l.table.entries l.hint l.nodes) l.out l.place (show_nodes l.table.entries l.hint (nodes_of l.rest));
+}
+
+abbrev pub decreases-put_nodes-each : goal.decreases-put_nodes-each
+decreases-put_nodes-each l = length l.rest

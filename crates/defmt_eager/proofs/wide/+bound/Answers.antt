@@ -1,15 +1,15 @@
 use Rattle.std.proofs.Common.{◌≡◌, ◌≤◌, ◌+◌, arith, ap, false, length}
 use Rattle.defmt_values.specs.View.{plain}
 use Rattle.defmt_eager.specs.Line.{printed_limit}
-use Rattle.defmt_eager.specs.Show.{shows, show_val, show_elems}
-use Rattle.defmt_eager.proofs.Appends.{pieces_none, elems_none, elems_smaller, size_get}
+use Rattle.defmt_eager.specs.Show.{shows, show_val, show_elems, text_hint}
+use Rattle.defmt_eager.proofs.Appends.{pieces_none, elems_none, elems_smaller, nodes_none, nodes_smaller, size_get}
 use Rattle.defmt_eager.proofs.Bounds.{str_most}
-use Rattle.defmt_eager.proofs.PieceBounds.{none_taken, some_bound, piece_more, elem_more, list_few, index_is}
+use Rattle.defmt_eager.proofs.PieceBounds.{none_taken, some_bound, piece_more, elem_more, node_more, list_few, index_is}
 use Rattle.defmt_eager.proofs.wide.+bound.Goals as goal
 
 pub value_bound-returns-in-Str : goal.value_bound-returns-in-Str
 unfolding show_val
-value_bound-returns-in-Str t c = λ kind few. rw c.in-Str.is (omega (arith, c.bytes_of.ensures few, str_most c.in-Str.text c.args.hint))
+value_bound-returns-in-Str t c = λ kind few. rw c.in-Str.is (omega (arith, c.bytes_of.ensures few, str_most c.in-Str.text (text_hint kind c.args.hint)))
 
 pub value_bound-returns-in-Bytes : goal.value_bound-returns-in-Bytes
 unfolding show_val
@@ -26,6 +26,10 @@ value_bound-returns-in-Format t c = λ kind few. rw c.in-Format.is ((rw c.node_p
 pub value_bound-returns-in-Seq : goal.value_bound-returns-in-Seq
 unfolding show_val
 value_bound-returns-in-Seq t c = λ kind few. rw c.in-Seq.is ((rw (c.unwrap_or.ensures, index_is c.in-Seq.seq.index) at c.list_bound.ensures) few)
+
+pub value_bound-returns-in-Sequence : goal.value_bound-returns-in-Sequence
+unfolding show_val
+value_bound-returns-in-Sequence t c = λ kind few. rw c.in-Sequence.is (c.nodes_bound.ensures few)
 
 pub piece_bound-returns-in-None : goal.piece_bound-returns-in-None
 piece_bound-returns-in-None t c = λ few.
@@ -64,3 +68,17 @@ pub list_bound-returns : goal.list_bound-returns
 list_bound-returns t c = λ few.
     list_few (show_elems c.args.table.now.entries c.args.index c.args.hint c.args.items.now) c.each.most
     (c.each.invariant.above few 0 (omega (arith, ap length (elems_none c.args.table.now.entries c.args.index c.args.hint false c.each.rest.now c.in_default.ensures))))
+
+pub nodes_bound-each-preserved : goal.nodes_bound-each-preserved
+nodes_bound-each-preserved t c = record {
+  smaller = nodes_smaller c.each.rest.now c.in-Some.more.now c.in-Some.node.now _ c.in-Some.ensures c.each.invariant.smaller;
+  above = λ few.
+      let sum : c.saturating_add-most.result ≡ c.each.most + c.pieces_bound.result + 0 = omega (arith, few) in
+      let low : c.each.most ≤ printed_limit = omega (arith, few) in
+      let one : c.pieces_bound.result ≤ printed_limit = omega (arith, few) in
+      node_more c.args.table.now.entries c.args.hint c.args.nodes.now c.each.rest.now c.in-Some.more.now c.in-Some.node.now c.each.most c.pieces_bound.result c.saturating_add-most.result c.in-Some.ensures ((rw c.node_pieces-pieces.ensures at c.pieces_bound.ensures) one) sum (c.each.invariant.above low);
+}
+
+pub nodes_bound-returns : goal.nodes_bound-returns
+nodes_bound-returns t c = λ few.
+    omega (arith, c.each.invariant.above few 0 (omega (arith, ap length (nodes_none c.args.table.now.entries c.args.hint c.each.rest.now c.in_default.ensures))))

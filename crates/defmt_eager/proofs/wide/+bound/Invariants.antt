@@ -1,8 +1,8 @@
 use Rattle.std.proofs.Common.{◌≤◌, ◌+◌, ◌*◌, ℕ, length}
-use Rattle.defmt_values.specs.Plain.{val_size, vals_size, elems_size}
-use Rattle.defmt_values.specs.View.{plain, elems_of}
+use Rattle.defmt_values.specs.Plain.{val_size, vals_size, elems_size, nodes_size}
+use Rattle.defmt_values.specs.View.{plain, elems_of, nodes_of}
 use Rattle.defmt_eager.specs.Line.{printed_limit}
-use Rattle.defmt_eager.specs.Show.{shows, pieces_text}
+use Rattle.defmt_eager.specs.Show.{shows, show_nodes, pieces_text}
 use Rattle.defmt_eager.proofs.PieceBounds.{elems_joined}
 use Rattle.defmt_eager.proofs.wide.+bound.Given as goal
 
@@ -33,3 +33,15 @@ invariant-list_bound-each l = record {
 
 abbrev pub decreases-list_bound-each : goal.decreases-list_bound-each
 decreases-list_bound-each l = length l.rest
+
+abbrev pub decreases-nodes_bound : goal.decreases-nodes_bound
+decreases-nodes_bound l = 4 * nodes_size l.nodes.now + 1
+
+abbrev pub invariant-nodes_bound-each : goal.invariant-nodes_bound-each
+invariant-nodes_bound-each l = record {
+  smaller : nodes_size (nodes_of l.rest) ≤ nodes_size l.nodes;
+  above : l.most ≤ printed_limit → (n : ℕ) → length (show_nodes l.table.entries l.hint (nodes_of l.rest)) ≤ n → length (show_nodes l.table.entries l.hint l.nodes) ≤ l.most + n;
+}
+
+abbrev pub decreases-nodes_bound-each : goal.decreases-nodes_bound-each
+decreases-nodes_bound-each l = length l.rest

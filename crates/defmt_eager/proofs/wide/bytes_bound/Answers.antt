@@ -1,4 +1,4 @@
-use Rattle.defmt_eager.proofs.Bounds as bounds
+use Rattle.defmt_eager.proofs.ByteBounds as bounds
 use Rattle.defmt_eager.proofs.wide.bytes_bound.Goals as goal
 
 pub returns : goal.returns
