@@ -43,17 +43,17 @@ form_in_is (parsed.Variants forms) body h = refl
 form_in_is parsed.Unsupported body h = absurd h
 form_in_is parsed.Raw body h = absurd h
 
-pub form_read : (t : Map) (form : Form) (what : Parsed) → StandsFor t form what → form_of (look t form.index) ≡ done what
-form_read t form what s = rw (s.is.there, s.is.tag, form_in_is (body_of s.is.entry) form.body s.is.body) (ap (λ (p : Parsed). done p) s.body)
+pub form_read : (t : Map) (form : Form) (what : Parsed) → StandsFor t form what → form_of t.language (look t form.index) ≡ done what
+form_read t form what s = rw (s.is.there, s.is.tag, form_in_is (body_of t.language s.is.entry) form.body s.is.body) (ap (λ (p : Parsed). done p) s.body)
 
 -- the plan's string stands for what its entry does
-pub stands : (t : Map) (form : Form) (is : IsFormIn t form) → StandsFor t form (body_of is.entry)
+pub stands : (t : Map) (form : Form) (is : IsFormIn t form) → StandsFor t form (body_of t.language is.entry)
 stands t form is = record { is = is; body = refl }
 
-one_pieces : (t : Map) (index : ℕ) (e : Entry) (ps : List Piece) → look t index ≡ Some e → is_format e.tag ≡ true → body_of e ≡ parsed.One ps → node_pieces t index None ≡ ps
+one_pieces : (t : Map) (index : ℕ) (e : Entry) (ps : List Piece) → look t index ≡ Some e → is_format e.tag ≡ true → body_of t.language e ≡ parsed.One ps → node_pieces t index None ≡ ps
 one_pieces t index e ps there tag body = rw (there, tag, body) refl
 
-variant_pieces : (t : Map) (index : ℕ) (e : Entry) (forms : List (List Piece)) (v : ℕ) (ps : List Piece) → look t index ≡ Some e → is_format e.tag ≡ true → body_of e ≡ parsed.Variants forms → variant_at forms v ≡ Some ps → node_pieces t index (Some v) ≡ ps
+variant_pieces : (t : Map) (index : ℕ) (e : Entry) (forms : List (List Piece)) (v : ℕ) (ps : List Piece) → look t index ≡ Some e → is_format e.tag ≡ true → body_of t.language e ≡ parsed.Variants forms → variant_at forms v ≡ Some ps → node_pieces t index (Some v) ≡ ps
 variant_pieces t index e forms v ps there tag body at = rw (there, tag, body, at) refl
 
 variant_is : (forms : List (List Piece)) (v : ℕ) (ps : List Piece) → v < 256 → slice_get forms v ≡ Some ps → variant_at forms v ≡ Some ps
@@ -71,10 +71,10 @@ module _ (t : Map) (left : ℕ) (form : Form) (hint : Hint) (bytes : List ℕ) (
   pub form_one : (r : Option Reach) (steps : Vec Step) → form.body ≡ bodies.One steps → before.opened + 1 ≤ 8192 → inside.read ≡ before.read → inside.written ≡ before.written → inside.opened ≡ before.opened + 1
       → ((all pieces : List Piece) → AreSteps all pieces steps.items → PassesPieces r t left hint all pieces bytes inside old new) → (what : Parsed) → StandsFor t form what → PassesBy r (elem_at (value_at t left) what 1) (elem_text t hint form.index) bytes before old new
   form_one None steps b light e f g k what s =
-      let o = one_body (body_of s.is.entry) form.body steps s.is.body b in
+      let o = one_body (body_of t.language s.is.entry) form.body steps s.is.body b in
       subst (λ (n : ℕ). Kept old n new) f (k o.pieces o.pieces o.are)
   form_one (Some after) steps b light e f g k what s =
-      let o = one_body (body_of s.is.entry) form.body steps s.is.body b in
+      let o = one_body (body_of t.language s.is.entry) form.body steps s.is.body b in
       let p = k o.pieces o.pieces o.are in
       let read : each_at (value_at t left) (places_of o.pieces) 1 (before.opened + 1) (drop before.read bytes) ≡ done (p.value, after.opened, drop after.read bytes) =
       subst (λ (n : ℕ). each_at (value_at t left) (places_of o.pieces) 1 (before.opened + 1) (drop n bytes) ≡ done (p.value, after.opened, drop after.read bytes)) e
@@ -91,7 +91,7 @@ module _ (t : Map) (left : ℕ) (form : Form) (hint : Hint) (bytes : List ℕ) (
       }
 
   variant_by : (r : Option Reach) (all : Vec (Vec Step)) (v : ℕ) (steps : Vec Step) → before.opened + 1 ≤ 8192 → v < 256 → number_at 1 (drop before.read bytes) ≡ Ok (v, drop (before.read + 1) bytes) → inside.read ≡ before.read + 1 → inside.written ≡ before.written → inside.opened ≡ before.opened + 1
-      → ((whole pieces : List Piece) → AreSteps whole pieces steps.items → PassesPieces r t left hint whole pieces bytes inside old new) → (what : Parsed) → (s : StandsFor t form what) → (o : IsSomeBody (body_of s.is.entry) all) → VariantIs o.forms v steps → PassesBy r (elem_at (value_at t left) what 1) (elem_text t hint form.index) bytes before old new
+      → ((whole pieces : List Piece) → AreSteps whole pieces steps.items → PassesPieces r t left hint whole pieces bytes inside old new) → (what : Parsed) → (s : StandsFor t form what) → (o : IsSomeBody (body_of t.language s.is.entry) all) → VariantIs o.forms v steps → PassesBy r (elem_at (value_at t left) what 1) (elem_text t hint form.index) bytes before old new
   variant_by None all v steps light small n e f g k what s o i = subst (λ (m : ℕ). Kept old m new) f (k i.pieces i.pieces i.are)
   variant_by (Some after) all v steps light small n e f g k what s o i =
       let p = k i.pieces i.pieces i.are in
@@ -114,13 +114,13 @@ module _ (t : Map) (left : ℕ) (form : Form) (hint : Hint) (bytes : List ℕ) (
       → ((forms : List (List Piece)) → AreVariants forms all.items → VariantIs forms v steps) → inside.read ≡ before.read + 1 → inside.written ≡ before.written → inside.opened ≡ before.opened + 1
       → ((whole pieces : List Piece) → AreSteps whole pieces steps.items → PassesPieces r t left hint whole pieces bytes inside old new) → (what : Parsed) → StandsFor t form what → PassesBy r (elem_at (value_at t left) what 1) (elem_text t hint form.index) bytes before old new
   form_variant r all v steps b light small n find e f g k what s =
-      let o = some_body (body_of s.is.entry) form.body all s.is.body b in
+      let o = some_body (body_of t.language s.is.entry) form.body all s.is.body b in
       let i = find o.forms o.are in
       variant_by r all v steps light small n e f g k what s o i
 
 -- ---- a Format value
 
-node_from : (t : Map) (one : OneAt) (index : ℕ) (what : Parsed) (s sum : ℕ) (variant : Option ℕ) (vs : Vals) (from mid to : List ℕ) → number_at 2 from ≡ done (index, mid) → form_of (look t index) ≡ done what → elem_at one what 1 s mid ≡ done ((variant, vs), sum, to) → node_at t one 1 s from ≡ done (format index variant vs, sum, to)
+node_from : (t : Map) (one : OneAt) (index : ℕ) (what : Parsed) (s sum : ℕ) (variant : Option ℕ) (vs : Vals) (from mid to : List ℕ) → number_at 2 from ≡ done (index, mid) → form_of t.language (look t index) ≡ done what → elem_at one what 1 s mid ≡ done ((variant, vs), sum, to) → node_at t one 1 s from ≡ done (format index variant vs, sum, to)
 node_from t one index what s sum variant vs from mid to n f e = rw (n, f, e) refl
 
 module _ (t : Map) (left : ℕ) (form : Form) (hint : Hint) (bytes : List ℕ) (before : Reach) (old new : List ℕ) (inside : Reach) where
@@ -129,9 +129,9 @@ module _ (t : Map) (left : ℕ) (form : Form) (hint : Hint) (bytes : List ℕ) (
       → ((what : Parsed) → StandsFor t form what → PassesBy r (elem_at (value_at t (left - 1)) what 1) (elem_text t hint form.index) bytes inside old new)
       → PassesBy r (slot_at t (below t left) (slots.One kinds.Format) 1) (λ (v : Val). show_val t v kinds.Format hint) bytes before old new
   unfolding show_val
-  format_passes None deep is n e f g k = subst (λ (m : ℕ). Kept old m new) f (k (body_of is.entry) (stands t form is))
+  format_passes None deep is n e f g k = subst (λ (m : ℕ). Kept old m new) f (k (body_of t.language is.entry) (stands t form is))
   format_passes (Some after) deep is n e f g k =
-      let what : Parsed = body_of is.entry in
+      let what : Parsed = body_of t.language is.entry in
       let s : StandsFor t form what = stands t form is in
       let p = k what s in
       let read : elem_at (value_at t (left - 1)) what 1 before.opened (drop (before.read + 2) bytes) ≡ done (p.value, after.opened, drop after.read bytes) =
@@ -149,9 +149,9 @@ module _ (t : Map) (left : ℕ) (form : Form) (hint : Hint) (bytes : List ℕ) (
   pub some_passes : (r : Option Reach) (count : ℕ) → 0 < left → 0 < count → (is : IsFormIn t form) → number_at 2 (drop before.read bytes) ≡ Ok (form.index, drop (before.read + 2) bytes) → inside.read ≡ before.read + 2 → inside.written ≡ before.written → inside.opened ≡ before.opened
       → ((what : Parsed) → StandsFor t form what → PassesBy r (elems_at (value_at t (left - 1)) what count 1) (elems_text t hint form.index) bytes inside old new)
       → PassesBy r (some_at t (below t left) count 1) (inner_text t hint) bytes before old new
-  some_passes None count deep some is n e f g k = subst (λ (m : ℕ). Kept old m new) f (k (body_of is.entry) (stands t form is))
+  some_passes None count deep some is n e f g k = subst (λ (m : ℕ). Kept old m new) f (k (body_of t.language is.entry) (stands t form is))
   some_passes (Some after) count deep some is n e f g k =
-      let what : Parsed = body_of is.entry in
+      let what : Parsed = body_of t.language is.entry in
       let s : StandsFor t form what = stands t form is in
       let p = k what s in
       let read : elems_at (value_at t (left - 1)) what count 1 before.opened (drop (before.read + 2) bytes) ≡ done (p.value, after.opened, drop after.read bytes) =
@@ -174,8 +174,8 @@ value_of x y e = ap (λ (z : Val × ℕ × List ℕ). z.0) (sym (same x y e))
 list_is : (t : Map) (one : OneAt) (count s : ℕ) (from : List ℕ) (y : Val × ℕ × List ℕ) (kind : Kind) (hint : Hint) → list_at t one count 1 s from ≡ done y → show_val t y.0 kind hint ≡ codes "[" ++ (inner_text t hint y.0 ++ codes "]")
 unfolding show_val list_text
 list_is t one count s from y kind hint e =
-    let a = bound (number_at 2 from) (λ i. form_of (look t i.0) ⇒ λ form. elems_at one form count 1 s i.1 ⇒ λ r. Ok (seq (Some i.0) r.0, r.1, r.2)) y e in
-    let b = bound (form_of (look t a.0.0)) (λ form. elems_at one form count 1 s a.0.1 ⇒ λ r. Ok (seq (Some a.0.0) r.0, r.1, r.2)) y a.2 in
+    let a = bound (number_at 2 from) (λ i. form_of t.language (look t i.0) ⇒ λ form. elems_at one form count 1 s i.1 ⇒ λ r. Ok (seq (Some i.0) r.0, r.1, r.2)) y e in
+    let b = bound (form_of t.language (look t a.0.0)) (λ form. elems_at one form count 1 s a.0.1 ⇒ λ r. Ok (seq (Some a.0.0) r.0, r.1, r.2)) y a.2 in
     let c = bound (elems_at one b.0 count 1 s a.0.1) (λ r. Ok (seq (Some a.0.0) r.0, r.1, r.2)) y b.2 in
     let is : y.0 ≡ seq (Some a.0.0) c.0.0 = value_of (seq (Some a.0.0) c.0.0, c.0.1, c.0.2) y c.2 in
     rw is refl

@@ -41,10 +41,10 @@ use Rattle.defmt_plan.specs.declared.steps.Step.{Step}
 
 -- ---- the arguments of an entry's own text
 
-own_pieces_are : (t : Map) (index : ℕ) (e : Entry) (ps : List Piece) → look t index ≡ Some e → body_of e ≡ One ps → own_pieces t index ≡ ps
+own_pieces_are : (t : Map) (index : ℕ) (e : Entry) (ps : List Piece) → look t index ≡ Some e → body_of t.language e ≡ One ps → own_pieces t index ≡ ps
 own_pieces_are t index e ps there body = rw (there, body) refl
 
-own_slots_are : (t : Map) (index : ℕ) (e : Entry) (ps : List Piece) → look t index ≡ Some e → body_of e ≡ One ps → own_slots t index ≡ slots_of ps
+own_slots_are : (t : Map) (index : ℕ) (e : Entry) (ps : List Piece) → look t index ≡ Some e → body_of t.language e ≡ One ps → own_slots t index ≡ slots_of ps
 own_slots_are t index e ps there body = rw (there, body) refl
 
 record OwnPassed (t : Map) (index : ℕ) (bytes : List ℕ) (from to : ℕ) (old : List ℕ) (at : ℕ) (new : List ℕ) (end : ℕ) : Type 0 where
@@ -80,7 +80,7 @@ record OwnLed (t : Map) (index : ℕ) (lead : Option (List ℕ)) (bytes : List �
   pub text_is : eager_text t index args ≡ lead_text lead ++ rest
   pub written : Placed old at new end rest
 
-own_led : (t : Map) (index : ℕ) (e : Entry) (lead : Option (List ℕ)) (qs : List Piece) (bytes : List ℕ) (from to : ℕ) (old : List ℕ) (at : ℕ) (new : List ℕ) (end : ℕ) → look t index ≡ Some e → body_of e ≡ One qs → PassedLed t lead qs bytes from to old at new end → OwnLed t index lead bytes from to old at new end
+own_led : (t : Map) (index : ℕ) (e : Entry) (lead : Option (List ℕ)) (qs : List Piece) (bytes : List ℕ) (from to : ℕ) (old : List ℕ) (at : ℕ) (new : List ℕ) (end : ℕ) → look t index ≡ Some e → body_of t.language e ≡ One qs → PassedLed t lead qs bytes from to old at new end → OwnLed t index lead bytes from to old at new end
 own_led t index e lead qs bytes from to old at new end there body p =
     let same : slots_of qs ≡ own_slots t index = sym (own_slots_are t index e qs there body) in
     record {

@@ -1,21 +1,24 @@
 -- What is known of one value that was read and written.
-use Rattle.std.proofs.Common.{◌≡◌, ◌<◌, ◌+◌, ◌^◌, inl, inr, ℕ, ℤ, Bool, List, [], ◌∷◌, ◌++◌, length, refl, sym, ap, subst, ◌∙◌, arith, IsUtf8}
+use Rattle.std.proofs.Common.{◌≡◌, ◌<◌, ◌+◌, ◌^◌, inl, inr, ℕ, ℤ, Bool, nat_lt, List, [], ◌∷◌, ◌++◌, length, refl, sym, ap, subst, ◌∙◌, arith, IsUtf8}
+use Rattle.std.proofs.lemmas.Bool.{lt-ltb}
 use Rattle.std.proofs.lemmas.Str.{IsUtf8-encode}
 use Rattle.std.specs.Char.{IsScalar}
 use Rattle.std.specs.List.{AllByRecursion}
 use Rattle.std.specs.Prelude.{if◌then◌else◌}
 use Rattle.byteorder.specs.Endian.{little_bytes, twos_complement}
-use Rattle.defmt_grammar.specs.Sizes.{size_bits, IsSigned}
+use Rattle.defmt_grammar.specs.Sizes.{float_bits, float_bytes, size_bits, IsSigned}
 use Rattle.defmt_grammar.specs.declared.hint.Hint.{Hint}
 use Rattle.defmt_grammar.specs.declared.hint.Hint.TheVariants as hints
+use Rattle.defmt_grammar.specs.declared.kind.FloatSize.{FloatSize}
+use Rattle.defmt_grammar.specs.declared.kind.FloatSize.TheVariants as floats
 use Rattle.defmt_grammar.specs.declared.kind.IntSize.{IntSize}
 use Rattle.defmt_grammar.specs.declared.kind.Kind.{Kind}
 use Rattle.defmt_grammar.specs.declared.kind.Kind.TheVariants as kinds
 use Rattle.defmt_grammar.specs.declared.slot.Slot.TheVariants as slots
-use Rattle.defmt_hints.specs.Printed.{printed_uint, printed_int, printed_bool, printed_char, printed_str, printed_bytes, twos_complement as printed_complement}
+use Rattle.defmt_hints.specs.Printed.{printed_uint, printed_int, printed_float, printed_bool, printed_char, printed_str, printed_bytes, twos_complement as printed_complement}
 use Rattle.defmt_intern.specs.Table.{Map}
-use Rattle.defmt_values.specs.Plain.{uint, int, flag, char, str, bytes as byte_list}
-use Rattle.defmt_encode.specs.Carry.{size_bytes, flag_byte, bytes_val}
+use Rattle.defmt_values.specs.Plain.{uint, int, flag, char, str, float, bytes as byte_list}
+use Rattle.defmt_encode.specs.Carry.{size_bytes, flag_byte, text_end, bytes_val}
 use Rattle.defmt_eager.specs.Show.{int_text, show_val, acting}
 use Rattle.defmt_plan.proofs.Carrying.{carried_two}
 use Rattle.defmt_plan.proofs.Complements.{complement_is, signed_test, small_bits}
@@ -23,8 +26,13 @@ use Rattle.defmt_plan.specs.Carried.{Carried}
 use Rattle.defmt_plan.specs.Passed.{PassedOne}
 use Rattle.defmt_eager.proofs.Parts.{placed}
 use Rattle.defmt_eager.specs.Answers.{Placed}
-use Rattle.defmt_hints.proofs.Utf8Laws.{utf8_bool, utf8_bytes, utf8_char, utf8_int, utf8_str, utf8_uint}
+use Rattle.defmt_hints.proofs.Utf8Laws.{utf8_bool, utf8_float, utf8_bytes, utf8_char, utf8_int, utf8_str, utf8_uint}
 use Rattle.defmt_hints.specs.Written.{Written}
+
+-- the bits of a float
+pub small_float : (size : FloatSize) (n : ℕ) → n < 256 ^ float_bytes size → n < 2 ^ float_bits size
+small_float floats.W32 n h = omega (arith, h)
+small_float floats.W64 n h = omega (arith, h)
 
 module _ (t : Map) (hint : Hint) (bytes : List ℕ) (from : ℕ) (old : List ℕ) (at : ℕ) (new : List ℕ) (end : ℕ) where
   pub passed_uint : (size : IntSize) (w n : ℕ) → w ≡ size_bytes size → n < 256 ^ w → Carried bytes from (from + w) (little_bytes w n) → Written old at new end (printed_uint n hint) → PassedOne t (kinds.Uint size) hint bytes from (from + w) old at new end
@@ -56,7 +64,7 @@ module _ (t : Map) (hint : Hint) (bytes : List ℕ) (from : ℕ) (old : List ℕ
   passed_str s utf8 few c p = record {
     value = str s;
     weightless = λ weight. refl;
-    fits = λ left. refl;
+    fits = λ left. inl refl;
     sound = utf8;
     lengths = few;
     carried = c;
@@ -118,6 +126,44 @@ module _ (t : Map) (hint : Hint) (bytes : List ℕ) (from : ℕ) (old : List ℕ
         written = subst (λ (text : List ℕ). Placed old at new end text) (sym shown) (placed (utf8_int z size hint) (p z k.signed k.back));
       }
 
+  pub passed_float : (size : FloatSize) (w n : ℕ) → w ≡ float_bytes size → n < 256 ^ float_bytes size → Carried bytes from (from + float_bytes size) (little_bytes (float_bytes size) n) → Written old at new end (printed_float size n) → PassedOne t (kinds.Float size) hint bytes from (from + w) old at new end
+  unfolding bytes_val show_val
+  passed_float size w n e small c p =
+      let shown : printed_float size n ≡ (if nat_lt n (2 ^ float_bits size) then printed_float size n else []) = rw (lt-ltb n (2 ^ float_bits size) (small_float size n small)) refl in
+      record {
+        value = float n;
+        weightless = λ weight. refl;
+        fits = λ left. record { size = size; slot_is = refl; in_range = small_float size n small };
+        sound = tt;
+        lengths = tt;
+        carried = subst (λ (k : ℕ). Carried bytes from (from + k) (little_bytes (float_bytes size) n)) (sym e) c;
+        written = subst (λ (text : List ℕ). Placed old at new end text) shown (placed (utf8_float size n) p);
+      }
+
+  pub passed_debug : (s : List ℕ) → IsUtf8 s → Carried bytes from (from + length s + 1) (s ++ text_end ∷ []) → Written old at new end s → PassedOne t kinds.Debug hint bytes from (from + length s + 1) old at new end
+  unfolding bytes_val show_val printed_str
+  passed_debug s utf8 c p = record {
+    value = str s;
+    weightless = λ weight. refl;
+    fits = λ left. inr (inl refl);
+    sound = utf8;
+    lengths = tt;
+    carried = c;
+    written = placed utf8 p;
+  }
+
+  pub passed_display : (s : List ℕ) → IsUtf8 s → Carried bytes from (from + length s + 1) (s ++ text_end ∷ []) → Written old at new end s → PassedOne t kinds.Display hint bytes from (from + length s + 1) old at new end
+  unfolding bytes_val show_val printed_str
+  passed_display s utf8 c p = record {
+    value = str s;
+    weightless = λ weight. refl;
+    fits = λ left. inr (inr refl);
+    sound = utf8;
+    lengths = tt;
+    carried = c;
+    written = placed utf8 p;
+  }
+
 pub acting_plain : (hint : Hint) → acting hints.Plain hint ≡ hint
 acting_plain hints.Plain = refl
 acting_plain hints.Debug = refl
@@ -125,3 +171,6 @@ acting_plain (hints.Radix base alt width) = refl
 acting_plain hints.Ascii = refl
 acting_plain hints.Micros = refl
 acting_plain hints.Millis = refl
+acting_plain (hints.Iso unit) = refl
+acting_plain (hints.Clock unit) = refl
+acting_plain (hints.Pad width) = refl

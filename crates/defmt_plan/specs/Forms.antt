@@ -34,7 +34,7 @@ pub record IsFormIn (t : Map) (form : Form) : Type 0 where
   pub entry : Entry
   pub there : look t form.index ≡ Some entry
   pub tag : is_format entry.tag ≡ true
-  pub body : IsBody (body_of entry) form.body
+  pub body : IsBody (body_of t.language entry) form.body
 
 abbrev pub AreFormsIn : Map → List Form → Type 0
 AreFormsIn t [] = Unit {0}
@@ -54,4 +54,4 @@ pub record IsPlannedWith (forms : Forms) (form : Form) : Type 0 where
 -- the plan's string stands for this
 pub record StandsFor (t : Map) (form : Form) (what : Parsed) : Type 0 where
   pub is : IsFormIn t form
-  pub body : body_of is.entry ≡ what
+  pub body : body_of t.language is.entry ≡ what

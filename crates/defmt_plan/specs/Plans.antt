@@ -20,7 +20,7 @@ pub record AreStepsOf (t : Map) (index : ℕ) (steps : List Step) : Type 0 where
   pub entry : Entry
   pub there : look t index ≡ Some entry
   pub pieces : List Piece
-  pub body : body_of entry ≡ One pieces
+  pub body : body_of t.language entry ≡ One pieces
   pub steps_are : AreSteps pieces pieces steps
 
 -- a space in front of a level where there is a stamp
@@ -66,7 +66,7 @@ pub record IsPlanIn (t : Map) (plan : Plan) : Type 0 where
   pub entry : Entry
   pub there : look t plan.index ≡ Some entry
   pub pieces : List Piece
-  pub body : body_of entry ≡ One pieces
+  pub body : body_of t.language entry ≡ One pieces
   pub logged : is_logged entry.tag ≡ true
   pub rest : List Piece
   pub own : HasFront t (level_text entry.tag) pieces plan.front rest

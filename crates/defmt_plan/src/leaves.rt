@@ -1,15 +1,20 @@
 //! Values that hold no others, each read and written before the next.
 
-ghost use Rattle.std.specs.Prelude.{◌≤◌, length};
+ghost use Rattle.std.specs.Prelude.{◌≡◌, ◌≤◌, length};
+ghost use Rattle.defmt_grammar.specs.Sizes.{float_bytes};
 ghost use Rattle.defmt_grammar.specs.declared.hint.Hint.{Hint as Shape};
 ghost use Rattle.defmt_grammar.specs.declared.kind.Kind.TheVariants as kinds;
 ghost use Rattle.defmt_intern.specs.Table.{Map};
 ghost use Rattle.defmt_plan.specs.Passed.{PassesOne};
 
-use crate::take::{take_bool, take_char, take_chunk, take_sized, take_str, take_uint};
+use crate::take::{
+    take_bool, take_char, take_chunk, take_float, take_shown, take_sized, take_str, take_uint,
+};
 use defmt_encode::size_bytes;
-use defmt_grammar::{Hint, IntSize, Kind};
-use defmt_hints::{put_bool, put_bytes, put_char, put_complement, put_str, put_uint};
+use defmt_grammar::{FloatSize, Hint, IntSize, Kind};
+use defmt_hints::{
+    put_bool, put_bytes, put_char, put_complement, put_float, put_str, put_text, put_uint,
+};
 
 // How far a pass has come: the place in the message, and the place in the buffer.
 #[derive(Clone, Copy)]
@@ -144,7 +149,52 @@ fn pass_array(
     })
 }
 
-// A value of a kind that is usual.
+// The bytes of a float.
+fn float_width(size: FloatSize) -> usize
+    ensures { result ≡ float_bytes size }
+{
+    match size {
+        FloatSize::W32 => 4,
+        FloatSize::W64 => 8,
+    }
+}
+
+// A float, which looks the same under each hint.
+#[inline(never)]
+fn pass_float(size: FloatSize, bytes: &[u8], before: Progress, out: &mut [u8]) -> Option<Progress>
+    requires read { before.read ≤ length bytes.now }
+    requires written { before.written ≤ length out.old }
+    ensures { (t : Map) (hint : Shape) → PassesOne result t (kinds.Float size) hint bytes.now before
+        out.old out.new }
+{
+    let bits = take_float(bytes, before.read, size)?;
+    let written = put_float(out, before.written, bits, size)?;
+    Some(Progress {
+        read: before.read + float_width(size),
+        written,
+    })
+}
+
+// A text of Debug or Display, which looks the same under each hint.
+#[inline(never)]
+fn pass_shown(bytes: &[u8], before: Progress, out: &mut [u8]) -> Option<Progress>
+    requires read { before.read ≤ length bytes.now }
+    requires written { before.written ≤ length out.old }
+    ensures debug { (t : Map) (hint : Shape) → PassesOne result t kinds.Debug hint bytes.now before
+        out.old out.new }
+    ensures display { (t : Map) (hint : Shape) → PassesOne result t kinds.Display hint bytes.now
+        before out.old out.new }
+{
+    let text = take_shown(bytes, before.read)?;
+    let written = put_text(out, before.written, text.as_bytes())?;
+    Some(Progress {
+        read: before.read + text.len() + 1,
+        written,
+    })
+}
+
+// A value of a kind that is usual. It stands in its callers, since most statements have few values.
+#[inline(always)]
 pub(crate) fn pass_value(
     kind: Kind,
     hint: Hint,
@@ -164,6 +214,9 @@ pub(crate) fn pass_value(
         Kind::Str => pass_str(hint, bytes, before, out),
         Kind::Bytes => pass_bytes(hint, bytes, before, out),
         Kind::ByteArray(count) => pass_array(count, hint, bytes, before, out),
+        Kind::Float(size) => pass_float(size, bytes, before, out),
+        Kind::Debug => pass_shown(bytes, before, out),
+        Kind::Display => pass_shown(bytes, before, out),
         _ => None,
     }
 }

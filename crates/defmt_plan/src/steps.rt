@@ -73,14 +73,17 @@ fn value_step(kind: Kind, hint: Hint, slot: Slot, uses: usize) -> Option<Step>
         → slice_get (slots_of all) next ≡ Some slot → uses_at next all ≡ uses
         → IsNextStep all next step) }
 {
-    if uses == 1 && slot == Slot::One(kind) {
+    let Slot::One(own) = slot else {
+        return None;
+    };
+    if uses == 1 && own == kind {
         Some(Step::Value(kind, hint))
     } else {
         None
     }
 }
 
-// The step of a parameter, where it has the next position, and where a value is used once.
+// The step of a parameter, where it has the next position, and where a value is used once. Interned texts and sequences have none.
 fn param_step(param: Param, all: &Pieces, next: Next) -> Option<Step>
     ensures is { IfSome result (λ step. piece_of next.position step ≡ Piece.Param param) }
     ensures own { IfSome result (λ step. IsNextStep all.now next.position step) }
@@ -92,6 +95,7 @@ fn param_step(param: Param, all: &Pieces, next: Next) -> Option<Step>
     let slot = *all.slots().get(next.position)?;
     match param.kind {
         Kind::Bits { lo, hi } => bits_step(lo, hi, param.hint, slot, next.fields, uses),
+        Kind::Istr | Kind::Sequence => None,
         kind => value_step(kind, param.hint, slot, uses),
     }
 }

@@ -2,15 +2,20 @@
 
 ghost use Rattle.std.specs.Prelude.{◌≡◌, ◌≤◌, ◌<◌, ◌+◌, ◌^◌, ◌∷◌, ◌++◌, [], length, IfSome};
 ghost use Rattle.byteorder.specs.Endian.{little_bytes};
-ghost use Rattle.defmt_encode.specs.Carry.{flag_byte, size_bytes};
+ghost use Rattle.defmt_encode.specs.Carry.{flag_byte, size_bytes, text_end};
+ghost use Rattle.defmt_grammar.specs.Sizes.{float_bytes};
 ghost use Rattle.defmt_plan.specs.Carried.{Carried};
 ghost use Rattle.std.specs.Char.{IsScalar};
 ghost use Rattle.std.specs.List.{AllByRecursion};
 ghost use Rattle.std.specs.Str.{IsUtf8};
 
 use byteorder::{ByteOrder, LittleEndian};
-use defmt_grammar::IntSize;
+use defmt_grammar::{FloatSize, IntSize};
+use memchr::memchr;
 use std::str;
+
+// The byte behind a text of Debug or Display, which no UTF-8 has.
+const TEXT_END: u8 = 0xff;
 
 // The number in the bytes behind a place, of which there are 1, 2, 4 or 8.
 #[inline(always)]
@@ -50,6 +55,19 @@ pub(crate) fn take_sized(bytes: &[u8], at: usize, size: IntSize) -> Option<u64>
     }
 }
 
+// The bits of a float of a size behind a place.
+pub(crate) fn take_float(bytes: &[u8], at: usize, size: FloatSize) -> Option<u64>
+    requires within { at ≤ length bytes.now }
+    ensures carried { IfSome result (λ n. Carried bytes.now at (at + float_bytes size)
+        (little_bytes (float_bytes size) n)) }
+    ensures small { IfSome result (λ n. n < 256 ^ float_bytes size) }
+{
+    match size {
+        FloatSize::W32 => take_uint(bytes, at, 4),
+        FloatSize::W64 => take_uint(bytes, at, 8),
+    }
+}
+
 // The truth value in the byte behind a place.
 pub(crate) fn take_bool(bytes: &[u8], at: usize) -> Option<bool>
     requires within { at ≤ length bytes.now }
@@ -79,6 +97,21 @@ pub(crate) fn take_str(bytes: &[u8], at: usize) -> Option<&str>
         return None;
     }
     match str::from_utf8(&bytes[start..start + count]) {
+        Ok(text) => Some(text),
+        Err(_) => None,
+    }
+}
+
+// The text behind a place, up to the end that stands behind one of Debug or Display.
+pub(crate) fn take_shown(bytes: &[u8], at: usize) -> Option<&str>
+    requires within { at ≤ length bytes.now }
+    ensures carried { IfSome result (λ s. Carried bytes.now at (at + length s.now + 1)
+        (s.now ++ text_end ∷ [])) }
+    ensures text { IfSome result (λ s. IsUtf8 s.now) }
+{
+    let rest = &bytes[at..];
+    let count = memchr(TEXT_END, rest)?;
+    match str::from_utf8(&rest[..count]) {
         Ok(text) => Some(text),
         Err(_) => None,
     }

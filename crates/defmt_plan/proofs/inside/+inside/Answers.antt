@@ -212,11 +212,11 @@ pass_elements-returns-in_err-reach t c = λ u what are s.
 pub pass_elements-put-requires : goal.pass_elements-put-requires
 pass_elements-put-requires t c =
     let own = c.requires.planned in
-    let h = c.loop-number.invariant own.table (body_of own.is.entry) own.are (stands own.table c.args.form.now own.is) in
+    let h = c.loop-number.invariant own.table (body_of own.table.language own.is.entry) own.are (stands own.table c.args.form.now own.is) in
     h.written
 
 pub pass_elements-pass_form-requires : goal.pass_elements-pass_form-requires
 pass_elements-pass_form-requires t c =
     let own = c.requires.planned in
-    let h = c.loop-number.invariant own.table (body_of own.is.entry) own.are (stands own.table c.args.form.now own.is) in
+    let h = c.loop-number.invariant own.table (body_of own.table.language own.is.entry) own.are (stands own.table c.args.form.now own.is) in
     (omega arith, (h.read, (omega (arith, c.in_ok-parted.ensures.within, c.in_ok-parted.ensures.long), (h.few, own))))

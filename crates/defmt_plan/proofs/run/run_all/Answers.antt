@@ -1,5 +1,5 @@
 use Rattle.std.proofs.Common.{◌+◌, drop, drop_of_length-le}
-use Rattle.std.specs.FinMap as map
+use Rattle.defmt_intern.specs.Entries as map
 use Rattle.defmt_encode.proofs.Laws.{bytes_fit}
 use Rattle.defmt_hints.proofs.Chains.{kept_two}
 use Rattle.defmt_plan.proofs.Onward.{next_step}
