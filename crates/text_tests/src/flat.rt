@@ -1,8 +1,9 @@
 //! Lines of statements that are written into a room at a place, beside the same lines as texts of their own.
 use crate::eager::{put_first_line, put_stamped_line};
 use crate::rows::Kind;
-use crate::shared::{script_of, table_of};
+use crate::shared::{head_of, language_of, script_of, table_of};
 use defmt_eager::put_line;
+use defmt_grammar::Language;
 use defmt_script::Script;
 use defmt_values::{Args, Statement, Value};
 use std::alloc::Global;
@@ -18,6 +19,12 @@ s opt defmt_prim None|Some({=?})
 s two defmt_write {1=?}{0=?}
 s c defmt_prim {=char:?}
 s word defmt_str {word|";
+
+// Those behind them in a script of the full language.
+const FULL_STRINGS: &str = "\
+s seq defmt_derived {=__internal_FormatSequence}
+s fl defmt_prim {=f64}
+";
 
 // A format string with its arguments, what becomes of its line in a room, and the line.
 const SHOWN: &str = r#"hello {{}} = placed INFO  hello {}
@@ -183,8 +190,16 @@ pub fn put_flat_in(alloc: Global, text: &str, out: &mut String) -> Result<(), Fa
 
 /// The same of a format string, behind which its arguments stand.
 pub fn put_flat_shown(alloc: Global, input: &str, out: &mut String) -> Result<(), Fail> {
+    let (language, input) = language_of(input);
+    let head = head_of(language);
     let (format, args) = input.split_once(", ").unwrap_or((input, ""));
-    let text = format!(in alloc; "s v defmt_info {format}\n{STRINGS}\nw 0 v {args}")?;
+    let further = match language {
+        Language::Base => "",
+        Language::Full => FULL_STRINGS,
+    };
+    let text = format!(in alloc;
+        "{head}s v defmt_info {format}\n{STRINGS}\n{further}w 0 v {args}"
+    )?;
     put_flat_in(alloc, text.as_str(), out)
 }
 

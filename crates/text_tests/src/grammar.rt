@@ -95,6 +95,30 @@ lenient {:}{1}{:?}{0=?:a} = {0=?}{1=?}{1=?:?}{0=?:a}
 lenient {=[?;00002]:us}{=[?]:ms}{=[u8]:0255X} = {0=[?; 2]:us}{1=[?]:ms}{2=[u8]:0255X}
 lenient {15}{14}{}{}{}{}{}{}{}{}{}{}{}{}{}{:o} = {15=?}{14=?}{0=?}{1=?}{2=?}{3=?}{4=?}{5=?}{6=?}{7=?}{8=?}{9=?}{10=?}{11=?}{12=?}{13=?:o}";
 
+const FULL: &str = "\
+strict_full {=f32}{=f64:?} = {0=f32}{1=f64:?}
+strict_full {=__internal_Debug}{=__internal_Display:a} = {0=__internal_Debug}{1=__internal_Display:a}
+strict_full {=__internal_FormatSequence:#x} = {0=__internal_FormatSequence:#x}
+strict_full {:iso8601s}{=u64:iso8601ms} = {0=?:iso8601s}{1=u64:iso8601ms}
+strict_full {:ts}{=u32:tms}{=0..9:tus} = {0=?:ts}{1=u32:tms}{2=0..9:tus}
+strict_full {=u8:01}{=i8:042}{=i16:0255} = {0=u8:01}{1=i8:042}{2=i16:0255}
+strict_full {=[u8; 3]:04x}{=str:us} = {0=[u8; 3]:04x}{1=str:us}
+strict_full {:0256} = cause 3 at 2
+lenient_full {:0256} = {0=?}
+strict_full {:0} = cause 3 at 2
+strict_full {:004} = cause 3 at 2
+strict_full {:#04} = cause 3 at 2
+strict_full {:iso8601} = cause 3 at 2
+lenient_full {=u64:iso8601us}{:tns} = {0=u64}{1=?}
+lenient_full {:ts}{=f32:04} = {0=?:ts}{1=f32:04}
+strict_full {=f16} = cause 2 at 2
+strict_full {=__internal_debug} = cause 2 at 2
+strict_full {0=f32}{0=f64} = cause 5 at 7
+strict {=__internal_Debug} = cause 2 at 2
+lenient {=__internal_FormatSequence} = cause 2 at 2
+lenient {=f32:04} = cause 8 at 2
+lenient {=u64:iso8601ms}{:tus}{:04} = {0=u64}{1=?}{2=?}";
+
 const PIECES: &str = "\
 x{{y{=u16:#06X}{0=u16}}} = literal x{y, param 0 Uint(W16) Radix { base: HexUpper, alt: true, width: 6 }, param 0 Uint(W16) Plain, literal }";
 
@@ -150,10 +174,11 @@ fn put_spelling_in(alloc: Global, text: &str, mode: Mode, out: &mut String) -> R
 
 pub fn put_spelling(alloc: Global, input: &str, out: &mut String) -> Result<(), Fail> {
     let (mode, text) = input.split_once(' ').ok_or("no mode")?;
-    let mode = if mode == "strict" {
-        Mode::Strict
-    } else {
-        Mode::Lenient
+    let mode = match mode {
+        "strict" => Mode::Strict,
+        "lenient" => Mode::Lenient,
+        "strict_full" => Mode::StrictFull,
+        _ => Mode::LenientFull,
     };
     put_spelling_in(alloc, text, mode, out)?;
     if out.is_empty() {
@@ -228,7 +253,8 @@ fn the_first_fault_counts_with_its_place_and_the_canonical_spelling_is_printed(
     rt: HostRuntime,
 ) -> Result<(), Fail> {
     each_line(rt.alloc(), REFUSALS, 51, &Kind::SpellingOf)?;
-    each_line(rt.alloc(), SPELLINGS, 33, &Kind::SpellingOf)
+    each_line(rt.alloc(), SPELLINGS, 33, &Kind::SpellingOf)?;
+    each_line(rt.alloc(), FULL, 22, &Kind::SpellingOf)
 }
 
 #[test]

@@ -2,10 +2,10 @@
 use crate::rows;
 use crate::shared::{put_visible, script_of};
 use defmt_grammar::{Base, Hint, Kind, Memory, Param, Piece, Text};
-use defmt_hints::{show_bool, show_bytes, show_char, show_int, show_str, show_uint};
+use defmt_hints::{show_bool, show_bytes, show_char, show_float, show_int, show_str, show_uint};
 use defmt_intern::{Parsed, Table};
 use defmt_script::Script;
-use defmt_values::{Args, Value, is_signed, size_bits};
+use defmt_values::{Args, Value, float_bits, is_of_bits, is_signed, size_bits};
 use std::alloc::Global;
 use std::fmt::Write;
 use std::test::Fail;
@@ -75,6 +75,15 @@ fn push_int(value: i128, param: &Param, out: &mut Text) -> Result<(), Memory> {
     }
 }
 
+fn push_float(bits: u64, param: &Param, out: &mut Text) -> Result<(), Memory> {
+    match param.kind {
+        Kind::Float(size) if is_of_bits(u128::from(bits), float_bits(size)) => {
+            show_float(bits, size, out)
+        }
+        _ => out.push_str("no float's kind"),
+    }
+}
+
 /// Appends the text of a value that stands alone where this parameter is.
 pub fn push_value(value: &Value, param: &Param, out: &mut Text) -> Result<(), Memory> {
     match value {
@@ -84,6 +93,7 @@ pub fn push_value(value: &Value, param: &Param, out: &mut Text) -> Result<(), Me
         Value::Char(character) => show_char(*character, &param.hint, out),
         Value::Str(text) => show_str(text.as_str(), &param.hint, out),
         Value::Bytes(bytes) => show_bytes(bytes.as_slice(), &param.hint, out),
+        Value::Float(bits) => push_float(*bits, param, out),
         _ => out.push_str("no plain value"),
     }
 }

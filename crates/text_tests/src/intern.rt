@@ -1,7 +1,7 @@
 //! Tables, and what their texts stand for.
 use crate::rows;
-use crate::shared::{entry_of, pieces_of, put, table_of};
-use defmt_grammar::{Kind, Mode, Param, Piece};
+use crate::shared::{entry_of, language_of, pieces_of, put, table_in, table_of};
+use defmt_grammar::{Kind, Language, Mode, Param, Piece};
 use defmt_intern::{Forms, Parsed, Profile, Table, TableFault};
 use std::alloc::Global;
 use std::fmt::Write;
@@ -42,7 +42,13 @@ none = nothing
 1 defmt_info {=f32} = unsupported
 1 defmt_write a|{=u9} = unsupported
 1 defmt_derived || = |||
-1 defmt_derived Pt {{ x: {=?} }} = Pt { x: <format> }";
+1 defmt_derived Pt {{ x: {=?} }} = Pt { x: <format> }
+1 defmt_info {=__internal_Debug} = unsupported
+full 1 defmt_info {=f32} {=f64} = <float> <float>
+full 1 defmt_derived {=__internal_Debug:?}{=__internal_Display} = <text><text>
+full 1 defmt_write a|{=__internal_FormatSequence} = |a|<sequence>
+full 1 defmt_info {=u9} = unsupported
+full 1 defmt_bitflags x = unsupported";
 
 const VARIANTS: &str = "\
 1 defmt_prim |*1 = 2
@@ -52,15 +58,15 @@ const VARIANTS: &str = "\
 const COPIED: &str = "\
 700 defmt_timestamp {=u64}
 3 x t
-40 defmt_prim a|b";
+40 defmt_prim a|{=f32}";
 
 const IN_THE_COPY: &str = "\
 length 3, of the copy 4
-profile Two
+profile Two, language Full
 stamp Some(700)
-40 is |a|b
+40 is |a|<float>
 3 x t
-40 defmt_prim a|b
+40 defmt_prim a|{=f32}
 700 defmt_timestamp {=u64}
 701 defmt_info new
 ";
@@ -105,6 +111,9 @@ fn kind_text(param: &Param) -> &'static str {
     match param.kind {
         Kind::Uint(_) => "<uint>",
         Kind::Format => "<format>",
+        Kind::Float(_) => "<float>",
+        Kind::Debug | Kind::Display => "<text>",
+        Kind::Sequence => "<sequence>",
         _ => "<other>",
     }
 }
@@ -143,8 +152,9 @@ fn put_body(parsed: Option<&Parsed>, out: &mut String) -> Result<(), Fail> {
 }
 
 pub fn put_parsed(alloc: Global, line: &str, out: &mut String) -> Result<(), Fail> {
+    let (language, line) = language_of(line);
     let lines = if line == "none" { "" } else { line };
-    let table = table_of(alloc, lines)?;
+    let table = table_in(alloc, language, lines)?;
     put_body(table.parsed(1), out)
 }
 
@@ -190,9 +200,10 @@ fn put_copy(table: &Table, copy: &Table, out: &mut String) -> Result<(), Fail> {
     let (profile, stamp) = (copy.profile(), copy.stamp());
     write!(
         out,
-        "length {}, of the copy {}\nprofile {profile:?}\nstamp {stamp:?}\n40 is ",
+        "length {}, of the copy {}\nprofile {profile:?}, language {:?}\nstamp {stamp:?}\n40 is ",
         table.len(),
-        copy.len()
+        copy.len(),
+        copy.language()
     )?;
     put_body(copy.parsed(40), out)?;
     out.push('\n')?;
@@ -200,7 +211,7 @@ fn put_copy(table: &Table, copy: &Table, out: &mut String) -> Result<(), Fail> {
 }
 
 fn put_copied(alloc: Global, lines: &str, out: &mut String) -> Result<(), Fail> {
-    let mut table = table_of(alloc, lines)?;
+    let mut table = table_in(alloc, Language::Full, lines)?;
     table.set_profile(Profile::Two);
     let copy = copy_with_more(alloc, &table)?;
     put_copy(&table, &copy, out)
@@ -217,7 +228,7 @@ fn entries_are_put_behind_the_greatest_index_and_refusals_leave_the_table(
 fn texts_are_parsed_by_their_tags_and_variants_listed_up_to_255(
     rt: HostRuntime,
 ) -> Result<(), Fail> {
-    each_line(rt.alloc(), PARSED, 10, &rows::Kind::ParsedText)?;
+    each_line(rt.alloc(), PARSED, 16, &rows::Kind::ParsedText)?;
     each_line(rt.alloc(), VARIANTS, 3, &rows::Kind::CountOfVariants)
 }
 

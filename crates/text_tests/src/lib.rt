@@ -6,6 +6,8 @@ mod eager;
 #[cfg(test)]
 mod flat;
 #[cfg(test)]
+mod full;
+#[cfg(test)]
 mod grammar;
 #[cfg(test)]
 mod hints;

@@ -3,13 +3,13 @@ ghost use Rattle.std.specs.Prelude.{◌≤◌, length};
 
 use crate::hints::{first_pieces, push_value};
 use crate::rows;
-use crate::shared::{put_visible, script_of};
+use crate::shared::{head_of, language_of, put_visible, script_of};
 use defmt_grammar::{Base, Hint, Kind, Param, Piece, Text};
 use defmt_hints::{
-    put_bool, put_bytes, put_char, put_int, put_str, put_uint, put_wide_uint, show_uint,
+    put_bool, put_bytes, put_char, put_float, put_int, put_str, put_uint, put_wide_uint, show_uint,
 };
 use defmt_script::Script;
-use defmt_values::{Value, is_signed, size_bits};
+use defmt_values::{Value, float_bits, is_of_bits, is_signed, size_bits};
 use std::alloc::Global;
 use std::fmt::Write;
 use std::test::Fail;
@@ -122,6 +122,18 @@ fn put_signed(out: &mut [u8], at: usize, number: i128, param: &Param) -> Option<
     put_int(out, at, number, size, param.hint)
 }
 
+fn put_bits_of(out: &mut [u8], at: usize, bits: u64, param: &Param) -> Option<usize>
+    requires { at ≤ length out.old }
+{
+    let Kind::Float(size) = param.kind else {
+        return None;
+    };
+    if !is_of_bits(u128::from(bits), float_bits(size)) {
+        return None;
+    }
+    put_float(out, at, bits, size)
+}
+
 // Writes a value at a place, as `put` calls do.
 fn put_value(out: &mut [u8], at: usize, value: &Value, param: &Param) -> Option<usize>
     requires { at ≤ length out.old }
@@ -133,6 +145,7 @@ fn put_value(out: &mut [u8], at: usize, value: &Value, param: &Param) -> Option<
         Value::Char(character) => put_char(out, at, *character, param.hint),
         Value::Str(text) => put_str(out, at, text.as_str(), param.hint),
         Value::Bytes(bytes) => put_bytes(out, at, bytes.as_slice(), param.hint),
+        Value::Float(bits) => put_bits_of(out, at, *bits, param),
         _ => None,
     }
 }
@@ -192,8 +205,10 @@ fn put_placed_in(alloc: Global, script: &Script, out: &mut String) -> Result<(),
 
 /// Puts what becomes of a value that is to be placed, and its text as it is appended.
 pub fn put_placed(alloc: Global, input: &str, out: &mut String) -> Result<(), Fail> {
+    let (language, input) = language_of(input);
+    let head = head_of(language);
     let (format, args) = input.split_once(", ").ok_or("no arguments")?;
-    let text = format!(in alloc; "s v defmt_info {format}\nw 0 v {args}")?;
+    let text = format!(in alloc; "{head}s v defmt_info {format}\nw 0 v {args}")?;
     let script = script_of(alloc, text.as_str())?;
     put_placed_in(alloc, &script, out)
 }

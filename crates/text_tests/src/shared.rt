@@ -1,5 +1,5 @@
 //! Scripts, tables and printed texts of rows.
-use defmt_grammar::{GrammarFault, Mode, Pieces, Text, parse};
+use defmt_grammar::{GrammarFault, Language, Mode, Pieces, Text, parse};
 use defmt_intern::{Entry, Table, TableFault, Tag};
 use defmt_script::{Script, ScriptFault, read};
 use std::alloc::Global;
@@ -23,6 +23,22 @@ pub fn script_of(alloc: Global, text: &str) -> Result<Script, ScriptFault> {
         return Err(ScriptFault::Memory);
     }
     read(alloc, text.as_bytes())
+}
+
+/// The language of a row's table or script, and the rest of its input: the full one where `full` stands in front.
+pub fn language_of(input: &str) -> (Language, &str) {
+    match input.strip_prefix("full ") {
+        Some(rest) => (Language::Full, rest),
+        None => (Language::Base, input),
+    }
+}
+
+/// What a script of a language begins with.
+pub fn head_of(language: Language) -> &'static str {
+    match language {
+        Language::Base => "",
+        Language::Full => "language full\n",
+    }
 }
 
 /// Puts a text, with each control character as `<0a>`.
@@ -95,11 +111,16 @@ pub fn put(alloc: Global, table: &mut Table, line: &str) -> Result<Result<u16, T
     Ok(put_at(table, index, entry_of(alloc, tag, text)?))
 }
 
-/// The table of such lines.
-pub fn table_of(alloc: Global, lines: &str) -> Result<Table, Fail> {
-    let mut table = Table::new(alloc);
+/// The table of such lines, of a language.
+pub fn table_in(alloc: Global, language: Language, lines: &str) -> Result<Table, Fail> {
+    let mut table = Table::of_language(alloc, language);
     for line in lines.lines() {
         put(alloc, &mut table, line)??;
     }
     Ok(table)
+}
+
+/// The table of such lines, of the base language.
+pub fn table_of(alloc: Global, lines: &str) -> Result<Table, Fail> {
+    table_in(alloc, Language::Base, lines)
 }

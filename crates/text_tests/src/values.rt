@@ -1,9 +1,10 @@
 //! What fits a small table, and each cause for which a statement doesn't.
 use crate::rows::Kind;
-use crate::shared::{script_of, table_of, text_of};
+use crate::shared::{language_of, script_of, table_in, text_of};
+use defmt_grammar::Language;
 use defmt_intern::Table;
 use defmt_script::Script;
-use defmt_values::{Args, Item, Items, Node, Seq, Statement, Value, check};
+use defmt_values::{Args, Item, Items, Node, Nodes, Seq, Statement, Value, check};
 use dl_io::Bytes;
 use std::alloc::Global;
 use std::fmt::Write;
@@ -18,6 +19,11 @@ const FURTHER: &str = "\
 5 defmt_prim a|b
 6 defmt_prim k
 7 defmt_prim {}";
+
+// Those behind them in a table of the full language.
+const FULL_FURTHER: &str = "\
+0 defmt_prim first
+8 defmt_derived {=__internal_FormatSequence}";
 
 const SLOTS: &str = "\
 {=u128}, uint 340282366920938463463374607431768211455 = fits
@@ -70,6 +76,34 @@ const LISTS: &str = "\
 {=[?; 2]}, list 0 = cause 5
 {=[?]}, empty list = fits";
 
+// Of a table of the full language.
+const FULL: &str = "\
+full {=f32}, float 4294967295 = fits
+full {=f32}, float 4294967296 = cause 4
+full {=f64}, float 18446744073709551615 = fits
+full {=u64}, float 1 = cause 3
+full {=f32}, uint 1 = cause 3
+full {=__internal_Debug}, str x = fits
+full {=__internal_Display}, str x = fits
+full {=__internal_Debug}, uint 1 = cause 3
+full {=?}, node 4 = cause 2
+full {=?}, node 0 = fits";
+
+const SEQUENCES: &str = "\
+full {=__internal_FormatSequence}, sequence 2 6 = fits
+full {=__internal_FormatSequence}, sequence - = fits
+full {=__internal_FormatSequence}, sequence 2 0 = cause 5
+full {=__internal_FormatSequence}, sequence 2 3 = cause 5
+full {=__internal_FormatSequence}, sequence 99 = cause 5
+full {=__internal_FormatSequence}, sequence 5 = cause 4
+full {=__internal_FormatSequence}, empty list = cause 3
+full {=[?]}, sequence - = cause 3
+full {=__internal_FormatSequence}, chain 16 = fits
+full {=__internal_FormatSequence}, chain 17 = cause 6
+full {=__internal_FormatSequence}, elements 8192 = fits
+full {=__internal_FormatSequence}, elements 8193 = cause 7
+full {0=__internal_FormatSequence}{0=__internal_FormatSequence}, elements 4097 = cause 7";
+
 const NESTED: &str = "\
 s v defmt_info at {} {:x}
 s optional defmt_prim None|Some({=?})
@@ -79,30 +113,31 @@ w 0 v point(number(3) number(255)) optional:1(number(255))
 =
 fits with 2";
 
-fn node_of(index: u16, variant: Option<u8>, args: Args) -> Value {
-    Value::Format(Node {
+fn node_of(index: u16, variant: Option<u8>, args: Args) -> Node {
+    Node {
         index,
         variant,
         args,
-    })
+    }
 }
 
 // A value without arguments, of the variant where two numbers are given.
 fn variant_of(alloc: Global, numbers: &str) -> Result<Value, Fail> {
     let (variant, index) = numbers.split_once(' ').ok_or("no index")?;
     let variant = variant.parse::<u8>()?;
-    Ok(node_of(index.parse::<u16>()?, Some(variant), Args::new(alloc)))
+    let index = index.parse::<u16>()?;
+    Ok(Value::Format(node_of(index, Some(variant), Args::new(alloc))))
 }
 
 // A value in so many others.
 fn nested_of(alloc: Global, levels: u16) -> Result<Value, Fail> {
-    let mut value = node_of(6, None, Args::new(alloc));
+    let mut node = node_of(6, None, Args::new(alloc));
     for _ in 0..levels {
         let mut args = Args::new(alloc);
-        args.push(value)?;
-        value = node_of(7, None, args);
+        args.push(Value::Format(node))?;
+        node = node_of(7, None, args);
     }
-    Ok(value)
+    Ok(Value::Format(node))
 }
 
 // A list of elements without arguments.
@@ -127,6 +162,38 @@ fn empty_list(alloc: Global) -> Value {
     })
 }
 
+// A sequence of elements without arguments, of each index.
+fn sequence_of(alloc: Global, indexes: &str) -> Result<Value, Fail> {
+    let mut nodes = Nodes::new(alloc);
+    for index in indexes.split(' ') {
+        if index != "-" {
+            nodes.push(node_of(index.parse::<u16>()?, None, Args::new(alloc)))?;
+        }
+    }
+    Ok(Value::Sequence(nodes))
+}
+
+// A sequence of so many elements without arguments.
+fn elements_of(alloc: Global, count: u16) -> Result<Value, Fail> {
+    let mut nodes = Nodes::new(alloc);
+    for _ in 0..count {
+        nodes.push(node_of(6, None, Args::new(alloc)))?;
+    }
+    Ok(Value::Sequence(nodes))
+}
+
+// An empty sequence in so many elements of sequences.
+fn chain_of(alloc: Global, levels: u16) -> Result<Value, Fail> {
+    let mut nodes = Nodes::new(alloc);
+    for _ in 0..levels {
+        let mut args = Args::new(alloc);
+        args.push(Value::Sequence(nodes))?;
+        nodes = Nodes::new(alloc);
+        nodes.push(node_of(8, None, args))?;
+    }
+    Ok(Value::Sequence(nodes))
+}
+
 fn value_of(alloc: Global, spelled: &str) -> Result<Value, Fail> {
     let (kind, rest) = spelled.split_once(' ').ok_or("no value")?;
     match kind {
@@ -138,10 +205,14 @@ fn value_of(alloc: Global, spelled: &str) -> Result<Value, Fail> {
         "str" => Ok(Value::Str(text_of(alloc, rest)?)),
         "bytes" => Ok(Value::Bytes(Bytes::from_vec(bytes_of(alloc, rest)?))),
         "istr" => Ok(Value::Istr(rest.parse::<u16>()?)),
-        "node" => Ok(node_of(rest.parse::<u16>()?, None, Args::new(alloc))),
+        "node" => Ok(Value::Format(node_of(rest.parse::<u16>()?, None, Args::new(alloc)))),
         "variant" => variant_of(alloc, rest),
         "nested" => nested_of(alloc, rest.parse::<u16>()?),
         "list" => list_of(alloc, rest.parse::<u16>()?),
+        "float" => Ok(Value::Float(rest.parse::<u64>()?)),
+        "sequence" => sequence_of(alloc, rest),
+        "elements" => elements_of(alloc, rest.parse::<u16>()?),
+        "chain" => chain_of(alloc, rest.parse::<u16>()?),
         _ => Ok(empty_list(alloc)),
     }
 }
@@ -161,10 +232,15 @@ fn put_verdict(verdict: Result<(), u8>, out: &mut String) -> Result<(), Fail> {
     }
 }
 
-// A table whose first string is logged, with the others behind it.
+// A table whose first string is logged, with the others behind it; of the full language where `full` stands in front.
 fn table_with(alloc: Global, first: &str) -> Result<Table, Fail> {
-    let lines = format!(in alloc; "1 defmt_info {first}\n{FURTHER}")?;
-    table_of(alloc, lines.as_str())
+    let (language, text) = language_of(first);
+    let further = match language {
+        Language::Base => "",
+        Language::Full => FULL_FURTHER,
+    };
+    let lines = format!(in alloc; "1 defmt_info {text}\n{FURTHER}\n{further}")?;
+    table_in(alloc, language, lines.as_str())
 }
 
 // Puts what is said of a statement without arguments, of a text or of the string at an index.
@@ -209,4 +285,12 @@ fn counts_kinds_and_entries_are_refused_from_left_to_right_and_lists_fit_up_to_t
 ) -> Result<(), Fail> {
     each_line(rt.alloc(), CAUSES, 15, &Kind::VerdictOf)?;
     each_line(rt.alloc(), LISTS, 10, &Kind::VerdictOf)
+}
+
+#[test]
+fn floats_texts_and_sequences_fit_a_table_of_the_full_language(
+    rt: HostRuntime,
+) -> Result<(), Fail> {
+    each_line(rt.alloc(), FULL, 10, &Kind::VerdictOf)?;
+    each_line(rt.alloc(), SEQUENCES, 13, &Kind::VerdictOf)
 }

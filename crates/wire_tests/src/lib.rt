@@ -10,6 +10,8 @@ mod ears;
 #[cfg(test)]
 mod events;
 #[cfg(test)]
+mod full;
+#[cfg(test)]
 mod gaps;
 #[cfg(test)]
 mod hearing;

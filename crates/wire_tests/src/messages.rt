@@ -235,7 +235,11 @@ fn put_written_by(
 }
 
 pub fn put_written_of_letters(alloc: Global, count: &str, out: &mut String) -> Result<(), Fail> {
-    let script = script_of(alloc, "s say defmt_info {=str}")?;
+    let (strings, count) = match count.strip_prefix("debug ") {
+        Some(count) => ("language full\ns say defmt_info {=__internal_Debug}", count),
+        None => ("s say defmt_info {=str}", count),
+    };
+    let script = script_of(alloc, strings)?;
     put_written_by(alloc, &script, count, out)
 }
 
