@@ -5,6 +5,7 @@ use Rattle.std.proofs.lemmas.Bool.{both_ways}
 use Rattle.std.proofs.lemmas.List.{append-nil}
 use Rattle.defmt_grammar.specs.Cut.{behind, before}
 use Rattle.defmt_grammar.proofs.Cuts.{behind_again, behind_found, before_again, before_found}
+use Rattle.defmt_grammar.specs.declared.language.Language.{Language}
 use Rattle.defmt_shapes.specs.declared.parts.Class.TheVariants.{Word}
 use Rattle.defmt_shapes.specs.Runs.{in_class, run}
 use Rattle.defmt_shapes.specs.Shape.{HeadShape, Shapes, SpellsShapes, call, is_name}
@@ -58,8 +59,8 @@ pub words_in : (text : List ℕ) (p : List ℕ × List ℕ) → p ≡ run (in_cl
 words_in text p e = rw e (run_found (in_class Word) text).passes
 
 -- where the inside spells values, the text is the call of these
-pub call_there : (text name inside : List ℕ) (ss : Shapes) → IsLastCall text name inside → SpellsShapes inside ss → HeadShape text (call name None ss) []
-call_there text name inside ss h s = record {
+pub call_there : (lang : Language) (text name inside : List ℕ) (ss : Shapes) → IsLastCall text name inside → SpellsShapes lang inside ss → HeadShape lang text (call name None ss) []
+call_there lang text name inside ss h s = record {
   front = text;
   spelled = ([], inside, h.name_is, refl, s, h.text_is);
   ends = tt;

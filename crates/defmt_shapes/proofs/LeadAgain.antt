@@ -1,5 +1,5 @@
 -- What is spelled is read so, whatever follows.
-use Rattle.std.proofs.Common.{◌≡◌, ◌≢◌, ◌<◌, ℕ, Bool, true, false, cond, eqb, List, [], ◌∷◌, ◌++◌, length, refl, sym, ap, subst, ◌∙◌, arith, Option, Some, None, inl, inr, append_assoc, codes}
+use Rattle.std.proofs.Common.{◌≡◌, ◌≢◌, ◌<◌, ℕ, Bool, true, false, cond, eqb, List, [], ◌∷◌, ◌++◌, length, refl, sym, ap, subst, ◌∙◌, arith, Option, Some, None, inl, inr, codes}
 use Rattle.std.specs.Char.{is_ascii_alphabetic}
 use Rattle.std.specs.Int.{IsInRange}
 use Rattle.std.specs.Str.Parse.{AllDigits}
@@ -12,19 +12,19 @@ use Rattle.defmt_shapes.specs.Shape.{Shape, IsNumber, IsVariant, IsName, flag_wo
 use Rattle.defmt_shapes.specs.Shape as shapes
 use Rattle.defmt_shapes.specs.Runs.{in_class, run}
 use Rattle.defmt_shapes.specs.Escapes.{IsCharacter, IsQuotedEnd}
-use Rattle.defmt_shapes.specs.Leads.{Lead, decimal, hexadecimal, negative, flag, character, quoted, interned, bytes, empty, call, sequence, some_digits, decimal_lead, hexadecimal_lead, negative_lead, interned_lead, bytes_lead, variant_lead, flag_lead, named_lead, word_lead, plain_lead, marked_lead, quoted_lead, character_lead, IsCharacterLead, IsQuotedLead, IsLead, IsMark, Leads}
+use Rattle.defmt_shapes.specs.Leads.{Lead, decimal, hexadecimal, negative, flag, character, quoted, interned, bytes, empty, call, sequence, some_digits, decimal_lead, hexadecimal_lead, negative_lead, interned_lead, bytes_lead, variant_lead, flag_lead, named_lead, word_lead, plain_lead, marked_lead, quoted_lead, character_lead, IsCharacterLead, IsQuotedLead, IsLead, IsMark}
 use Rattle.defmt_shapes.proofs.NameLaws.{name_parts}
 use Rattle.defmt_shapes.proofs.RunLaws.{FailsThere, run_again, digits_pass}
 use Rattle.defmt_shapes.proofs.CharacterLaws.{character_again, reads}
 use Rattle.defmt_shapes.proofs.EscapeLaws.{behind_other}
-use Rattle.defmt_shapes.proofs.LeadForms.{StopsThere, stops_behind, stops_class, letter_range, letter_no_digit, name_words, variant_again, bytes_pass, pairs_again}
+use Rattle.defmt_shapes.proofs.LeadForms.{StopsThere, IsInner, stops_behind, stops_class, letter_range, letter_no_digit, name_words, variant_again, bytes_pass, pairs_again}
 
 abbrev pub begins : Lead → List ℕ → Option (Lead × List ℕ)
 begins lead after = Some (lead, after)
 
 -- ---- the first byte decides
 
-as_marked : (c : ℕ) (cs : List ℕ) → c ≢ 34 → c ≢ 39 → IsLead (c ∷ cs) (marked_lead (c ∷ cs))
+pub as_marked : (c : ℕ) (cs : List ℕ) → c ≢ 34 → c ≢ 39 → IsLead (c ∷ cs) (marked_lead (c ∷ cs))
 as_marked c cs n m =
     let o = marked_lead (c ∷ cs) in
     subst (λ (q : Option (List ℕ)). IsQuotedLead (c ∷ cs) q o) (sym (behind_other 34 c cs n))
@@ -59,17 +59,22 @@ letter_start c h =
 some_again : (make : List ℕ → Lead) (digits rest : List ℕ) → 0 < length digits → some_digits make (digits, rest) ≡ begins (make digits) rest
 some_again make digits rest h = rw (ne_eqb (length digits) 0 (λ e. omega arith)) refl
 
-decimal_again : (digits rest : List ℕ) → 0 < length digits → AllDigits 10 digits → StopsThere rest → decimal_lead (digits ++ rest) ≡ begins (decimal digits) rest
+-- no digit follows, and no `x`
+pub record EndsDigits (rest : List ℕ) : Type 0 where
+  pub fails : FailsThere (in_class Decimal) rest
+  pub no_x : strip (codes "x") rest ≡ None
+
+decimal_again : (digits rest : List ℕ) → 0 < length digits → AllDigits 10 digits → FailsThere (in_class Decimal) rest → decimal_lead (digits ++ rest) ≡ begins (decimal digits) rest
 unfolding decimal_lead
-decimal_again digits rest some all stops = rw (run_again (in_class Decimal) digits rest (digits_pass 10 digits all) (stops_class Decimal rest refl stops)) (some_again decimal digits rest some)
+decimal_again digits rest some all fails = rw (run_again (in_class Decimal) digits rest (digits_pass 10 digits all) fails) (some_again decimal digits rest some)
 
 hexadecimal_again : (digits rest : List ℕ) → 0 < length digits → AllDigits 16 digits → StopsThere rest → hexadecimal_lead (digits ++ rest) ≡ begins (hexadecimal digits) rest
 unfolding hexadecimal_lead
 hexadecimal_again digits rest some all stops = rw (run_again (in_class Hexadecimal) digits rest (digits_pass 16 digits all) (stops_class Hexadecimal rest refl stops)) (some_again hexadecimal digits rest some)
 
-negative_again : (digits rest : List ℕ) → 0 < length digits → AllDigits 10 digits → StopsThere rest → negative_lead (digits ++ rest) ≡ begins (negative digits) rest
+negative_again : (digits rest : List ℕ) → 0 < length digits → AllDigits 10 digits → FailsThere (in_class Decimal) rest → negative_lead (digits ++ rest) ≡ begins (negative digits) rest
 unfolding negative_lead
-negative_again digits rest some all stops = rw (run_again (in_class Decimal) digits rest (digits_pass 10 digits all) (stops_class Decimal rest refl stops)) (some_again negative digits rest some)
+negative_again digits rest some all fails = rw (run_again (in_class Decimal) digits rest (digits_pass 10 digits all) fails) (some_again negative digits rest some)
 
 both_none : {A : Type 0} (b : Bool) (o : Option A) → o ≡ None → cond b o None ≡ None
 both_none true o e = e
@@ -79,25 +84,29 @@ no_x_stop : (rest : List ℕ) → StopsThere rest → strip (codes "x") rest ≡
 unfolding strip
 no_x_stop [] h = refl
 no_x_stop (c ∷ cs) (inl e) = rw e refl
-no_x_stop (c ∷ cs) (inr e) = rw e refl
+no_x_stop (c ∷ cs) (inr (inl e)) = rw e refl
+no_x_stop (c ∷ cs) (inr (inr e)) = rw e refl
 
-no_x : (ds rest : List ℕ) → AllDigits 10 ds → StopsThere rest → strip (codes "x") (ds ++ rest) ≡ None
+pub stops_digits : (rest : List ℕ) → StopsThere rest → EndsDigits rest
+stops_digits rest h = record { fails = stops_class Decimal rest refl h; no_x = no_x_stop rest h }
+
+no_x : (ds rest : List ℕ) → AllDigits 10 ds → EndsDigits rest → strip (codes "x") (ds ++ rest) ≡ None
 unfolding strip
-no_x [] rest all stops = no_x_stop rest stops
-no_x (d ∷ ds) rest all stops = let r = digit_from_value d all.0 in rw (ne_eqb d 120 (λ e. omega (arith, r.1))) refl
+no_x [] rest all ends = ends.no_x
+no_x (d ∷ ds) rest all ends = let r = digit_from_value d all.0 in rw (ne_eqb d 120 (λ e. omega (arith, r.1))) refl
 
 -- decimal digits don't begin with `0x`
-no_hexadecimal : (d : ℕ) (ds rest : List ℕ) → AllDigits 10 ds → StopsThere rest → strip (codes "0x") (d ∷ (ds ++ rest)) ≡ None
+no_hexadecimal : (d : ℕ) (ds rest : List ℕ) → AllDigits 10 ds → EndsDigits rest → strip (codes "0x") (d ∷ (ds ++ rest)) ≡ None
 unfolding strip
-no_hexadecimal d ds rest all stops = both_none (eqb d 48) (strip (codes "x") (ds ++ rest)) (no_x ds rest all stops)
+no_hexadecimal d ds rest all ends = both_none (eqb d 48) (strip (codes "x") (ds ++ rest)) (no_x ds rest all ends)
 
-plain_decimal : (d : ℕ) (ds rest : List ℕ) → AllDigits 10 (d ∷ ds) → StopsThere rest → plain_lead (d ∷ (ds ++ rest)) ≡ begins (decimal (d ∷ ds)) rest
+plain_decimal : (d : ℕ) (ds rest : List ℕ) → AllDigits 10 (d ∷ ds) → EndsDigits rest → plain_lead (d ∷ (ds ++ rest)) ≡ begins (decimal (d ∷ ds)) rest
 unfolding plain_lead
-plain_decimal d ds rest all stops = rw (no_hexadecimal d ds rest all.1 stops, decimal_again (d ∷ ds) rest (omega arith) all stops) refl
+plain_decimal d ds rest all ends = rw (no_hexadecimal d ds rest all.1 ends, decimal_again (d ∷ ds) rest (omega arith) all ends.fails) refl
 
-pub decimal_leads : (digits rest : List ℕ) (n : ℕ) → IsNumber 10 digits n → StopsThere rest → IsLead (digits ++ rest) (begins (decimal digits) rest)
-decimal_leads [] rest n h stops = absurd (omega (arith, h.some))
-decimal_leads (d ∷ ds) rest n h stops = as_plain d (ds ++ rest) (begins (decimal (d ∷ ds)) rest) (digit_start d (digit_from_value d h.all.0)) (plain_decimal d ds rest h.all stops)
+pub decimal_leads : (digits rest : List ℕ) (n : ℕ) → IsNumber 10 digits n → EndsDigits rest → IsLead (digits ++ rest) (begins (decimal digits) rest)
+decimal_leads [] rest n h ends = absurd (omega (arith, h.some))
+decimal_leads (d ∷ ds) rest n h ends = as_plain d (ds ++ rest) (begins (decimal (d ∷ ds)) rest) (digit_start d (digit_from_value d h.all.0)) (plain_decimal d ds rest h.all ends)
 
 plain_hexadecimal : (more : List ℕ) → plain_lead (48 ∷ 120 ∷ more) ≡ hexadecimal_lead more
 unfolding plain_lead strip
@@ -108,13 +117,13 @@ hexadecimal_leads digits rest n h stops =
     as_plain 48 (120 ∷ (digits ++ rest)) (begins (hexadecimal digits) rest) (digit_start 48 (omega arith, omega arith))
     (plain_hexadecimal (digits ++ rest) ∙ hexadecimal_again digits rest h.some h.all stops)
 
-marked_negative : (more : List ℕ) → marked_lead (45 ∷ more) ≡ negative_lead more
+pub marked_negative : (more : List ℕ) → marked_lead (45 ∷ more) ≡ negative_lead more
 unfolding marked_lead behind
 marked_negative more = refl
 
-pub negative_leads : (digits rest : List ℕ) (n : ℕ) → IsNumber 10 digits n → StopsThere rest → IsLead (45 ∷ (digits ++ rest)) (begins (negative digits) rest)
-negative_leads digits rest n h stops =
-    subst (IsLead (45 ∷ (digits ++ rest))) (marked_negative (digits ++ rest) ∙ negative_again digits rest h.some h.all stops)
+pub negative_leads : (digits rest : List ℕ) (n : ℕ) → IsNumber 10 digits n → FailsThere (in_class Decimal) rest → IsLead (45 ∷ (digits ++ rest)) (begins (negative digits) rest)
+negative_leads digits rest n h fails =
+    subst (IsLead (45 ∷ (digits ++ rest))) (marked_negative (digits ++ rest) ∙ negative_again digits rest h.some h.all fails)
     (as_marked 45 (digits ++ rest) (λ e. omega arith) (λ e. omega arith))
 
 -- ---- names
@@ -167,7 +176,7 @@ word_again : (name rest : List ℕ) → IsName name → FailsThere (in_class Wor
 unfolding word_lead
 word_again name rest h fails = rw (run_again (in_class Word) name rest (name_words name h) fails) (rw h refl)
 
-named_leads : (name rest : List ℕ) (o : Option (Lead × List ℕ)) → IsName name → FailsThere (in_class Word) rest → named_lead name rest ≡ o → IsLead (name ++ rest) o
+pub named_leads : (name rest : List ℕ) (o : Option (Lead × List ℕ)) → IsName name → FailsThere (in_class Word) rest → named_lead name rest ≡ o → IsLead (name ++ rest) o
 named_leads name rest o h fails e =
     let n = name_parts name h in
     let whole : n.first ∷ (n.more ++ rest) ≡ name ++ rest = ap (λ (t : List ℕ). t ++ rest) (sym n.name_is) in
@@ -175,10 +184,24 @@ named_leads name rest o h fails e =
     (as_plain n.first (n.more ++ rest) o (letter_start n.first n.letter)
     (letter_plain n.first (n.more ++ rest) n.letter ∙ ap word_lead whole ∙ word_again name rest h fails ∙ e))
 
+round_inner : IsInner 40
+round_inner = record { no_space = λ e. omega arith; no_round = λ e. omega arith; no_angle = λ e. omega arith }
+
+colon_inner : IsInner 58
+colon_inner = record { no_space = λ e. omega arith; no_round = λ e. omega arith; no_angle = λ e. omega arith }
+
+square_inner : IsInner 91
+square_inner = record { no_space = λ e. omega arith; no_round = λ e. omega arith; no_angle = λ e. omega arith }
+
+-- a name that no bracket and no `:` follows is a truth value or none
+pub named_alone : (name rest : List ℕ) → StopsThere rest → named_lead name rest ≡ flag_lead name rest
+unfolding named_lead
+named_alone name rest stops = rw (stops_behind 40 rest round_inner stops, stops_behind 58 rest colon_inner stops, stops_behind 91 rest square_inner stops) refl
+
 named_flag : (b : Bool) (rest : List ℕ) → StopsThere rest → named_lead (flag_word b) rest ≡ begins (flag b) rest
-unfolding named_lead flag_lead
-named_flag true rest stops = rw (stops_behind 40 rest (λ e. omega arith) (λ e. omega arith) stops, stops_behind 58 rest (λ e. omega arith) (λ e. omega arith) stops, stops_behind 91 rest (λ e. omega arith) (λ e. omega arith) stops) refl
-named_flag false rest stops = rw (stops_behind 40 rest (λ e. omega arith) (λ e. omega arith) stops, stops_behind 58 rest (λ e. omega arith) (λ e. omega arith) stops, stops_behind 91 rest (λ e. omega arith) (λ e. omega arith) stops) refl
+unfolding flag_lead
+named_flag true rest stops = named_alone (flag_word true) rest stops
+named_flag false rest stops = named_alone (flag_word false) rest stops
 
 flag_name : (b : Bool) → IsName (flag_word b)
 flag_name true = refl
@@ -240,44 +263,3 @@ pub character_leads : (inside rest : List ℕ) (c : ℕ) → SpellsCharacter 39 
 character_leads inside rest c h =
     single_marks (inside ++ 39 ∷ rest) (begins (character c) rest) (reads c (39 ∷ rest)) (character_again 39 inside (39 ∷ rest) c (omega arith) h)
     (rw (behind_again 39 rest) refl)
-
--- ---- shapes
-
-pub record Begins (s : Shape) (text rest : List ℕ) : Type 0 where
-  pub lead : Lead
-  pub after : List ℕ
-  pub is_lead : IsLead text (begins lead after)
-  pub leads : Leads lead after rest s
-
-at_front : (s : Shape) (text front whole rest : List ℕ) (lead : Lead) (after : List ℕ) → text ≡ front → front ++ rest ≡ whole → IsLead whole (begins lead after) → Leads lead after rest s → Begins s (text ++ rest) rest
-at_front s text front whole rest lead after e f h k = record {
-  lead = lead;
-  after = after;
-  is_lead = subst (λ (t : List ℕ). IsLead t (begins lead after)) (sym (ap (λ (t : List ℕ). t ++ rest) e ∙ f)) h;
-  leads = k;
-}
-
-closing : (inside rest : List ℕ) (c : ℕ) → (inside ++ c ∷ []) ++ rest ≡ inside ++ c ∷ rest
-closing inside rest c = append_assoc inside (c ∷ []) rest
-
--- what a shape's text begins with
-pub begins_with : (s : Shape) (text rest : List ℕ) → SpellsShape text s → StopsThere rest → Begins s (text ++ rest) rest
-begins_with (shapes.decimal n) text rest h stops = record { lead = decimal text; after = rest; is_lead = decimal_leads text rest n h stops; leads = (n, refl, h, refl) }
-begins_with (shapes.hexadecimal n) text rest (digits, h, e) stops = at_front (shapes.hexadecimal n) text (48 ∷ 120 ∷ digits) (48 ∷ 120 ∷ (digits ++ rest)) rest (hexadecimal digits) rest e refl (hexadecimal_leads digits rest n h stops) (n, refl, h, refl)
-begins_with (shapes.negative n) text rest (digits, h, e) stops = at_front (shapes.negative n) text (45 ∷ digits) (45 ∷ (digits ++ rest)) rest (negative digits) rest e refl (negative_leads digits rest n h stops) (n, refl, h, refl)
-begins_with (shapes.flag b) text rest e stops = at_front (shapes.flag b) text (flag_word b) (flag_word b ++ rest) rest (flag b) rest e refl (flag_leads b rest stops) (refl, refl)
-begins_with (shapes.character c) text rest (inside, h, e) stops = at_front (shapes.character c) text (39 ∷ (inside ++ 39 ∷ [])) (39 ∷ (inside ++ 39 ∷ rest)) rest (character c) rest e (ap (λ (t : List ℕ). 39 ∷ t) (closing inside rest 39)) (character_leads inside rest c h) (refl, refl)
-begins_with (shapes.quoted s) text rest (inside, h, e) stops = at_front (shapes.quoted s) text (34 ∷ (inside ++ 34 ∷ [])) (34 ∷ (inside ++ 34 ∷ rest)) rest (quoted inside) rest e (ap (λ (t : List ℕ). 34 ∷ t) (closing inside rest 34)) (quoted_leads inside rest h.0 h.1) (s, refl, h, refl)
-begins_with (shapes.interned name) text rest (h, e) stops = at_front (shapes.interned name) text (64 ∷ name) (64 ∷ (name ++ rest)) rest (interned name) rest e refl (interned_leads name rest h stops) (refl, refl)
-begins_with (shapes.bytes bs) text rest (digits, h, e) stops = at_front (shapes.bytes bs) text (35 ∷ digits) (35 ∷ (digits ++ rest)) rest (bytes digits) rest e refl (bytes_leads digits rest bs h stops) (bs, refl, h, refl)
-begins_with shapes.empty text rest e stops = at_front shapes.empty text (91 ∷ 93 ∷ []) (91 ∷ 93 ∷ rest) rest empty rest e refl (empty_leads rest) (refl, refl)
-begins_with (shapes.call name variant ss) text rest (mark, inside, h, k, spelled, e) stops =
-    let c = call_leads name mark (inside ++ 41 ∷ rest) variant h k in
-    at_front (shapes.call name variant ss) text (name ++ (mark ++ 40 ∷ (inside ++ 41 ∷ []))) (name ++ (mark ++ 40 ∷ (inside ++ 41 ∷ rest))) rest (call name c.0) (inside ++ 41 ∷ rest) e
-    (append_assoc name (mark ++ 40 ∷ (inside ++ 41 ∷ [])) rest
-    ∙ ap (λ (t : List ℕ). name ++ t) (append_assoc mark (40 ∷ (inside ++ 41 ∷ [])) rest ∙ ap (λ (t : List ℕ). mark ++ 40 ∷ t) (closing inside rest 41)))
-    c.2 (variant, ss, inside, refl, c.1, spelled, refl)
-begins_with (shapes.sequence name items) text rest (inside, h, starts, spelled, e) stops =
-    at_front (shapes.sequence name items) text (name ++ 91 ∷ (inside ++ 93 ∷ [])) (name ++ 91 ∷ (inside ++ 93 ∷ rest)) rest (sequence name) (inside ++ 93 ∷ rest) e
-    (append_assoc name (91 ∷ (inside ++ 93 ∷ [])) rest ∙ ap (λ (t : List ℕ). name ++ 91 ∷ t) (closing inside rest 93))
-    (sequence_leads name (inside ++ 93 ∷ rest) h) (items, inside, refl, starts, spelled, refl)

@@ -18,13 +18,20 @@ use Rattle.defmt_shapes.proofs.RunLaws.{FailsThere}
 -- what follows a value inside brackets or outside
 abbrev pub StopsThere : List ℕ → Type 0
 StopsThere [] = Unit {0}
-StopsThere (c ∷ cs) = (c ≡ 32) ⊎ (c ≡ 41)
+StopsThere (c ∷ cs) = (c ≡ 32) ⊎ ((c ≡ 41) ⊎ (c ≡ 62))
 
-pub stops_behind : (c : ℕ) (rest : List ℕ) → c ≢ 32 → c ≢ 41 → StopsThere rest → behind c rest ≡ None
+-- a character that may follow no value
+pub record IsInner (c : ℕ) : Type 0 where
+  pub no_space : c ≢ 32
+  pub no_round : c ≢ 41
+  pub no_angle : c ≢ 62
+
+pub stops_behind : (c : ℕ) (rest : List ℕ) → IsInner c → StopsThere rest → behind c rest ≡ None
 unfolding behind
-stops_behind c [] n m h = refl
-stops_behind c (d ∷ ds) n m (inl e) = rw (ne_eqb d c (λ k. n (sym k ∙ e))) refl
-stops_behind c (d ∷ ds) n m (inr e) = rw (ne_eqb d c (λ k. m (sym k ∙ e))) refl
+stops_behind c [] n h = refl
+stops_behind c (d ∷ ds) n (inl e) = rw (ne_eqb d c (λ k. n.no_space (sym k ∙ e))) refl
+stops_behind c (d ∷ ds) n (inr (inl e)) = rw (ne_eqb d c (λ k. n.no_round (sym k ∙ e))) refl
+stops_behind c (d ∷ ds) n (inr (inr e)) = rw (ne_eqb d c (λ k. n.no_angle (sym k ∙ e))) refl
 
 class_shut : (class : Class) → in_class class 41 ≡ false
 class_shut Decimal = refl
@@ -32,11 +39,18 @@ class_shut Hexadecimal = refl
 class_shut Word = refl
 class_shut Numbers = refl
 
+class_angle : (class : Class) → in_class class 62 ≡ false
+class_angle Decimal = refl
+class_angle Hexadecimal = refl
+class_angle Word = refl
+class_angle Numbers = refl
+
 -- a class without the space
 pub stops_class : (class : Class) (rest : List ℕ) → in_class class 32 ≡ false → StopsThere rest → FailsThere (in_class class) rest
 stops_class class [] no_space h = tt
 stops_class class (c ∷ cs) no_space (inl e) = subst (λ (x : ℕ). in_class class x ≡ false) (sym e) no_space
-stops_class class (c ∷ cs) no_space (inr e) = subst (λ (x : ℕ). in_class class x ≡ false) (sym e) (class_shut class)
+stops_class class (c ∷ cs) no_space (inr (inl e)) = subst (λ (x : ℕ). in_class class x ≡ false) (sym e) (class_shut class)
+stops_class class (c ∷ cs) no_space (inr (inr e)) = subst (λ (x : ℕ). in_class class x ≡ false) (sym e) (class_angle class)
 
 -- ---- letters
 

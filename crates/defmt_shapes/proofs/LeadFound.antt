@@ -6,12 +6,13 @@ use Rattle.std.proofs.lemmas.Option.{same_Some, none-some, cond_some}
 use Rattle.std.proofs.lemmas.Slice.Eq.{bytes_eq-Decides}
 use Rattle.defmt_grammar.specs.Cut.{behind, strip}
 use Rattle.defmt_grammar.proofs.Cuts.{behind_found, strip_found}
+use Rattle.defmt_grammar.specs.declared.language.Language.{Language}
 use Rattle.defmt_shapes.specs.declared.parts.Class.TheVariants.{Decimal, Hexadecimal, Word}
-use Rattle.defmt_shapes.specs.Shape.{Shape, IsNumber, IsVariant, IsName, is_name, flag_word, IsCallMark, SpellsShape}
+use Rattle.defmt_shapes.specs.Shape.{Shape, IsFull, IsNumber, IsVariant, IsName, is_name, flag_word, IsCallMark, SpellsShape}
 use Rattle.defmt_shapes.specs.Shape as shapes
 use Rattle.defmt_shapes.specs.Runs.{in_class, run, either, is_variant}
 use Rattle.defmt_shapes.specs.Escapes.{IsCharacter, IsQuotedEnd}
-use Rattle.defmt_shapes.specs.Leads.{Lead, decimal, hexadecimal, negative, flag, character, quoted, interned, bytes, empty, call, sequence, some_digits, decimal_lead, hexadecimal_lead, negative_lead, interned_lead, bytes_lead, variant_lead, flag_lead, named_lead, word_lead, or_word, plain_lead, marked_lead, quoted_lead, character_lead, IsCharacterLead, IsQuotedLead, IsLead, IsMark, Leads, IsWhole}
+use Rattle.defmt_shapes.specs.Leads.{Lead, decimal, hexadecimal, negative, flag, character, quoted, interned, bytes, empty, float, call, sequence, nodes, some_digits, decimal_lead, hexadecimal_lead, negative_lead, interned_lead, bytes_lead, variant_lead, flag_lead, named_lead, word_lead, or_word, plain_lead, marked_lead, quoted_lead, character_lead, IsCharacterLead, IsQuotedLead, IsLead, IsMark, Leads, IsWhole}
 use Rattle.defmt_shapes.proofs.RunLaws.{run_found, pass_digits}
 use Rattle.defmt_shapes.proofs.CharacterLaws.{character_found, character_one}
 use Rattle.defmt_shapes.proofs.EscapeLaws.{either_found, guarded}
@@ -19,38 +20,42 @@ use Rattle.defmt_shapes.proofs.QuoteLaws.{quoted_one}
 use Rattle.defmt_shapes.proofs.LeadForms.{variant_found, pairs_found}
 
 -- a value that is read whole
-abbrev pub FoundWhole : List ℕ → Lead → List ℕ → Type 0
-FoundWhole text lead after = (front : List ℕ) × (s : Shape) × SpellsShape front s × (text ≡ front ++ after) × Leads lead after after s
+abbrev pub FoundWhole : (lang : Language) → List ℕ → Lead → List ℕ → Type 0
+FoundWhole lang text lead after = (front : List ℕ) × (s : Shape) × SpellsShape lang front s × (text ≡ front ++ after) × Leads lang lead after after s
 
 -- what the text spells in front, up to the first bracket
-abbrev pub Found : List ℕ → Lead → List ℕ → Type 0
-Found text (decimal digits) after = FoundWhole text (decimal digits) after
-Found text (hexadecimal digits) after = FoundWhole text (hexadecimal digits) after
-Found text (negative digits) after = FoundWhole text (negative digits) after
-Found text (flag b) after = FoundWhole text (flag b) after
-Found text (character c) after = FoundWhole text (character c) after
-Found text (quoted inside) after = FoundWhole text (quoted inside) after
-Found text (interned name) after = FoundWhole text (interned name) after
-Found text (bytes digits) after = FoundWhole text (bytes digits) after
-Found text empty after = FoundWhole text empty after
-Found text (call name m) after = (mark : List ℕ) × (v : Option ℕ) × IsName name × IsCallMark mark v × IsMark m v × (text ≡ name ++ (mark ++ 40 ∷ after))
-Found text (sequence name) after = IsName name × (text ≡ name ++ 91 ∷ after)
+abbrev pub Found : (lang : Language) → List ℕ → Lead → List ℕ → Type 0
+Found lang text (decimal digits) after = FoundWhole lang text (decimal digits) after
+Found lang text (hexadecimal digits) after = FoundWhole lang text (hexadecimal digits) after
+Found lang text (negative digits) after = FoundWhole lang text (negative digits) after
+Found lang text (flag b) after = FoundWhole lang text (flag b) after
+Found lang text (character c) after = FoundWhole lang text (character c) after
+Found lang text (quoted inside) after = FoundWhole lang text (quoted inside) after
+Found lang text (interned name) after = FoundWhole lang text (interned name) after
+Found lang text (bytes digits) after = FoundWhole lang text (bytes digits) after
+Found lang text empty after = FoundWhole lang text empty after
+Found lang text (float t) after = FoundWhole lang text (float t) after
+Found lang text (call name m) after = (mark : List ℕ) × (v : Option ℕ) × IsName name × IsCallMark mark v × IsMark m v × (text ≡ name ++ (mark ++ 40 ∷ after))
+Found lang text (sequence name) after = IsName name × (text ≡ name ++ 91 ∷ after)
+Found lang text nodes after = IsFull lang × (text ≡ 60 ∷ after)
 
-pub whole_found : (text : List ℕ) (lead : Lead) (after : List ℕ) → IsWhole lead → Found text lead after → FoundWhole text lead after
-whole_found text (decimal digits) after w h = h
-whole_found text (hexadecimal digits) after w h = h
-whole_found text (negative digits) after w h = h
-whole_found text (flag b) after w h = h
-whole_found text (character c) after w h = h
-whole_found text (quoted inside) after w h = h
-whole_found text (interned name) after w h = h
-whole_found text (bytes digits) after w h = h
-whole_found text empty after w h = h
-whole_found text (call name m) after w h = absurd w
-whole_found text (sequence name) after w h = absurd w
+pub whole_found : (lang : Language) (text : List ℕ) (lead : Lead) (after : List ℕ) → IsWhole lead → Found lang text lead after → FoundWhole lang text lead after
+whole_found lang text (decimal digits) after w h = h
+whole_found lang text (hexadecimal digits) after w h = h
+whole_found lang text (negative digits) after w h = h
+whole_found lang text (flag b) after w h = h
+whole_found lang text (character c) after w h = h
+whole_found lang text (quoted inside) after w h = h
+whole_found lang text (interned name) after w h = h
+whole_found lang text (bytes digits) after w h = h
+whole_found lang text empty after w h = h
+whole_found lang text (float t) after w h = h
+whole_found lang text (call name m) after w h = absurd w
+whole_found lang text (sequence name) after w h = absurd w
+whole_found lang text nodes after w h = absurd w
 
-abbrev Finds : List ℕ → Lead × List ℕ → Type 0
-Finds text p = Found text p.0 p.1
+abbrev pub Finds : (lang : Language) → List ℕ → Lead × List ℕ → Type 0
+Finds lang text p = Found lang text p.0 p.1
 
 pub either_cases : {A : Type 0} (o : Option (List ℕ)) (f : List ℕ → Option A) (other : Option A) (x : A) → either o f other ≡ Some x → ((rest : List ℕ) × (o ≡ Some rest) × (f rest ≡ Some x)) ⊎ ((o ≡ None) × (other ≡ Some x))
 either_cases None f other x h = inr (refl, h)
@@ -71,58 +76,58 @@ digits_found make d p h =
 pub number_in : (radix : ℕ) (digits : List ℕ) → 0 < length digits → AllDigits radix digits → IsNumber radix digits (digits_value radix digits)
 number_in radix digits some all = record { some = some; all = all; value = refl }
 
-decimal_found : (text : List ℕ) (p : Lead × List ℕ) → decimal_lead text ≡ Some p → Finds text p
+decimal_found : (lang : Language) (text : List ℕ) (p : Lead × List ℕ) → decimal_lead text ≡ Some p → Finds lang text p
 unfolding decimal_lead
-decimal_found text p h =
+decimal_found lang text p h =
     let d = run (in_class Decimal) text in
     let r = run_found (in_class Decimal) text in
     let k = digits_found decimal d p h in
     let n = number_in 10 d.0 k.0 (pass_digits 10 d.0 r.passes) in
-    subst (Finds text) k.1 (d.0, shapes.decimal (digits_value 10 d.0), n, r.text_is, (digits_value 10 d.0, refl, n, refl))
+    subst (Finds lang text) k.1 (d.0, shapes.decimal (digits_value 10 d.0), n, r.text_is, (digits_value 10 d.0, refl, n, refl))
 
-hexadecimal_found : (text more : List ℕ) (p : Lead × List ℕ) → text ≡ 48 ∷ 120 ∷ more → hexadecimal_lead more ≡ Some p → Finds text p
+hexadecimal_found : (lang : Language) (text more : List ℕ) (p : Lead × List ℕ) → text ≡ 48 ∷ 120 ∷ more → hexadecimal_lead more ≡ Some p → Finds lang text p
 unfolding hexadecimal_lead
-hexadecimal_found text more p e h =
+hexadecimal_found lang text more p e h =
     let d = run (in_class Hexadecimal) more in
     let r = run_found (in_class Hexadecimal) more in
     let k = digits_found hexadecimal d p h in
     let n = number_in 16 d.0 k.0 (pass_digits 16 d.0 r.passes) in
-    subst (Finds text) k.1 (48 ∷ 120 ∷ d.0, shapes.hexadecimal (digits_value 16 d.0), (d.0, n, refl), e ∙ ap (λ (t : List ℕ). 48 ∷ 120 ∷ t) r.text_is, (digits_value 16 d.0, refl, n, refl))
+    subst (Finds lang text) k.1 (48 ∷ 120 ∷ d.0, shapes.hexadecimal (digits_value 16 d.0), (d.0, n, refl), e ∙ ap (λ (t : List ℕ). 48 ∷ 120 ∷ t) r.text_is, (digits_value 16 d.0, refl, n, refl))
 
-negative_found : (text more : List ℕ) (p : Lead × List ℕ) → text ≡ 45 ∷ more → negative_lead more ≡ Some p → Finds text p
+negative_found : (lang : Language) (text more : List ℕ) (p : Lead × List ℕ) → text ≡ 45 ∷ more → negative_lead more ≡ Some p → Finds lang text p
 unfolding negative_lead
-negative_found text more p e h =
+negative_found lang text more p e h =
     let d = run (in_class Decimal) more in
     let r = run_found (in_class Decimal) more in
     let k = digits_found negative d p h in
     let n = number_in 10 d.0 k.0 (pass_digits 10 d.0 r.passes) in
-    subst (Finds text) k.1 (45 ∷ d.0, shapes.negative (digits_value 10 d.0), (d.0, n, refl), e ∙ ap (λ (t : List ℕ). 45 ∷ t) r.text_is, (digits_value 10 d.0, refl, n, refl))
+    subst (Finds lang text) k.1 (45 ∷ d.0, shapes.negative (digits_value 10 d.0), (d.0, n, refl), e ∙ ap (λ (t : List ℕ). 45 ∷ t) r.text_is, (digits_value 10 d.0, refl, n, refl))
 
 -- ---- names and pairs
 
-interned_found : (text more : List ℕ) (p : Lead × List ℕ) → text ≡ 64 ∷ more → interned_lead more ≡ Some p → Finds text p
+interned_found : (lang : Language) (text more : List ℕ) (p : Lead × List ℕ) → text ≡ 64 ∷ more → interned_lead more ≡ Some p → Finds lang text p
 unfolding interned_lead
-interned_found text more p e h =
+interned_found lang text more p e h =
     let d = run (in_class Word) more in
     let r = run_found (in_class Word) more in
     let k = cond_some (is_name d.0) (interned d.0, d.1) p h in
-    subst (Finds text) k.1 (64 ∷ d.0, shapes.interned d.0, (k.0, refl), e ∙ ap (λ (t : List ℕ). 64 ∷ t) r.text_is, (refl, refl))
+    subst (Finds lang text) k.1 (64 ∷ d.0, shapes.interned d.0, (k.0, refl), e ∙ ap (λ (t : List ℕ). 64 ∷ t) r.text_is, (refl, refl))
 
 halves : (n : ℕ) → n % 2 ≡ 0 → n ≡ 2 * (n / 2)
 halves n h = omega arith
 
-bytes_found : (text more : List ℕ) (p : Lead × List ℕ) → text ≡ 35 ∷ more → bytes_lead more ≡ Some p → Finds text p
+bytes_found : (lang : Language) (text more : List ℕ) (p : Lead × List ℕ) → text ≡ 35 ∷ more → bytes_lead more ≡ Some p → Finds lang text p
 unfolding bytes_lead
-bytes_found text more p e h =
+bytes_found lang text more p e h =
     let d = run (in_class Hexadecimal) more in
     let r = run_found (in_class Hexadecimal) more in
     let k = cond_some (eqb (length d.0 % 2) 0) (bytes d.0, d.1) p h in
     let b = pairs_found (length d.0 / 2) d.0 (halves (length d.0) (eqb-true (length d.0 % 2) 0 k.0)) (pass_digits 16 d.0 r.passes) in
-    subst (Finds text) k.1 (35 ∷ d.0, shapes.bytes b.0, (d.0, b.1, refl), e ∙ ap (λ (t : List ℕ). 35 ∷ t) r.text_is, (b.0, refl, b.1, refl))
+    subst (Finds lang text) k.1 (35 ∷ d.0, shapes.bytes b.0, (d.0, b.1, refl), e ∙ ap (λ (t : List ℕ). 35 ∷ t) r.text_is, (b.0, refl, b.1, refl))
 
-variant_leads_found : (text name more : List ℕ) (p : Lead × List ℕ) → IsName name → text ≡ name ++ 58 ∷ more → variant_lead name more ≡ Some p → Finds text p
+variant_leads_found : (lang : Language) (text name more : List ℕ) (p : Lead × List ℕ) → IsName name → text ≡ name ++ 58 ∷ more → variant_lead name more ≡ Some p → Finds lang text p
 unfolding variant_lead
-variant_leads_found text name more p n e h =
+variant_leads_found lang text name more p n e h =
     let d = run (in_class Decimal) more in
     let r = run_found (in_class Decimal) more in
     let all = pass_digits 10 d.0 r.passes in
@@ -131,78 +136,78 @@ variant_leads_found text name more p n e h =
     let v = variant_found d.0 all g.0 in
     let is : IsVariant d.0 (digits_value 10 d.0) = record { number = number_in 10 d.0 v.0 all; no_leading_zero = v.1 } in
     let tail : more ≡ d.0 ++ 40 ∷ k.0 = r.text_is ∙ ap (λ (t : List ℕ). d.0 ++ t) (behind_found 40 d.1 k.0 k.1) in
-    subst (Finds text) (same_Some (call name (Some d.0), k.0) p k.2)
+    subst (Finds lang text) (same_Some (call name (Some d.0), k.0) p k.2)
     (58 ∷ d.0, Some (digits_value 10 d.0), n, (d.0, is, refl), is, e ∙ ap (λ (t : List ℕ). name ++ 58 ∷ t) tail)
 
-flag_is : (b : Bool) (text name rest : List ℕ) (p : Lead × List ℕ) → text ≡ name ++ rest → bytes_eq name (flag_word b) ≡ true → (flag b, rest) ≡ p → Finds text p
-flag_is b text name rest p e same h =
+flag_is : (lang : Language) (b : Bool) (text name rest : List ℕ) (p : Lead × List ℕ) → text ≡ name ++ rest → bytes_eq name (flag_word b) ≡ true → (flag b, rest) ≡ p → Finds lang text p
+flag_is lang b text name rest p e same h =
     let word : name ≡ flag_word b = (bytes_eq-Decides name (flag_word b)).0 same in
-    subst (Finds text) h (flag_word b, shapes.flag b, refl, e ∙ ap (λ (t : List ℕ). t ++ rest) word, (refl, refl))
+    subst (Finds lang text) h (flag_word b, shapes.flag b, refl, e ∙ ap (λ (t : List ℕ). t ++ rest) word, (refl, refl))
 
-flag_test : (a b : Bool) (text name rest : List ℕ) (p : Lead × List ℕ) → text ≡ name ++ rest → bytes_eq name (codes "true") ≡ a → bytes_eq name (codes "false") ≡ b → cond a (Some (flag true, rest)) (cond b (Some (flag false, rest)) None) ≡ Some p → Finds text p
-flag_test true b text name rest p e t f h = flag_is true text name rest p e t (same_Some (flag true, rest) p h)
-flag_test false true text name rest p e t f h = flag_is false text name rest p e f (same_Some (flag false, rest) p h)
-flag_test false false text name rest p e t f h = absurd (none-some p h)
+flag_test : (lang : Language) (a b : Bool) (text name rest : List ℕ) (p : Lead × List ℕ) → text ≡ name ++ rest → bytes_eq name (codes "true") ≡ a → bytes_eq name (codes "false") ≡ b → cond a (Some (flag true, rest)) (cond b (Some (flag false, rest)) None) ≡ Some p → Finds lang text p
+flag_test lang true b text name rest p e t f h = flag_is lang true text name rest p e t (same_Some (flag true, rest) p h)
+flag_test lang false true text name rest p e t f h = flag_is lang false text name rest p e f (same_Some (flag false, rest) p h)
+flag_test lang false false text name rest p e t f h = absurd (none-some p h)
 
-flag_found : (text name rest : List ℕ) (p : Lead × List ℕ) → text ≡ name ++ rest → flag_lead name rest ≡ Some p → Finds text p
+flag_found : (lang : Language) (text name rest : List ℕ) (p : Lead × List ℕ) → text ≡ name ++ rest → flag_lead name rest ≡ Some p → Finds lang text p
 unfolding flag_lead
-flag_found text name rest p e h = flag_test (bytes_eq name (codes "true")) (bytes_eq name (codes "false")) text name rest p e refl refl h
+flag_found lang text name rest p e h = flag_test lang (bytes_eq name (codes "true")) (bytes_eq name (codes "false")) text name rest p e refl refl h
 
-call_at : (text name rest inside : List ℕ) (p : Lead × List ℕ) → IsName name → text ≡ name ++ rest → behind 40 rest ≡ Some inside → (call name None, inside) ≡ p → Finds text p
-call_at text name rest inside p n e b h = subst (Finds text) h ([], None, n, refl, tt, e ∙ ap (λ (t : List ℕ). name ++ t) (behind_found 40 rest inside b))
+call_at : (lang : Language) (text name rest inside : List ℕ) (p : Lead × List ℕ) → IsName name → text ≡ name ++ rest → behind 40 rest ≡ Some inside → (call name None, inside) ≡ p → Finds lang text p
+call_at lang text name rest inside p n e b h = subst (Finds lang text) h ([], None, n, refl, tt, e ∙ ap (λ (t : List ℕ). name ++ t) (behind_found 40 rest inside b))
 
-sequence_at : (text name rest inside : List ℕ) (p : Lead × List ℕ) → IsName name → text ≡ name ++ rest → behind 91 rest ≡ Some inside → (sequence name, inside) ≡ p → Finds text p
-sequence_at text name rest inside p n e b h = subst (Finds text) h (n, e ∙ ap (λ (t : List ℕ). name ++ t) (behind_found 91 rest inside b))
+sequence_at : (lang : Language) (text name rest inside : List ℕ) (p : Lead × List ℕ) → IsName name → text ≡ name ++ rest → behind 91 rest ≡ Some inside → (sequence name, inside) ≡ p → Finds lang text p
+sequence_at lang text name rest inside p n e b h = subst (Finds lang text) h (n, e ∙ ap (λ (t : List ℕ). name ++ t) (behind_found 91 rest inside b))
 
-named_found : (text name rest : List ℕ) (p : Lead × List ℕ) → IsName name → text ≡ name ++ rest → named_lead name rest ≡ Some p → Finds text p
+named_found : (lang : Language) (text name rest : List ℕ) (p : Lead × List ℕ) → IsName name → text ≡ name ++ rest → named_lead name rest ≡ Some p → Finds lang text p
 unfolding named_lead
-named_found text name rest p n e h =
+named_found lang text name rest p n e h =
     elim (either_cases (behind 40 rest) (λ (inside : List ℕ). Some (call name None, inside)) (either (behind 58 rest) (variant_lead name) (either (behind 91 rest) (λ (inside : List ℕ). Some (sequence name, inside)) (flag_lead name rest))) p h) [
-      | inl k ↦ call_at text name rest k.0 p n e k.1 (same_Some (call name None, k.0) p k.2)
+      | inl k ↦ call_at lang text name rest k.0 p n e k.1 (same_Some (call name None, k.0) p k.2)
       | inr k ↦ elim (either_cases (behind 58 rest) (variant_lead name) (either (behind 91 rest) (λ (inside : List ℕ). Some (sequence name, inside)) (flag_lead name rest)) p k.1) [
-        | inl m ↦ variant_leads_found text name m.0 p n (e ∙ ap (λ (t : List ℕ). name ++ t) (behind_found 58 rest m.0 m.1)) m.2
+        | inl m ↦ variant_leads_found lang text name m.0 p n (e ∙ ap (λ (t : List ℕ). name ++ t) (behind_found 58 rest m.0 m.1)) m.2
         | inr m ↦ elim (either_cases (behind 91 rest) (λ (inside : List ℕ). Some (sequence name, inside)) (flag_lead name rest) p m.1) [
-          | inl q ↦ sequence_at text name rest q.0 p n e q.1 (same_Some (sequence name, q.0) p q.2)
-          | inr q ↦ flag_found text name rest p e q.1
+          | inl q ↦ sequence_at lang text name rest q.0 p n e q.1 (same_Some (sequence name, q.0) p q.2)
+          | inr q ↦ flag_found lang text name rest p e q.1
         ]
       ]
     ]
 
-word_found : (text : List ℕ) (p : Lead × List ℕ) → word_lead text ≡ Some p → Finds text p
+word_found : (lang : Language) (text : List ℕ) (p : Lead × List ℕ) → word_lead text ≡ Some p → Finds lang text p
 unfolding word_lead
-word_found text p h =
+word_found lang text p h =
     let d = run (in_class Word) text in
     let r = run_found (in_class Word) text in
     let g = guarded (is_name d.0) (named_lead d.0 d.1) p h in
-    named_found text d.0 d.1 p g.0 r.text_is g.1
+    named_found lang text d.0 d.1 p g.0 r.text_is g.1
 
-or_word_found : (text : List ℕ) (o : Option (Lead × List ℕ)) (p : Lead × List ℕ) → decimal_lead text ≡ o → or_word text o ≡ Some p → Finds text p
-or_word_found text None p e h = word_found text p h
-or_word_found text (Some q) p e h = decimal_found text p (e ∙ h)
+or_word_found : (lang : Language) (text : List ℕ) (o : Option (Lead × List ℕ)) (p : Lead × List ℕ) → decimal_lead text ≡ o → or_word text o ≡ Some p → Finds lang text p
+or_word_found lang text None p e h = word_found lang text p h
+or_word_found lang text (Some q) p e h = decimal_found lang text p (e ∙ h)
 
-plain_found : (text : List ℕ) (p : Lead × List ℕ) → plain_lead text ≡ Some p → Finds text p
+plain_found : (lang : Language) (text : List ℕ) (p : Lead × List ℕ) → plain_lead text ≡ Some p → Finds lang text p
 unfolding plain_lead
-plain_found text p h =
+plain_found lang text p h =
     elim (either_cases (strip (codes "0x") text) hexadecimal_lead (or_word text (decimal_lead text)) p h) [
-      | inl k ↦ hexadecimal_found text k.0 p (strip_found (codes "0x") text k.0 k.1) k.2
-      | inr k ↦ or_word_found text (decimal_lead text) p refl k.1
+      | inl k ↦ hexadecimal_found lang text k.0 p (strip_found (codes "0x") text k.0 k.1) k.2
+      | inr k ↦ or_word_found lang text (decimal_lead text) p refl k.1
     ]
 
-empty_at : (text rest : List ℕ) (p : Lead × List ℕ) → text ≡ 91 ∷ 93 ∷ rest → (empty, rest) ≡ p → Finds text p
-empty_at text rest p e h = subst (Finds text) h (91 ∷ 93 ∷ [], shapes.empty, refl, e, (refl, refl))
+empty_at : (lang : Language) (text rest : List ℕ) (p : Lead × List ℕ) → text ≡ 91 ∷ 93 ∷ rest → (empty, rest) ≡ p → Finds lang text p
+empty_at lang text rest p e h = subst (Finds lang text) h (91 ∷ 93 ∷ [], shapes.empty, refl, e, (refl, refl))
 
-marked_found : (text : List ℕ) (p : Lead × List ℕ) → marked_lead text ≡ Some p → Finds text p
+marked_found : (lang : Language) (text : List ℕ) (p : Lead × List ℕ) → marked_lead text ≡ Some p → Finds lang text p
 unfolding marked_lead
-marked_found text p h =
+marked_found lang text p h =
     elim (either_cases (behind 45 text) negative_lead (either (behind 64 text) interned_lead (either (behind 35 text) bytes_lead (either (strip (codes "[]") text) (λ (rest : List ℕ). Some (empty, rest)) (plain_lead text)))) p h) [
-      | inl k ↦ negative_found text k.0 p (behind_found 45 text k.0 k.1) k.2
+      | inl k ↦ negative_found lang text k.0 p (behind_found 45 text k.0 k.1) k.2
       | inr k ↦ elim (either_cases (behind 64 text) interned_lead (either (behind 35 text) bytes_lead (either (strip (codes "[]") text) (λ (rest : List ℕ). Some (empty, rest)) (plain_lead text))) p k.1) [
-        | inl m ↦ interned_found text m.0 p (behind_found 64 text m.0 m.1) m.2
+        | inl m ↦ interned_found lang text m.0 p (behind_found 64 text m.0 m.1) m.2
         | inr m ↦ elim (either_cases (behind 35 text) bytes_lead (either (strip (codes "[]") text) (λ (rest : List ℕ). Some (empty, rest)) (plain_lead text)) p m.1) [
-          | inl q ↦ bytes_found text q.0 p (behind_found 35 text q.0 q.1) q.2
+          | inl q ↦ bytes_found lang text q.0 p (behind_found 35 text q.0 q.1) q.2
           | inr q ↦ elim (either_cases (strip (codes "[]") text) (λ (rest : List ℕ). Some (empty, rest)) (plain_lead text) p q.1) [
-            | inl x ↦ empty_at text x.0 p (strip_found (codes "[]") text x.0 x.1) (same_Some (empty, x.0) p x.2)
-            | inr x ↦ plain_found text p x.1
+            | inl x ↦ empty_at lang text x.0 p (strip_found (codes "[]") text x.0 x.1) (same_Some (empty, x.0) p x.2)
+            | inr x ↦ plain_found lang text p x.1
           ]
         ]
       ]
@@ -210,33 +215,33 @@ marked_found text p h =
 
 -- ---- quotes
 
-quoted_found : (text more : List ℕ) (q : Option (List ℕ × List ℕ)) (p : Lead × List ℕ) → text ≡ 34 ∷ more → IsQuotedEnd more q → quoted_lead q ≡ Some p → Finds text p
-quoted_found text more None p e h k = absurd (none-some p k)
-quoted_found text more (Some q) p e h k =
+quoted_found : (lang : Language) (text more : List ℕ) (q : Option (List ℕ × List ℕ)) (p : Lead × List ℕ) → text ≡ 34 ∷ more → IsQuotedEnd more q → quoted_lead q ≡ Some p → Finds lang text p
+quoted_found lang text more None p e h k = absurd (none-some p k)
+quoted_found lang text more (Some q) p e h k =
     let t : List ℕ = encode_utf8_all h.cs in
-    subst (Finds text) (same_Some (quoted q.0, q.1) p k)
+    subst (Finds lang text) (same_Some (quoted q.0, q.1) p k)
     (34 ∷ (q.0 ++ 34 ∷ []), shapes.quoted t, (q.0, (h.cs, h.spelled, refl), refl), e ∙ ap (λ (x : List ℕ). 34 ∷ x) (h.text_is ∙ sym (append_assoc q.0 (34 ∷ []) q.1)), (t, refl, (h.cs, h.spelled, refl), refl))
 
-character_leads_found : (text more : List ℕ) (q : Option (ℕ × List ℕ)) (p : Lead × List ℕ) → text ≡ 39 ∷ more → IsCharacter 39 more q → character_lead q ≡ Some p → Finds text p
-character_leads_found text more None p e h k = absurd (none-some p k)
-character_leads_found text more (Some q) p e h k =
+character_leads_found : (lang : Language) (text more : List ℕ) (q : Option (ℕ × List ℕ)) (p : Lead × List ℕ) → text ≡ 39 ∷ more → IsCharacter 39 more q → character_lead q ≡ Some p → Finds lang text p
+character_leads_found lang text more None p e h k = absurd (none-some p k)
+character_leads_found lang text more (Some q) p e h k =
     let f = character_found 39 more q (omega arith) h in
     let b = either_found (behind 39 q.1) (λ (rest : List ℕ). Some (character q.0, rest)) p k in
     let tail : more ≡ f.0 ++ 39 ∷ b.0 = f.2 ∙ ap (λ (t : List ℕ). f.0 ++ t) (behind_found 39 q.1 b.0 b.1) in
-    subst (Finds text) (same_Some (character q.0, b.0) p b.2)
+    subst (Finds lang text) (same_Some (character q.0, b.0) p b.2)
     (39 ∷ (f.0 ++ 39 ∷ []), shapes.character q.0, (f.0, f.1, refl), e ∙ ap (λ (x : List ℕ). 39 ∷ x) (tail ∙ sym (append_assoc f.0 (39 ∷ []) b.0)), (refl, refl))
 
-single_found : (text : List ℕ) (o : Option (List ℕ)) (p : Lead × List ℕ) → behind 39 text ≡ o → IsCharacterLead text o (Some p) → Finds text p
-single_found text None p e h = marked_found text p (sym h)
-single_found text (Some more) p e h = character_leads_found text more h.0 p (behind_found 39 text more e) h.1 (sym h.2)
+single_found : (lang : Language) (text : List ℕ) (o : Option (List ℕ)) (p : Lead × List ℕ) → behind 39 text ≡ o → IsCharacterLead text o (Some p) → Finds lang text p
+single_found lang text None p e h = marked_found lang text p (sym h)
+single_found lang text (Some more) p e h = character_leads_found lang text more h.0 p (behind_found 39 text more e) h.1 (sym h.2)
 
-double_found : (text : List ℕ) (o : Option (List ℕ)) (p : Lead × List ℕ) → behind 34 text ≡ o → IsQuotedLead text o (Some p) → Finds text p
-double_found text None p e h = single_found text (behind 39 text) p refl h
-double_found text (Some more) p e h = quoted_found text more h.0 p (behind_found 34 text more e) h.1 (sym h.2)
+double_found : (lang : Language) (text : List ℕ) (o : Option (List ℕ)) (p : Lead × List ℕ) → behind 34 text ≡ o → IsQuotedLead text o (Some p) → Finds lang text p
+double_found lang text None p e h = single_found lang text (behind 39 text) p refl h
+double_found lang text (Some more) p e h = quoted_found lang text more h.0 p (behind_found 34 text more e) h.1 (sym h.2)
 
 -- what is read is spelled in front
-pub lead_found : (text : List ℕ) (lead : Lead) (after : List ℕ) → IsLead text (Some (lead, after)) → Found text lead after
-lead_found text lead after h = double_found text (behind 34 text) (lead, after) refl h
+pub lead_found : (lang : Language) (text : List ℕ) (lead : Lead) (after : List ℕ) → IsLead text (Some (lead, after)) → Found lang text lead after
+lead_found lang text lead after h = double_found lang text (behind 34 text) (lead, after) refl h
 
 single_one : (text : List ℕ) (m : Option (List ℕ)) (o r : Option (Lead × List ℕ)) → IsCharacterLead text m o → IsCharacterLead text m r → o ≡ r
 single_one text None o r h k = h ∙ sym k

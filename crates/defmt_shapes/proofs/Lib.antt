@@ -7,9 +7,14 @@ mod QuoteLaws
 pub mod LeadForms
 pub mod LeadAgain
 pub mod LeadFound
+mod FloatLaws
+pub mod FullLeads
+mod BeginLaws
 pub mod ShapeLaws
 pub mod ScanLaws
-pub mod LeaveLaws
+mod LeaveLaws
+mod AngleLaws
+pub mod ReaderLaws
 mod OneLead
 pub mod OneLaws
 pub mod FlatLaws

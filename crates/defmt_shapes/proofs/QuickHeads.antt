@@ -7,6 +7,7 @@ use Rattle.std.specs.Str.Parse.{AllDigits, digits_value}
 use Rattle.std.proofs.lemmas.Int.Digits.{digits_more, digits_value_more}
 use Rattle.std.proofs.lemmas.Bool.{le-ltb, lt-ltb}
 use Rattle.std.proofs.lemmas.List.{take-append-drop}
+use Rattle.defmt_grammar.specs.declared.language.Language.{Language}
 use Rattle.defmt_shapes.specs.Shape.{EndsThere, HeadShape, SpellsBytes, SpellsQuoted, decimal, negative, quoted, bytes}
 
 -- up to this place stand digits alone, which stand for the number
@@ -35,32 +36,32 @@ digit_more text items i number digit u same lt low high is h =
       value = digits_value_more 10 text i within ∙ ap (λ (n : ℕ). digits_value 10 (take i text) * 10 + n) value ∙ ap (λ (n : ℕ). n * 10 + digit) h.value;
     }
 
-pub decimal_there : (text : List ℕ) (at number : ℕ) (front rest : List ℕ) → AllDigits 10 (take at text) → digits_value 10 (take at text) ≡ number → front ≡ take at text → rest ≡ drop at text → 0 < length front → EndsThere rest → HeadShape text (decimal number) rest
-decimal_there text at number front rest all value f b some ends = record {
+pub decimal_there : (lang : Language) (text : List ℕ) (at number : ℕ) (front rest : List ℕ) → AllDigits 10 (take at text) → digits_value 10 (take at text) ≡ number → front ≡ take at text → rest ≡ drop at text → 0 < length front → EndsThere rest → HeadShape lang text (decimal number) rest
+decimal_there lang text at number front rest all value f b some ends = record {
   front = front;
   spelled = record { some = some; all = subst (AllDigits 10) (sym f) all; value = ap (digits_value 10) f ∙ value };
   ends = ends;
   text_is = two_parts text front rest at f b;
 }
 
-pub negative_there : (text digits rest : List ℕ) (n : ℕ) → text ≡ 45 ∷ digits → HeadShape digits (decimal n) rest → HeadShape text (negative n) rest
-negative_there text digits rest n e h = record {
+pub negative_there : (lang : Language) (text digits rest : List ℕ) (n : ℕ) → text ≡ 45 ∷ digits → HeadShape lang digits (decimal n) rest → HeadShape lang text (negative n) rest
+negative_there lang text digits rest n e h = record {
   front = 45 ∷ h.front;
   spelled = (h.front, h.spelled, refl);
   ends = h.ends;
   text_is = e ∙ ap (λ (t : List ℕ). 45 ∷ t) h.text_is;
 }
 
-pub quoted_there : (text tail inside more rest : List ℕ) → text ≡ 34 ∷ tail → tail ≡ inside ++ more → more ≡ 34 ∷ rest → EndsThere rest → SpellsQuoted inside inside → HeadShape text (quoted inside) rest
-quoted_there text tail inside more rest e parts closes ends spells = record {
+pub quoted_there : (lang : Language) (text tail inside more rest : List ℕ) → text ≡ 34 ∷ tail → tail ≡ inside ++ more → more ≡ 34 ∷ rest → EndsThere rest → SpellsQuoted inside inside → HeadShape lang text (quoted inside) rest
+quoted_there lang text tail inside more rest e parts closes ends spells = record {
   front = 34 ∷ (inside ++ 34 ∷ []);
   spelled = (inside, spells, refl);
   ends = ends;
   text_is = e ∙ ap (λ (t : List ℕ). 34 ∷ t) (parts ∙ ap (λ (t : List ℕ). inside ++ t) closes ∙ sym (append_assoc inside (34 ∷ []) rest));
 }
 
-pub bytes_there : (text tail digits rest bs : List ℕ) → text ≡ 35 ∷ tail → tail ≡ digits ++ rest → SpellsBytes digits bs → EndsThere rest → HeadShape text (bytes bs) rest
-bytes_there text tail digits rest bs e parts spells ends = record {
+pub bytes_there : (lang : Language) (text tail digits rest bs : List ℕ) → text ≡ 35 ∷ tail → tail ≡ digits ++ rest → SpellsBytes digits bs → EndsThere rest → HeadShape lang text (bytes bs) rest
+bytes_there lang text tail digits rest bs e parts spells ends = record {
   front = 35 ∷ digits;
   spelled = (digits, spells, refl);
   ends = ends;

@@ -125,3 +125,8 @@ behind_not c (x ∷ xs) h = rw (ne_eqb x c (h (omega arith))) refl
 
 pub run_hexadecimal : (text : List ℕ) (p : List ℕ × List ℕ) → p ≡ run (in_class Hexadecimal) text → AllDigits 16 p.0
 run_hexadecimal text p e = pass_digits 16 p.0 (rw e (run_found (in_class Hexadecimal) text).passes)
+
+-- the byte behind a front
+pub get_at : (xs ys : List ℕ) (c : ℕ) → get_or (xs ++ c ∷ ys) (length xs) 0 ≡ c
+get_at [] ys c = refl
+get_at (x ∷ xs) ys c = get_at xs ys c

@@ -5,25 +5,27 @@ use Rattle.defmt_grammar.specs.Cut.{AreSpaces, behind, skip_spaces}
 use Rattle.defmt_grammar.specs.Param.{has_leading_zero}
 use Rattle.defmt_grammar.proofs.Cuts.{behind_again, behind_found, skip_found}
 use Rattle.std.specs.Str.Parse.{AllDigits, digits_value}
+use Rattle.defmt_grammar.specs.declared.language.Language.{Language}
 use Rattle.defmt_shapes.specs.declared.parts.Class.TheVariants.{Decimal}
 use Rattle.defmt_shapes.specs.declared.head.Whole.{Whole}
 use Rattle.defmt_shapes.specs.declared.head.Whole.TheVariants as wholes
 use Rattle.defmt_shapes.specs.declared.scan.Bracket.{Bracket}
-use Rattle.defmt_shapes.specs.declared.scan.Bracket.TheVariants.{Round, Square}
+use Rattle.defmt_shapes.specs.declared.scan.Bracket.TheVariants.{Round, Square, Angle}
 use Rattle.defmt_shapes.specs.declared.scan.Place.{Place}
 use Rattle.defmt_shapes.specs.declared.scan.Place.TheVariants.{Before, After}
 use Rattle.defmt_shapes.specs.declared.scan.Step.{Step}
 use Rattle.defmt_shapes.specs.declared.scan.Step.TheVariants.{Begin, End, Open, Close}
-use Rattle.defmt_shapes.specs.Shape.{Shape, no_shapes, shape, no_items, item, IsVariant, IsItemMark, SpellsShape}
+use Rattle.defmt_shapes.specs.Shape.{Shape, AreCalls, IsCall, no_shapes, shape, no_items, item, IsVariant, IsItemMark, SpellsShape}
 use Rattle.defmt_shapes.specs.Shape as shapes
 use Rattle.defmt_shapes.specs.Runs.{in_class, run, either}
-use Rattle.defmt_shapes.specs.Leads.{Lead, call, sequence, IsLead, mark_of, item_of, view_whole, IsMark}
+use Rattle.defmt_shapes.specs.Leads.{Lead, call, sequence, nodes, IsLeadIn, mark_of, item_of, view_whole, IsMark}
 use Rattle.defmt_shapes.specs.Leads as leads
-use Rattle.defmt_shapes.specs.Scan.{closing, MayStand, step_of_lead, lead_step, after_step, IsValueStep, IsStep, Ends, Awaits}
+use Rattle.defmt_shapes.specs.Scan.{closing, MayStand, step_of_lead, lead_step, call_of_lead, call_step, after_step, IsValueStep, IsCallStep, IsStep, Ends, Awaits}
 use Rattle.defmt_shapes.proofs.RunLaws.{run_found, run_again, digits_pass, pass_digits}
 use Rattle.defmt_shapes.proofs.EscapeLaws.{mapped}
 use Rattle.defmt_shapes.proofs.LeadForms.{no_zero_again, no_zero_found}
-use Rattle.defmt_shapes.proofs.LeadFound.{Found, FoundWhole, whole_found, lead_found, either_cases, number_in}
+use Rattle.defmt_shapes.proofs.LeadFound.{Found, FoundWhole, whole_found, either_cases, number_in}
+use Rattle.defmt_shapes.proofs.FullLeads.{found_in}
 use Rattle.defmt_shapes.proofs.ShapeLaws.{shapes_spaced, items_spaced, value_starts, mark_starts}
 
 abbrev pub goes_on : Step → List ℕ → Option (Step × List ℕ)
@@ -83,100 +85,137 @@ item_again mark after (Some v) h = (Some mark, h, item_variant mark after v h)
 
 -- ---- what a step asks of what follows
 
-abbrev pub AwaitsNext : Bracket → List ℕ → Bracket → List Bracket → Step → List ℕ → Type 0
-AwaitsNext first text b bs Begin rest = Awaits first text b bs Before rest
-AwaitsNext first text b bs End rest = Awaits first text b bs After rest
-AwaitsNext first text b bs (Open c) rest = Awaits first text c (b ∷ bs) Before rest
-AwaitsNext first text b bs Close rest = Ends first text bs rest
+abbrev pub AwaitsNext : (lang : Language) → Bracket → List ℕ → Bracket → List Bracket → Step → List ℕ → Type 0
+AwaitsNext lang first text b bs Begin rest = Awaits lang first text b bs Before rest
+AwaitsNext lang first text b bs End rest = Awaits lang first text b bs After rest
+AwaitsNext lang first text b bs (Open c) rest = Awaits lang first text c (b ∷ bs) Before rest
+AwaitsNext lang first text b bs Close rest = Ends lang first text bs rest
 
-abbrev Awaited : Bracket → List ℕ → Bracket → List Bracket → Step × List ℕ → Type 0
-Awaited first text b bs p = AwaitsNext first text b bs p.0 p.1
+abbrev Awaited : (lang : Language) → Bracket → List ℕ → Bracket → List Bracket → Step × List ℕ → Type 0
+Awaited lang first text b bs p = AwaitsNext lang first text b bs p.0 p.1
 
-close_at : (first b : Bracket) (text : List ℕ) (bs : List Bracket) (place : Place) (rest after : List ℕ) → MayStand b place [] → Awaits first text b bs place rest → rest ≡ closing b ∷ after → Ends first text bs after
-close_at first b text bs place rest after none h e = h [] after e none
+close_at : (lang : Language) (first b : Bracket) (text : List ℕ) (bs : List Bracket) (place : Place) (rest after : List ℕ) → MayStand lang b place [] → Awaits lang first text b bs place rest → rest ≡ closing b ∷ after → Ends lang first text bs after
+close_at lang first b text bs place rest after none h e = h [] after e none
 
-space_at : (first b : Bracket) (text : List ℕ) (bs : List Bracket) (place : Place) (rest more : List ℕ)
-    → ((sp inside : List ℕ) → AreSpaces sp → MayStand b Before inside → MayStand b place (32 ∷ (sp ++ inside)))
-    → Awaits first text b bs place rest → rest ≡ 32 ∷ more → Awaits first text b bs Before (skip_spaces more)
-space_at first b text bs place rest more spaced h e = λ inside after f m.
+space_at : (lang : Language) (first b : Bracket) (text : List ℕ) (bs : List Bracket) (place : Place) (rest more : List ℕ)
+    → ((sp inside : List ℕ) → AreSpaces sp → MayStand lang b Before inside → MayStand lang b place (32 ∷ (sp ++ inside)))
+    → Awaits lang first text b bs place rest → rest ≡ 32 ∷ more → Awaits lang first text b bs Before (skip_spaces more)
+space_at lang first b text bs place rest more spaced h e = λ inside after f m.
     let k = skip_found more in
     h (32 ∷ (k.0 ++ inside)) after
     (e ∙ ap (λ (t : List ℕ). 32 ∷ t) (k.2 ∙ ap (λ (t : List ℕ). k.0 ++ t) f ∙ sym (append_assoc k.0 inside (closing b ∷ after))))
     (spaced k.0 inside k.1 m)
 
-after_sound : (first b : Bracket) (text : List ℕ) (bs : List Bracket) (place : Place) (rest : List ℕ) (p : Step × List ℕ) → MayStand b place []
-    → ((sp inside : List ℕ) → AreSpaces sp → MayStand b Before inside → MayStand b place (32 ∷ (sp ++ inside)))
-    → Awaits first text b bs place rest → after_step b rest ≡ Some p → Awaited first text b bs p
-after_sound first b text bs place rest p none spaced h e =
+after_sound : (lang : Language) (first b : Bracket) (text : List ℕ) (bs : List Bracket) (place : Place) (rest : List ℕ) (p : Step × List ℕ) → MayStand lang b place []
+    → ((sp inside : List ℕ) → AreSpaces sp → MayStand lang b Before inside → MayStand lang b place (32 ∷ (sp ++ inside)))
+    → Awaits lang first text b bs place rest → after_step b rest ≡ Some p → Awaited lang first text b bs p
+after_sound lang first b text bs place rest p none spaced h e =
     elim (either_cases (behind (closing b) rest) (λ (after : List ℕ). goes_on Close after) (either (behind 32 rest) (λ (after : List ℕ). goes_on Begin (skip_spaces after)) None) p e) [
-      | inl k ↦ subst (Awaited first text b bs) (same_Some (Close, k.0) p k.2) (close_at first b text bs place rest k.0 none h (behind_found (closing b) rest k.0 k.1))
+      | inl k ↦ subst (Awaited lang first text b bs) (same_Some (Close, k.0) p k.2) (close_at lang first b text bs place rest k.0 none h (behind_found (closing b) rest k.0 k.1))
       | inr k ↦ elim (either_cases (behind 32 rest) (λ (after : List ℕ). goes_on Begin (skip_spaces after)) None p k.1) [
-        | inl m ↦ subst (Awaited first text b bs) (same_Some (Begin, skip_spaces m.0) p m.2) (space_at first b text bs place rest m.0 spaced h (behind_found 32 rest m.0 m.1))
+        | inl m ↦ subst (Awaited lang first text b bs) (same_Some (Begin, skip_spaces m.0) p m.2) (space_at lang first b text bs place rest m.0 spaced h (behind_found 32 rest m.0 m.1))
         | inr m ↦ absurd (none-some p m.1)
       ]
     ]
 
-round_spaced : (sp inside : List ℕ) → AreSpaces sp → MayStand Round Before inside → MayStand Round Before (32 ∷ (sp ++ inside))
-round_spaced sp inside a (ss, h) = (ss, shapes_spaced (32 ∷ sp) inside ss (refl, a) h)
+round_spaced : (lang : Language) (sp inside : List ℕ) → AreSpaces sp → MayStand lang Round Before inside → MayStand lang Round Before (32 ∷ (sp ++ inside))
+round_spaced lang sp inside a (ss, h) = (ss, shapes_spaced lang (32 ∷ sp) inside ss (refl, a) h)
 
-round_spaced_after : (sp inside : List ℕ) → AreSpaces sp → MayStand Round Before inside → MayStand Round After (32 ∷ (sp ++ inside))
-round_spaced_after sp inside a (ss, h) = (ss, refl, shapes_spaced (32 ∷ sp) inside ss (refl, a) h)
+round_spaced_after : (lang : Language) (sp inside : List ℕ) → AreSpaces sp → MayStand lang Round Before inside → MayStand lang Round After (32 ∷ (sp ++ inside))
+round_spaced_after lang sp inside a (ss, h) = (ss, refl, shapes_spaced lang (32 ∷ sp) inside ss (refl, a) h)
 
-square_spaced : (sp inside : List ℕ) → AreSpaces sp → MayStand Square Before inside → MayStand Square After (32 ∷ (sp ++ inside))
-square_spaced sp inside a (items, starts, h) = (items, refl, items_spaced (32 ∷ sp) inside items (refl, a) starts h)
+square_spaced : (lang : Language) (sp inside : List ℕ) → AreSpaces sp → MayStand lang Square Before inside → MayStand lang Square After (32 ∷ (sp ++ inside))
+square_spaced lang sp inside a (items, starts, h) = (items, refl, items_spaced lang (32 ∷ sp) inside items (refl, a) starts h)
+
+angle_spaced : (lang : Language) (sp inside : List ℕ) → AreSpaces sp → MayStand lang Angle Before inside → MayStand lang Angle Before (32 ∷ (sp ++ inside))
+angle_spaced lang sp inside a (ss, calls, h) = (ss, calls, shapes_spaced lang (32 ∷ sp) inside ss (refl, a) h)
+
+angle_spaced_after : (lang : Language) (sp inside : List ℕ) → AreSpaces sp → MayStand lang Angle Before inside → MayStand lang Angle After (32 ∷ (sp ++ inside))
+angle_spaced_after lang sp inside a (ss, calls, h) = (ss, calls, refl, shapes_spaced lang (32 ∷ sp) inside ss (refl, a) h)
 
 -- a value in front
-read_value : (first : Bracket) (text : List ℕ) (bs : List Bracket) (rest front after : List ℕ) (s : Shape) → Awaits first text Round bs Before rest → SpellsShape front s → rest ≡ front ++ after → Ends first text (Round ∷ bs) after
-read_value first text bs rest front after s h spelled e = λ inside end f m.
+read_value : (lang : Language) (first : Bracket) (text : List ℕ) (bs : List Bracket) (rest front after : List ℕ) (s : Shape) → Awaits lang first text Round bs Before rest → SpellsShape lang front s → rest ≡ front ++ after → Ends lang first text (Round ∷ bs) after
+read_value lang first text bs rest front after s h spelled e = λ inside end f m.
     h (front ++ inside) end (e ∙ ap (λ (t : List ℕ). front ++ t) f ∙ sym (append_assoc front inside (41 ∷ end)))
     (shape s m.0, ([], front, inside, tt, spelled, m.1, m.2, refl))
 
-whole_sound : (first : Bracket) (text : List ℕ) (bs : List Bracket) (rest after : List ℕ) (lead : Lead) → FoundWhole rest lead after → Awaits first text Round bs Before rest → Awaits first text Round bs After after
-whole_sound first text bs rest after lead f h = read_value first text bs rest f.0 after f.1 h f.2 f.3
+whole_sound : (lang : Language) (first : Bracket) (text : List ℕ) (bs : List Bracket) (rest after : List ℕ) (lead : Lead) → FoundWhole lang rest lead after → Awaits lang first text Round bs Before rest → Awaits lang first text Round bs After after
+whole_sound lang first text bs rest after lead f h = read_value lang first text bs rest f.0 after f.1 h f.2 f.3
 
 closed_text : (inside after : List ℕ) (c : ℕ) → inside ++ c ∷ after ≡ (inside ++ c ∷ []) ++ after
 closed_text inside after c = sym (append_assoc inside (c ∷ []) after)
 
-call_sound : (first : Bracket) (text : List ℕ) (bs : List Bracket) (rest after name : List ℕ) (m : Option (List ℕ)) → Found rest (call name m) after → Awaits first text Round bs Before rest → Awaits first text Round (Round ∷ bs) Before after
-call_sound first text bs rest after name m (mark, v, n, cm, means, e) h = λ inside end f k.
-    read_value first text bs rest (name ++ (mark ++ 40 ∷ (inside ++ 41 ∷ []))) end (shapes.call name v k.0) h (mark, inside, n, cm, k.1, refl)
+call_sound : (lang : Language) (first : Bracket) (text : List ℕ) (bs : List Bracket) (rest after name : List ℕ) (m : Option (List ℕ)) → Found lang rest (call name m) after → Awaits lang first text Round bs Before rest → Awaits lang first text Round (Round ∷ bs) Before after
+call_sound lang first text bs rest after name m (mark, v, n, cm, means, e) h = λ inside end f k.
+    read_value lang first text bs rest (name ++ (mark ++ 40 ∷ (inside ++ 41 ∷ []))) end (shapes.call name v k.0) h (mark, inside, n, cm, k.1, refl)
     (e ∙ ap (λ (t : List ℕ). name ++ (mark ++ 40 ∷ t)) (f ∙ closed_text inside end 41)
     ∙ ap (λ (t : List ℕ). name ++ t) (sym (append_assoc mark (40 ∷ (inside ++ 41 ∷ [])) end))
     ∙ sym (append_assoc name (mark ++ 40 ∷ (inside ++ 41 ∷ [])) end))
 
-sequence_sound : (first : Bracket) (text : List ℕ) (bs : List Bracket) (rest after name : List ℕ) → Found rest (sequence name) after → Awaits first text Round bs Before rest → Awaits first text Square (Round ∷ bs) Before after
-sequence_sound first text bs rest after name (n, e) h = λ inside end f k.
-    read_value first text bs rest (name ++ 91 ∷ (inside ++ 93 ∷ [])) end (shapes.sequence name k.0) h (inside, n, k.1, k.2, refl)
+sequence_sound : (lang : Language) (first : Bracket) (text : List ℕ) (bs : List Bracket) (rest after name : List ℕ) → Found lang rest (sequence name) after → Awaits lang first text Round bs Before rest → Awaits lang first text Square (Round ∷ bs) Before after
+sequence_sound lang first text bs rest after name (n, e) h = λ inside end f k.
+    read_value lang first text bs rest (name ++ 91 ∷ (inside ++ 93 ∷ [])) end (shapes.sequence name k.0) h (inside, n, k.1, k.2, refl)
     (e ∙ ap (λ (t : List ℕ). name ++ 91 ∷ t) (f ∙ closed_text inside end 93) ∙ sym (append_assoc name (91 ∷ (inside ++ 93 ∷ [])) end))
 
-found_sound : (first : Bracket) (text : List ℕ) (bs : List Bracket) (rest after : List ℕ) (lead : Lead) → Found rest lead after → Awaits first text Round bs Before rest → AwaitsNext first text Round bs (step_of_lead lead) after
-found_sound first text bs rest after (leads.call name m) f h = call_sound first text bs rest after name m f h
-found_sound first text bs rest after (leads.sequence name) f h = sequence_sound first text bs rest after name f h
-found_sound first text bs rest after lead f h = whole_sound first text bs rest after lead (whole_found rest lead after tt f) h
+nodes_sound : (lang : Language) (first : Bracket) (text : List ℕ) (bs : List Bracket) (rest after : List ℕ) → Found lang rest nodes after → Awaits lang first text Round bs Before rest → Awaits lang first text Angle (Round ∷ bs) Before after
+nodes_sound lang first text bs rest after (full, e) h = λ inside end f k.
+    read_value lang first text bs rest (60 ∷ (inside ++ 62 ∷ [])) end (shapes.nodes k.0) h (inside, full, k.1, k.2, refl)
+    (e ∙ ap (λ (t : List ℕ). 60 ∷ t) (f ∙ closed_text inside end 62))
 
-item_sound : (first : Bracket) (text : List ℕ) (bs : List Bracket) (rest after : List ℕ) (m : Option (List ℕ)) → ItemFront rest m after → Awaits first text Square bs Before rest → Awaits first text Round (Square ∷ bs) Before after
-item_sound first text bs rest after m f h = λ inside end e k. λ more last g n.
+-- a Format value between angles
+element_sound : (lang : Language) (first : Bracket) (text : List ℕ) (bs : List Bracket) (rest after name : List ℕ) (m : Option (List ℕ)) → Found lang rest (call name m) after → Awaits lang first text Angle bs Before rest → Awaits lang first text Round (Angle ∷ bs) Before after
+element_sound lang first text bs rest after name m (mark, v, n, cm, means, e) h = λ inside end f k. λ more last g x.
+    let front : List ℕ = name ++ (mark ++ 40 ∷ (inside ++ 41 ∷ [])) in
+    let whole : rest ≡ front ++ end =
+    e ∙ ap (λ (t : List ℕ). name ++ (mark ++ 40 ∷ t)) (f ∙ closed_text inside end 41)
+    ∙ ap (λ (t : List ℕ). name ++ t) (sym (append_assoc mark (40 ∷ (inside ++ 41 ∷ [])) end))
+    ∙ sym (append_assoc name (mark ++ 40 ∷ (inside ++ 41 ∷ [])) end) in
+    h (front ++ more) last (whole ∙ ap (λ (t : List ℕ). front ++ t) g ∙ sym (append_assoc front more (62 ∷ last)))
+    (shape (shapes.call name v k.0) x.0, (tt, x.1), ([], front, more, tt, (mark, inside, n, cm, k.1, refl), x.2, x.3, refl))
+
+found_sound : (lang : Language) (first : Bracket) (text : List ℕ) (bs : List Bracket) (rest after : List ℕ) (lead : Lead) → Found lang rest lead after → Awaits lang first text Round bs Before rest → AwaitsNext lang first text Round bs (step_of_lead lead) after
+found_sound lang first text bs rest after (leads.call name m) f h = call_sound lang first text bs rest after name m f h
+found_sound lang first text bs rest after (leads.sequence name) f h = sequence_sound lang first text bs rest after name f h
+found_sound lang first text bs rest after leads.nodes f h = nodes_sound lang first text bs rest after f h
+found_sound lang first text bs rest after lead f h = whole_sound lang first text bs rest after lead (whole_found lang rest lead after tt f) h
+
+item_sound : (lang : Language) (first : Bracket) (text : List ℕ) (bs : List Bracket) (rest after : List ℕ) (m : Option (List ℕ)) → ItemFront rest m after → Awaits lang first text Square bs Before rest → Awaits lang first text Round (Square ∷ bs) Before after
+item_sound lang first text bs rest after m f h = λ inside end e k. λ more last g n.
     h (f.mark ++ 40 ∷ (inside ++ 41 ∷ more)) last
     (f.text_is ∙ ap (λ (t : List ℕ). f.mark ++ 40 ∷ t) (e ∙ ap (λ (t : List ℕ). inside ++ 41 ∷ t) g ∙ sym (append_assoc inside (41 ∷ more) (93 ∷ last)))
     ∙ sym (append_assoc f.mark (40 ∷ (inside ++ 41 ∷ more)) (93 ∷ last)))
     (item f.variant k.0 n.0, mark_starts f.mark (inside ++ 41 ∷ more) f.variant f.is_mark, ([], f.mark, inside, more, tt, f.is_mark, k.1, n.1, n.2, refl))
 
-lead_sound : (first : Bracket) (text : List ℕ) (bs : List Bracket) (rest : List ℕ) (l : Option (Lead × List ℕ)) (p : Step × List ℕ) → IsLead rest l → lead_step l ≡ Some p → Awaits first text Round bs Before rest → Awaited first text Round bs p
-lead_sound first text bs rest None p l e h = absurd (none-some p e)
-lead_sound first text bs rest (Some q) p l e h =
-    subst (Awaited first text Round bs) (same_Some (step_of_lead q.0, q.1) p e) (found_sound first text bs rest q.1 q.0 (lead_found rest q.0 q.1 l) h)
+lead_sound : (lang : Language) (first : Bracket) (text : List ℕ) (bs : List Bracket) (rest : List ℕ) (l : Option (Lead × List ℕ)) (p : Step × List ℕ) → IsLeadIn lang rest l → lead_step l ≡ Some p → Awaits lang first text Round bs Before rest → Awaited lang first text Round bs p
+lead_sound lang first text bs rest None p l e h = absurd (none-some p e)
+lead_sound lang first text bs rest (Some q) p l e h =
+    subst (Awaited lang first text Round bs) (same_Some (step_of_lead q.0, q.1) p e) (found_sound lang first text bs rest q.1 q.0 (found_in lang rest q.0 q.1 l) h)
 
-value_sound : (first : Bracket) (text : List ℕ) (bs : List Bracket) (rest : List ℕ) (o : Option (Step × List ℕ)) (p : Step × List ℕ) → after_step Round rest ≡ o → IsValueStep rest o (Some p) → Awaits first text Round bs Before rest → Awaited first text Round bs p
-value_sound first text bs rest None p e k h = lead_sound first text bs rest k.0 p k.1 (sym k.2) h
-value_sound first text bs rest (Some q) p e k h = after_sound first Round text bs Before rest p (no_shapes, tt) round_spaced h (e ∙ sym k)
+value_sound : (lang : Language) (first : Bracket) (text : List ℕ) (bs : List Bracket) (rest : List ℕ) (o : Option (Step × List ℕ)) (p : Step × List ℕ) → after_step Round rest ≡ o → IsValueStep lang rest o (Some p) → Awaits lang first text Round bs Before rest → Awaited lang first text Round bs p
+value_sound lang first text bs rest None p e k h = lead_sound lang first text bs rest k.0 p k.1 (sym k.2) h
+value_sound lang first text bs rest (Some q) p e k h = after_sound lang first Round text bs Before rest p (no_shapes, tt) (round_spaced lang) h (e ∙ sym k)
 
-pub step_sound : (first b : Bracket) (text : List ℕ) (bs : List Bracket) (place : Place) (rest : List ℕ) (p : Step × List ℕ) → IsStep b place rest (Some p) → Awaits first text b bs place rest → Awaited first text b bs p
-step_sound first Round text bs Before rest p k h = value_sound first text bs rest (after_step Round rest) p refl k h
-step_sound first Round text bs After rest p k h = after_sound first Round text bs After rest p (no_shapes, tt, tt) round_spaced_after h (sym k)
-step_sound first Square text bs Before rest p k h =
+call_found : (lang : Language) (first : Bracket) (text : List ℕ) (bs : List Bracket) (rest after : List ℕ) (lead : Lead) (p : Step × List ℕ) → Found lang rest lead after → call_of_lead lead after ≡ Some p → Awaits lang first text Angle bs Before rest → Awaited lang first text Angle bs p
+call_found lang first text bs rest after (leads.call name m) p f e h = subst (Awaited lang first text Angle bs) (same_Some (Open Round, after) p e) (element_sound lang first text bs rest after name m f h)
+call_found lang first text bs rest after lead p f e h = absurd (none-some p e)
+
+calls_sound : (lang : Language) (first : Bracket) (text : List ℕ) (bs : List Bracket) (rest : List ℕ) (l : Option (Lead × List ℕ)) (p : Step × List ℕ) → IsLeadIn lang rest l → call_step l ≡ Some p → Awaits lang first text Angle bs Before rest → Awaited lang first text Angle bs p
+calls_sound lang first text bs rest None p l e h = absurd (none-some p e)
+calls_sound lang first text bs rest (Some q) p l e h = call_found lang first text bs rest q.1 q.0 p (found_in lang rest q.0 q.1 l) e h
+
+angle_sound : (lang : Language) (first : Bracket) (text : List ℕ) (bs : List Bracket) (rest : List ℕ) (o : Option (Step × List ℕ)) (p : Step × List ℕ) → after_step Angle rest ≡ o → IsCallStep lang rest o (Some p) → Awaits lang first text Angle bs Before rest → Awaited lang first text Angle bs p
+angle_sound lang first text bs rest None p e k h = calls_sound lang first text bs rest k.0 p k.1 (sym k.2) h
+angle_sound lang first text bs rest (Some q) p e k h = after_sound lang first Angle text bs Before rest p (no_shapes, tt, tt) (angle_spaced lang) h (e ∙ sym k)
+
+pub step_sound : (lang : Language) (first b : Bracket) (text : List ℕ) (bs : List Bracket) (place : Place) (rest : List ℕ) (p : Step × List ℕ) → IsStep lang b place rest (Some p) → Awaits lang first text b bs place rest → Awaited lang first text b bs p
+step_sound lang first Round text bs Before rest p k h = value_sound lang first text bs rest (after_step Round rest) p refl k h
+step_sound lang first Round text bs After rest p k h = after_sound lang first Round text bs After rest p (no_shapes, tt, tt) (round_spaced_after lang) h (sym k)
+step_sound lang first Square text bs Before rest p k h =
     let m = mapped (item_of rest) (λ (q : Option (List ℕ) × List ℕ). (Open Round, q.1)) p (sym k) in
-    subst (Awaited first text Square bs) m.2 (item_sound first text bs rest m.0.1 m.0.0 (item_found rest m.0 m.1) h)
-step_sound first Square text bs After rest p k h = after_sound first Square text bs After rest p (no_items, tt, refl) square_spaced h (sym k)
+    subst (Awaited lang first text Square bs) m.2 (item_sound lang first text bs rest m.0.1 m.0.0 (item_found rest m.0 m.1) h)
+step_sound lang first Square text bs After rest p k h = after_sound lang first Square text bs After rest p (no_items, tt, refl) (square_spaced lang) h (sym k)
+step_sound lang first Angle text bs Before rest p k h = angle_sound lang first text bs rest (after_step Angle rest) p refl k h
+step_sound lang first Angle text bs After rest p k h = after_sound lang first Angle text bs After rest p (no_shapes, tt, tt, tt) (angle_spaced_after lang) h (sym k)
 
 -- ---- a step goes on
 
@@ -196,32 +235,47 @@ after_shorter b text p e =
       ]
     ]
 
-whole_shorter : (text : List ℕ) (lead : Lead) (after : List ℕ) → FoundWhole text lead after → length after < length text
-whole_shorter text lead after f =
-    let k = value_starts f.1 f.0 f.2 in
+whole_shorter : (lang : Language) (text : List ℕ) (lead : Lead) (after : List ℕ) → FoundWhole lang text lead after → length after < length text
+whole_shorter lang text lead after f =
+    let k = value_starts lang f.1 f.0 f.2 in
     omega (arith, ap length f.3, length-append f.0 after, ap length k.text_is)
 
-found_shorter : (text : List ℕ) (lead : Lead) (after : List ℕ) → Found text lead after → length after < length text
-found_shorter text (leads.call name m) after (mark, v, n, cm, means, e) = omega (arith, ap length e, length-append name (mark ++ 40 ∷ after), length-append mark (40 ∷ after))
-found_shorter text (leads.sequence name) after (n, e) = omega (arith, ap length e, length-append name (91 ∷ after))
-found_shorter text lead after f = whole_shorter text lead after (whole_found text lead after tt f)
+found_shorter : (lang : Language) (text : List ℕ) (lead : Lead) (after : List ℕ) → Found lang text lead after → length after < length text
+found_shorter lang text (leads.call name m) after (mark, v, n, cm, means, e) = omega (arith, ap length e, length-append name (mark ++ 40 ∷ after), length-append mark (40 ∷ after))
+found_shorter lang text (leads.sequence name) after (n, e) = omega (arith, ap length e, length-append name (91 ∷ after))
+found_shorter lang text leads.nodes after (full, e) = omega (arith, ap length e)
+found_shorter lang text lead after f = whole_shorter lang text lead after (whole_found lang text lead after tt f)
 
-lead_shorter : (text : List ℕ) (l : Option (Lead × List ℕ)) (p : Step × List ℕ) → IsLead text l → lead_step l ≡ Some p → Shorter text p
-lead_shorter text None p l e = absurd (none-some p e)
-lead_shorter text (Some q) p l e = subst (Shorter text) (same_Some (step_of_lead q.0, q.1) p e) (found_shorter text q.0 q.1 (lead_found text q.0 q.1 l))
+lead_shorter : (lang : Language) (text : List ℕ) (l : Option (Lead × List ℕ)) (p : Step × List ℕ) → IsLeadIn lang text l → lead_step l ≡ Some p → Shorter text p
+lead_shorter lang text None p l e = absurd (none-some p e)
+lead_shorter lang text (Some q) p l e = subst (Shorter text) (same_Some (step_of_lead q.0, q.1) p e) (found_shorter lang text q.0 q.1 (found_in lang text q.0 q.1 l))
 
-value_shorter : (text : List ℕ) (o : Option (Step × List ℕ)) (p : Step × List ℕ) → after_step Round text ≡ o → IsValueStep text o (Some p) → Shorter text p
-value_shorter text None p e k = lead_shorter text k.0 p k.1 (sym k.2)
-value_shorter text (Some q) p e k = after_shorter Round text p (e ∙ sym k)
+value_shorter : (lang : Language) (text : List ℕ) (o : Option (Step × List ℕ)) (p : Step × List ℕ) → after_step Round text ≡ o → IsValueStep lang text o (Some p) → Shorter text p
+value_shorter lang text None p e k = lead_shorter lang text k.0 p k.1 (sym k.2)
+value_shorter lang text (Some q) p e k = after_shorter Round text p (e ∙ sym k)
 
-pub step_shorter : (b : Bracket) (place : Place) (text : List ℕ) (p : Step × List ℕ) → IsStep b place text (Some p) → length p.1 < length text
-step_shorter Round Before text p k = value_shorter text (after_step Round text) p refl k
-step_shorter Round After text p k = after_shorter Round text p (sym k)
-step_shorter Square Before text p k =
+call_shorter : (lang : Language) (text after : List ℕ) (lead : Lead) (p : Step × List ℕ) → Found lang text lead after → call_of_lead lead after ≡ Some p → Shorter text p
+call_shorter lang text after (leads.call name m) p f e = subst (Shorter text) (same_Some (Open Round, after) p e) (found_shorter lang text (leads.call name m) after f)
+call_shorter lang text after lead p f e = absurd (none-some p e)
+
+calls_shorter : (lang : Language) (text : List ℕ) (l : Option (Lead × List ℕ)) (p : Step × List ℕ) → IsLeadIn lang text l → call_step l ≡ Some p → Shorter text p
+calls_shorter lang text None p l e = absurd (none-some p e)
+calls_shorter lang text (Some q) p l e = call_shorter lang text q.1 q.0 p (found_in lang text q.0 q.1 l) e
+
+angle_shorter : (lang : Language) (text : List ℕ) (o : Option (Step × List ℕ)) (p : Step × List ℕ) → after_step Angle text ≡ o → IsCallStep lang text o (Some p) → Shorter text p
+angle_shorter lang text None p e k = calls_shorter lang text k.0 p k.1 (sym k.2)
+angle_shorter lang text (Some q) p e k = after_shorter Angle text p (e ∙ sym k)
+
+pub step_shorter : (lang : Language) (b : Bracket) (place : Place) (text : List ℕ) (p : Step × List ℕ) → IsStep lang b place text (Some p) → length p.1 < length text
+step_shorter lang Round Before text p k = value_shorter lang text (after_step Round text) p refl k
+step_shorter lang Round After text p k = after_shorter Round text p (sym k)
+step_shorter lang Square Before text p k =
     let m = mapped (item_of text) (λ (q : Option (List ℕ) × List ℕ). (Open Round, q.1)) p (sym k) in
     let f = item_found text m.0 m.1 in
     subst (Shorter text) m.2 (omega (arith, ap length f.text_is, length-append f.mark (40 ∷ m.0.1)))
-step_shorter Square After text p k = after_shorter Square text p (sym k)
+step_shorter lang Square After text p k = after_shorter Square text p (sym k)
+step_shorter lang Angle Before text p k = angle_shorter lang text (after_step Angle text) p refl k
+step_shorter lang Angle After text p k = after_shorter Angle text p (sym k)
 
 pub whole_ends : (whole : Whole) → step_of_lead (view_whole whole) ≡ End
 whole_ends (wholes.Decimal digits) = refl
@@ -233,3 +287,4 @@ whole_ends (wholes.Quoted inside) = refl
 whole_ends (wholes.Interned name) = refl
 whole_ends (wholes.Bytes digits) = refl
 whole_ends wholes.Empty = refl
+whole_ends (wholes.Float text) = refl

@@ -1,10 +1,12 @@
 -- What a value's text begins with, on lists.
-use Rattle.std.specs.Prelude.{◌≡◌, ◌≢◌, ℕ, Bool, true, false, ◌==◌, ◌%◌, if◌then◌else◌, bytes_eq, List, [], ◌∷◌, ◌++◌, length, codes, Option, Some, None, option_map}
+use Rattle.std.specs.Prelude.{◌≡◌, ◌≢◌, ℕ, ◌-◌, Bool, true, false, ◌||◌, ◌==◌, ◌%◌, if◌then◌else◌, bytes_eq, List, [], ◌∷◌, ◌++◌, length, take, codes, Option, Some, None, option_map, unwrap_or}
 use Rattle.std.specs.Borrow.{Bor}
 use Rattle.std.specs.List.{AllByRecursion}
 use Rattle.std.specs.Option.{option_copied}
 use Rattle.defmt_grammar.specs.Cut.{behind, strip}
 use Rattle.defmt_grammar.specs.Param.{has_leading_zero}
+use Rattle.defmt_grammar.specs.declared.language.Language.{Language}
+use Rattle.defmt_grammar.specs.declared.language.Language.TheVariants.{Base, Full}
 use Rattle.defmt_shapes.specs.declared.parts.Class.TheVariants.{Decimal, Hexadecimal, Word}
 use Rattle.defmt_shapes.specs.declared.head.Head.{Head}
 use Rattle.defmt_shapes.specs.declared.head.Head.TheVariants as heads
@@ -12,7 +14,7 @@ use Rattle.defmt_shapes.specs.declared.head.Whole.{Whole}
 use Rattle.defmt_shapes.specs.declared.head.Whole.TheVariants as wholes
 use Rattle.defmt_shapes.specs.Runs.{in_class, run, either, is_variant}
 use Rattle.defmt_shapes.specs.Escapes.{IsCharacter, IsQuotedEnd}
-use Rattle.defmt_shapes.specs.Shape.{Shape, Shapes, Items, IsNumber, IsVariant, is_name, SpellsBytes, SpellsQuoted, SpellsShapes, SpellsItems, StartsThere}
+use Rattle.defmt_shapes.specs.Shape.{Shape, Shapes, Items, IsFull, IsFloat, AreCalls, IsNumber, IsVariant, is_name, SpellsBytes, SpellsQuoted, SpellsShapes, SpellsItems, StartsThere}
 use Rattle.defmt_shapes.specs.Shape as shapes
 
 -- a value without values inside, with its digits, its name or what stands in its quotes, or the front
@@ -27,8 +29,10 @@ pub data Lead : Type 0 where
   interned : List ℕ → Lead
   bytes : List ℕ → Lead
   empty : Lead
+  float : List ℕ → Lead
   call : List ℕ → Option (List ℕ) → Lead
   sequence : List ℕ → Lead
+  nodes : Lead
 
 abbrev pub view_whole : Whole → Lead
 view_whole (wholes.Decimal digits) = decimal digits.now
@@ -40,11 +44,13 @@ view_whole (wholes.Quoted inside) = quoted inside.now
 view_whole (wholes.Interned name) = interned name.now
 view_whole (wholes.Bytes digits) = bytes digits.now
 view_whole wholes.Empty = empty
+view_whole (wholes.Float text) = float text.now
 
 abbrev pub view_head : Head → Lead
 view_head (heads.Whole whole) = view_whole whole
 view_head (heads.Call name variant) = call name.now (option_copied variant)
 view_head (heads.Sequence name) = sequence name.now
+view_head heads.Nodes = nodes
 
 abbrev pub view_heads : Option (Head × Bor (List ℕ)) → Option (Lead × List ℕ)
 view_heads o = option_map (λ p. (view_head p.0, p.1.now)) o
@@ -147,9 +153,77 @@ IsQuotedLead text None o = IsCharacterLead text (behind 39 text) o
 IsQuotedLead text (Some inside) o =
     (q : Option (List ℕ × List ℕ)) × IsQuotedEnd inside q × (o ≡ quoted_lead q)
 
--- what the text begins with, and what follows it
+-- what the text begins with in the language Base, and what follows it
 abbrev pub IsLead : List ℕ → Option (Lead × List ℕ) → Type 0
 IsLead text o = IsQuotedLead text (behind 34 text) o
+
+-- ---- what the language Full has beside
+
+-- a space, a closing bracket or nothing
+abbrev pub stops_there : List ℕ → Bool
+stops_there [] = true
+stops_there (c ∷ cs) = c == 32 || c == 41 || c == 62
+
+abbrev pub some_rest : List ℕ × List ℕ → Option (List ℕ)
+some_rest d = if length d.0 == 0 then None else Some d.1
+
+-- what follows digits in front, at least one
+unfoldable pub after_digits : List ℕ → Option (List ℕ)
+after_digits text = some_rest (run (in_class Decimal) text)
+
+unfoldable pub after_fraction : List ℕ → Option (List ℕ)
+after_fraction text = either (behind 46 text) after_digits None
+
+unfoldable pub after_exponent : List ℕ → Option (List ℕ)
+after_exponent text =
+    either (behind 101 text)
+    (λ more. either (behind 45 more) after_digits
+    (either (behind 43 more) after_digits (after_digits more))) None
+
+-- what follows a fraction, an exponent or both
+unfoldable pub after_scale : List ℕ → Option (List ℕ)
+after_scale text =
+    either (after_fraction text) (λ rest. Some (unwrap_or (after_exponent rest) rest))
+    (after_exponent text)
+
+unfoldable pub after_unsigned : List ℕ → Option (List ℕ)
+after_unsigned text =
+    either (strip (codes "inf") text) (λ rest. Some rest)
+    (either (after_digits text) after_scale None)
+
+unfoldable pub after_float : List ℕ → Option (List ℕ)
+after_float text =
+    either (strip (codes "NaN") text) (λ rest. Some rest)
+    (either (behind 45 text) after_unsigned (after_unsigned text))
+
+abbrev pub ended_float : List ℕ → List ℕ → Option (Lead × List ℕ)
+ended_float text rest = if stops_there rest
+    then Some (float (take (length text - length rest) text), rest) else None
+
+unfoldable pub float_lead : List ℕ → Option (Lead × List ℕ)
+float_lead text = either (after_float text) (ended_float text) None
+
+abbrev pub other_lead : List ℕ → Option (Lead × List ℕ)
+other_lead text = either (behind 60 text) (λ rest. Some (nodes, rest)) (float_lead text)
+
+abbrev pub opens : Lead → Bool
+opens (call name mark) = true
+opens (sequence name) = true
+opens nodes = true
+opens lead = false
+
+-- the front of a value, or a whole one that may end there
+abbrev pub settles : Option (Lead × List ℕ) → Bool
+settles None = false
+settles (Some p) = opens p.0 || stops_there p.1
+
+abbrev pub full_lead : List ℕ → Option (Lead × List ℕ) → Option (Lead × List ℕ)
+full_lead text o = if settles o then o else other_lead text
+
+-- what the text begins with in this language, and what follows it
+abbrev pub IsLeadIn : Language → List ℕ → Option (Lead × List ℕ) → Type 0
+IsLeadIn Base text o = IsLead text o
+IsLeadIn Full text o = (l : Option (Lead × List ℕ)) × IsLead text l × (o ≡ full_lead text l)
 
 -- ---- elements
 
@@ -180,27 +254,32 @@ IsMark (Some digits) None = ⊥
 IsMark (Some digits) (Some v) = IsVariant digits v
 
 -- what the lead and what stands behind it, up to the rest, say of the shape
-abbrev pub Leads : Lead → List ℕ → List ℕ → Shape → Type 0
-Leads (decimal digits) after rest s =
+abbrev pub Leads : Language → Lead → List ℕ → List ℕ → Shape → Type 0
+Leads language (decimal digits) after rest s =
     (n : ℕ) × (s ≡ shapes.decimal n) × IsNumber 10 digits n × (after ≡ rest)
-Leads (hexadecimal digits) after rest s =
+Leads language (hexadecimal digits) after rest s =
     (n : ℕ) × (s ≡ shapes.hexadecimal n) × IsNumber 16 digits n × (after ≡ rest)
-Leads (negative digits) after rest s =
+Leads language (negative digits) after rest s =
     (n : ℕ) × (s ≡ shapes.negative n) × IsNumber 10 digits n × (after ≡ rest)
-Leads (flag b) after rest s = (s ≡ shapes.flag b) × (after ≡ rest)
-Leads (character c) after rest s = (s ≡ shapes.character c) × (after ≡ rest)
-Leads (quoted inside) after rest s =
+Leads language (flag b) after rest s = (s ≡ shapes.flag b) × (after ≡ rest)
+Leads language (character c) after rest s = (s ≡ shapes.character c) × (after ≡ rest)
+Leads language (quoted inside) after rest s =
     (t : List ℕ) × (s ≡ shapes.quoted t) × SpellsQuoted inside t × (after ≡ rest)
-Leads (interned name) after rest s = (s ≡ shapes.interned name) × (after ≡ rest)
-Leads (bytes digits) after rest s =
+Leads language (interned name) after rest s = (s ≡ shapes.interned name) × (after ≡ rest)
+Leads language (bytes digits) after rest s =
     (bs : List ℕ) × (s ≡ shapes.bytes bs) × SpellsBytes digits bs × (after ≡ rest)
-Leads empty after rest s = (s ≡ shapes.empty) × (after ≡ rest)
-Leads (call name mark) after rest s = (v : Option ℕ) × (ss : Shapes) × (inside : List ℕ)
-    × (s ≡ shapes.call name v ss) × IsMark mark v × SpellsShapes inside ss
+Leads language empty after rest s = (s ≡ shapes.empty) × (after ≡ rest)
+Leads language (float text) after rest s =
+    (s ≡ shapes.float text) × IsFull language × IsFloat text × (after ≡ rest)
+Leads language (call name mark) after rest s = (v : Option ℕ) × (ss : Shapes) × (inside : List ℕ)
+    × (s ≡ shapes.call name v ss) × IsMark mark v × SpellsShapes language inside ss
     × (after ≡ inside ++ 41 ∷ rest)
-Leads (sequence name) after rest s = (items : Items) × (inside : List ℕ)
-    × (s ≡ shapes.sequence name items) × StartsThere inside × SpellsItems inside items
+Leads language (sequence name) after rest s = (items : Items) × (inside : List ℕ)
+    × (s ≡ shapes.sequence name items) × StartsThere inside × SpellsItems language inside items
     × (after ≡ inside ++ 93 ∷ rest)
+Leads language nodes after rest s = (ss : Shapes) × (inside : List ℕ) × (s ≡ shapes.nodes ss)
+    × IsFull language × AreCalls ss × SpellsShapes language inside ss
+    × (after ≡ inside ++ 62 ∷ rest)
 
 -- the lead is a whole value
 abbrev pub IsWhole : Lead → Type 0
@@ -213,5 +292,7 @@ IsWhole (quoted inside) = Unit {0}
 IsWhole (interned name) = Unit {0}
 IsWhole (bytes digits) = Unit {0}
 IsWhole empty = Unit {0}
+IsWhole (float text) = Unit {0}
 IsWhole (call name mark) = ⊥
 IsWhole (sequence name) = ⊥
+IsWhole nodes = ⊥

@@ -20,6 +20,7 @@ pub enum Whole<'a> {
     Interned(&'a str),
     Bytes(&'a str),
     Empty,
+    Float(&'a str),
 }
 
 /// A value without values inside, or the front of one up to its first bracket: a name, and for a call
@@ -29,6 +30,7 @@ pub enum Head<'a> {
     Whole(Whole<'a>),
     Call(&'a str, Option<&'a str>),
     Sequence(&'a str),
+    Nodes,
 }
 
 #[tactic(auto, unfolding(crate::specs::Leads::decimal_lead))]
@@ -208,8 +210,8 @@ fn is_bare(text: &str) -> bool
     }
 }
 
-/// What the text begins with, and what follows it.
-pub fn head_of(text: &str) -> Option<(Head<'_>, &str)>
+/// What the text begins with in the language Base, and what follows it.
+pub fn base_head(text: &str) -> Option<(Head<'_>, &str)>
     ensures parts { IsLead text.now (view_heads result) }
     ensures utf8 { IfSome result (λ p. IsUtf8 p.1.now) }
 {

@@ -6,6 +6,8 @@
 mod calls;
 mod digits;
 mod escape;
+mod float;
+mod full;
 mod head;
 mod laws;
 mod meaning;

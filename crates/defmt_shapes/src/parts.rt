@@ -7,6 +7,7 @@ ghost use Rattle.std.specs.Option.{option_copied};
 ghost use Rattle.defmt_grammar.specs.Cut.{behind, strip, skip_spaces};
 ghost use Rattle.defmt_grammar.specs.Param.{both_now, has_leading_zero};
 ghost use Rattle.defmt_shapes.specs.Escapes.{with_rest};
+ghost use Rattle.defmt_shapes.specs.Leads.{stops_there};
 ghost use Rattle.defmt_shapes.specs.Runs.{in_class, run, first_ascii, is_variant};
 ghost use Rattle.defmt_shapes.specs.Shape.{is_name, is_word};
 ghost use Rattle.defmt_shapes.specs.Spelling.{ends_there};
@@ -139,6 +140,16 @@ pub fn is_variant(digits: &str) -> bool
     ensures { result ≡ is_variant digits.now }
 {
     !digits.is_empty() && !has_leading_zero(digits)
+}
+
+/// Whether a space, a closing bracket or nothing follows.
+pub fn stops_there(rest: &str) -> bool
+    ensures { result ≡ stops_there rest.now }
+{
+    match rest.as_bytes() {
+        [] => true,
+        [first, ..] => *first == b' ' || *first == b')' || *first == b'>',
+    }
 }
 
 /// Whether a value may end before this rest: it is empty or begins with a space.

@@ -3,11 +3,14 @@
 ghost use Rattle.std.specs.Prelude.{◌≡◌, ◌<◌, ℕ, List, IfSome, IfOk};
 ghost use Rattle.std.specs.Str.{IsUtf8};
 ghost use Rattle.defmt_shapes.specs.Leads.{view_head};
-ghost use Rattle.defmt_shapes.specs.Scan.{Encloses, FindsClosing, IsStep, step_rest, step_of_lead, closing, after_step};
+ghost use Rattle.defmt_grammar.specs.declared.language.Language.{Language as AnyLanguage};
+ghost use Rattle.defmt_shapes.specs.Scan.{call_of_lead, Encloses, FindsClosing, IsStep, step_rest, step_of_lead, closing, after_step};
 ghost use Rattle.defmt_shapes.specs.declared.scan.Bracket.TheVariants.{Round as RoundBracket};
 
-use crate::head::{Head, head_of, item_of};
+use crate::full::head_of;
+use crate::head::{Head, item_of};
 use crate::parts::{Class, behind, skip_spaces, split_run};
+use defmt_grammar::Language;
 use dl_io::Memory;
 use std::alloc::Global;
 
@@ -18,6 +21,8 @@ pub enum Bracket {
     Round,
     /// `[`, with elements inside.
     Square,
+    /// `<`, with Format values inside.
+    Angle,
 }
 
 impl Bracket {
@@ -29,6 +34,7 @@ impl Bracket {
         match self {
             Bracket::Round => ')',
             Bracket::Square => ']',
+            Bracket::Angle => '>',
         }
     }
 }
@@ -78,12 +84,25 @@ fn step_of(head: Head<'_>) -> Step
         Head::Whole(_) => Step::End,
         Head::Call(_, _) => Step::Open(Bracket::Round),
         Head::Sequence(_) => Step::Open(Bracket::Square),
+        Head::Nodes => Step::Open(Bracket::Angle),
+    }
+}
+
+// The same of a Format value, between `<` and `>`.
+fn step_of_call<'a>(head: Head<'_>, rest: &'a str) -> Option<(Step, &'a str)>
+    requires { IsUtf8 rest.now }
+    ensures parts { step_rest result ≡ call_of_lead (view_head head.entry) rest.now }
+    ensures utf8 { IfSome result (λ p. IsUtf8 p.1.now) }
+{
+    match head {
+        Head::Call(_, _) => Some((Step::Open(Bracket::Round), rest)),
+        _ => None,
     }
 }
 
 // What the text goes on with inside this bracket.
-fn next_step(bracket: Bracket, place: Place, text: &str) -> Option<(Step, &str)>
-    ensures parts { IsStep bracket place text.now (step_rest result) }
+fn next_step(language: Language, bracket: Bracket, place: Place, text: &str) -> Option<(Step, &str)>
+    ensures parts { IsStep language bracket place text.now (step_rest result) }
     ensures utf8 { IfSome result (λ p. IsUtf8 p.1.now) }
 {
     match (bracket, place) {
@@ -91,8 +110,15 @@ fn next_step(bracket: Bracket, place: Place, text: &str) -> Option<(Step, &str)>
             if let Some(step) = after_step(bracket, text) {
                 return Some(step);
             }
-            let (head, rest) = head_of(text)?;
+            let (head, rest) = head_of(language, text)?;
             Some((step_of(head), rest))
+        }
+        (Bracket::Angle, Place::Before) => {
+            if let Some(step) = after_step(bracket, text) {
+                return Some(step);
+            }
+            let (head, rest) = head_of(language, text)?;
+            step_of_call(head, rest)
         }
         (Bracket::Square, Place::Before) => {
             let (_, rest) = item_of(text)?;
@@ -104,7 +130,8 @@ fn next_step(bracket: Bracket, place: Place, text: &str) -> Option<(Step, &str)>
 
 // What stands before the next `)` and behind it, where decimal numbers and spaces alone stand before it.
 fn numbers_inside(text: &str) -> Option<(&str, &str)>
-    ensures parts { IfSome result (λ p. Encloses RoundBracket text.now p.0.now p.1.now) }
+    ensures parts { (language : AnyLanguage)
+        → IfSome result (λ p. Encloses language RoundBracket text.now p.0.now p.1.now) }
     ensures utf8 { IfSome result (λ p. IsUtf8 p.0.now × IsUtf8 p.1.now) }
 {
     let (inside, after) = split_run(text, Class::Numbers);
@@ -114,9 +141,9 @@ fn numbers_inside(text: &str) -> Option<(&str, &str)>
 
 // What stands behind the bracket that closes this one, where numbers and spaces alone stand before that.
 fn numbers_behind(bracket: Bracket, text: &str) -> Option<&str>
-    ensures parts { IfSome result
+    ensures parts { (language : AnyLanguage) → IfSome result
         (λ rest. (bracket ≡ RoundBracket)
-        × ((inside : List ℕ) × Encloses bracket text.now inside rest.now)) }
+        × ((inside : List ℕ) × Encloses language bracket text.now inside rest.now)) }
     ensures utf8 { IfSome result (λ rest. IsUtf8 rest.now) }
 {
     match bracket {
@@ -124,7 +151,7 @@ fn numbers_behind(bracket: Bracket, text: &str) -> Option<&str>
             let (_, rest) = numbers_inside(text)?;
             Some(rest)
         }
-        Bracket::Square => None,
+        Bracket::Square | Bracket::Angle => None,
     }
 }
 
@@ -132,10 +159,11 @@ fn numbers_behind(bracket: Bracket, text: &str) -> Option<&str>
 // limited by memory alone.
 fn enclosed_by_steps(
     alloc: Global,
+    language: Language,
     text: &str,
     first: Bracket,
 ) -> Result<Option<(&str, &str)>, Memory>
-    ensures parts { FindsClosing first text.now result }
+    ensures parts { FindsClosing language first text.now result }
     ensures utf8 { IfOk result (λ o. IfSome o (λ p. IsUtf8 p.0.now × IsUtf8 p.1.now)) }
 {
     let mut outer: Vec<Bracket> = Vec::new(alloc);
@@ -143,7 +171,7 @@ fn enclosed_by_steps(
     let mut place = Place::Before;
     let mut rest = text;
     'steps: loop {
-        let Some((step, after)) = next_step(bracket, place, rest) else {
+        let Some((step, after)) = next_step(language, bracket, place, rest) else {
             return Ok(None);
         };
         rest = after;
@@ -176,8 +204,13 @@ fn enclosed_by_steps(
 ///
 /// # Errors
 /// `Memory` where memory runs out.
-pub fn enclosed(alloc: Global, text: &str, first: Bracket) -> Result<Option<(&str, &str)>, Memory>
-    ensures parts { FindsClosing first text.now result }
+pub fn enclosed(
+    alloc: Global,
+    language: Language,
+    text: &str,
+    first: Bracket,
+) -> Result<Option<(&str, &str)>, Memory>
+    ensures parts { FindsClosing language first text.now result }
     ensures utf8 { IfOk result (λ o. IfSome o (λ p. IsUtf8 p.0.now × IsUtf8 p.1.now)) }
 {
     // Most values inside are numbers.
@@ -186,5 +219,5 @@ pub fn enclosed(alloc: Global, text: &str, first: Bracket) -> Result<Option<(&st
     {
         return Ok(Some(parts));
     }
-    enclosed_by_steps(alloc, text, first)
+    enclosed_by_steps(alloc, language, text, first)
 }

@@ -2,26 +2,29 @@
 
 ghost use Rattle.std.specs.Prelude.{List, ℕ, IfOk, IfSome};
 ghost use Rattle.std.specs.Str.{IsUtf8};
+ghost use Rattle.defmt_grammar.specs.declared.language.Language.{Language as AnyLanguage};
 ghost use Rattle.defmt_shapes.specs.Shape.{Shape as AnyShape};
 ghost use Rattle.defmt_shapes.specs.Leads.{view_whole, Leads};
 ghost use Rattle.defmt_shapes.specs.Spelling.{Tells, FindsValue, FindsItem};
 
-use crate::head::{Head, Whole, head_of, item_of};
+use crate::full::head_of;
+use crate::head::{Head, Whole, item_of};
 use crate::number::{Number, number_of, variant_of};
 use crate::parts::ends_there;
 use crate::scan::{Bracket, enclosed};
+use defmt_grammar::Language;
 use dl_io::Memory;
 use std::alloc::Global;
 
 /// What the text of one value says, with the parts of the text that stand inside it.
 #[derive(Clone, Copy)]
 pub enum Spelling<'a> {
-    /// Decimal digits.
-    Decimal(Number),
+    /// Decimal digits: their number, and themselves.
+    Decimal(Number, &'a str),
     /// `0x` and hexadecimal digits.
     Hexadecimal(Number),
-    /// `-` and decimal digits: the number without its sign.
-    Negative(Number),
+    /// `-` and decimal digits: the number without its sign, and the digits.
+    Negative(Number, &'a str),
     /// `true` or `false`.
     Flag(bool),
     /// A character in single quotes.
@@ -50,6 +53,10 @@ pub enum Spelling<'a> {
         /// The elements between the brackets, at least one.
         inside: &'a str,
     },
+    /// A decimal number with a fraction or an exponent, `NaN`, `inf` or `-inf`.
+    Float(&'a str),
+    /// The Format values between `<` and `>`.
+    Nodes(&'a str),
 }
 
 /// An element of a list: `(ARGS)` or `V(ARGS)`.
@@ -63,19 +70,20 @@ pub struct Item<'a> {
 
 // The spelling of a value without values inside.
 fn spelling_of(whole: Whole<'_>) -> Spelling<'_>
-    ensures { (after : List ℕ) (rest : List ℕ) (s : AnyShape)
-        → Leads (view_whole whole.entry) after rest s → Tells result s }
+    ensures { (language : AnyLanguage) (after : List ℕ) (rest : List ℕ) (s : AnyShape)
+        → Leads language (view_whole whole.entry) after rest s → Tells language result s }
 {
     match whole {
-        Whole::Decimal(digits) => Spelling::Decimal(number_of(digits, 10)),
+        Whole::Decimal(digits) => Spelling::Decimal(number_of(digits, 10), digits),
         Whole::Hexadecimal(digits) => Spelling::Hexadecimal(number_of(digits, 16)),
-        Whole::Negative(digits) => Spelling::Negative(number_of(digits, 10)),
+        Whole::Negative(digits) => Spelling::Negative(number_of(digits, 10), digits),
         Whole::Flag(flag) => Spelling::Flag(flag),
         Whole::Character(character) => Spelling::Character(character),
         Whole::Quoted(inside) => Spelling::Quoted(inside),
         Whole::Interned(name) => Spelling::Interned(name),
         Whole::Bytes(digits) => Spelling::Bytes(digits),
         Whole::Empty => Spelling::Empty,
+        Whole::Float(text) => Spelling::Float(text),
     }
 }
 
@@ -86,11 +94,15 @@ fn spelling_of(whole: Whole<'_>) -> Spelling<'_>
 ///
 /// # Errors
 /// `Memory` where memory runs out.
-pub fn first_value(alloc: Global, text: &str) -> Result<Option<(Spelling<'_>, &str)>, Memory>
-    ensures value { FindsValue text.now result }
+pub fn first_value(
+    alloc: Global,
+    language: Language,
+    text: &str,
+) -> Result<Option<(Spelling<'_>, &str)>, Memory>
+    ensures value { FindsValue language text.now result }
     ensures utf8 { IfOk result (λ o. IfSome o (λ p. IsUtf8 p.1.now)) }
 {
-    let Some((head, after)) = head_of(text) else {
+    let Some((head, after)) = head_of(language, text) else {
         return Ok(None);
     };
     match head {
@@ -101,7 +113,7 @@ pub fn first_value(alloc: Global, text: &str) -> Result<Option<(Spelling<'_>, &s
             Ok(Some((spelling_of(whole), after)))
         }
         Head::Call(name, variant) => {
-            let Some((inside, rest)) = enclosed(alloc, after, Bracket::Round)? else {
+            let Some((inside, rest)) = enclosed(alloc, language, after, Bracket::Round)? else {
                 return Ok(None);
             };
             if !ends_there(rest) {
@@ -118,13 +130,22 @@ pub fn first_value(alloc: Global, text: &str) -> Result<Option<(Spelling<'_>, &s
             )))
         }
         Head::Sequence(name) => {
-            let Some((inside, rest)) = enclosed(alloc, after, Bracket::Square)? else {
+            let Some((inside, rest)) = enclosed(alloc, language, after, Bracket::Square)? else {
                 return Ok(None);
             };
             if !ends_there(rest) {
                 return Ok(None);
             }
             Ok(Some((Spelling::Sequence { name, inside }, rest)))
+        }
+        Head::Nodes => {
+            let Some((inside, rest)) = enclosed(alloc, language, after, Bracket::Angle)? else {
+                return Ok(None);
+            };
+            if !ends_there(rest) {
+                return Ok(None);
+            }
+            Ok(Some((Spelling::Nodes(inside), rest)))
         }
     }
 }
@@ -134,14 +155,18 @@ pub fn first_value(alloc: Global, text: &str) -> Result<Option<(Spelling<'_>, &s
 ///
 /// # Errors
 /// `Memory` where memory runs out.
-pub fn first_item(alloc: Global, text: &str) -> Result<Option<(Item<'_>, &str)>, Memory>
-    ensures item { FindsItem text.now result }
+pub fn first_item(
+    alloc: Global,
+    language: Language,
+    text: &str,
+) -> Result<Option<(Item<'_>, &str)>, Memory>
+    ensures item { FindsItem language text.now result }
     ensures utf8 { IfOk result (λ o. IfSome o (λ p. IsUtf8 p.1.now)) }
 {
     let Some((variant, after)) = item_of(text) else {
         return Ok(None);
     };
-    let Some((inside, rest)) = enclosed(alloc, after, Bracket::Round)? else {
+    let Some((inside, rest)) = enclosed(alloc, language, after, Bracket::Round)? else {
         return Ok(None);
     };
     if !ends_there(rest) {

@@ -9,14 +9,14 @@ use Rattle.defmt_intern.specs.declared.parsed.Parsed.{Parsed}
 use Rattle.defmt_shapes.specs.Shape as shapes
 use Rattle.defmt_shapes.specs.Shape.{Shape, Shapes, Items, no_items, item, SpellsItems, StartsThere}
 use Rattle.defmt_spelling.proofs.Heads.{empty_starts}
-use Rattle.defmt_spelling.specs.Leaves.{decimal_cause, hexadecimal_cause, empty_cause, sum_or}
-use Rattle.defmt_spelling.specs.Meaning.{index_of, decimal_at, hexadecimal_at, negated, meant_val, meant_vals, meant_elems}
+use Rattle.defmt_spelling.specs.Leaves.{decimal_cause, hexadecimal_cause, negative_cause, empty_cause, sum_or}
+use Rattle.defmt_spelling.specs.Meaning.{bits_at, index_of, decimal_at, hexadecimal_at, negative_at, meant_val, meant_vals, meant_elems}
 use Rattle.defmt_spelling.specs.Names.{NameMap}
-use Rattle.defmt_spelling.specs.Reading.{GivesValue, form_scan, item_scan, meant_inside}
+use Rattle.defmt_spelling.specs.Reading.{GivesValue, element_scan, found_scan, form_scan, item_scan, meant_inside}
 use Rattle.defmt_spelling.specs.declared.fault.ArgFault.{ArgFault}
 use Rattle.defmt_values.specs.Entries.{places_of}
-use Rattle.defmt_values.specs.Plain.{Val, int, flag, char, str, istr, bytes, format, seq, Vals, Elems, no_elems, elem, elems_empty, elems_len}
-use Rattle.defmt_values.specs.Scan.{◌>>=◌, test, int_cause, flag_cause, char_cause, str_cause, istr_cause, bytes_cause, node_cause, list_cause, count_cause, form_at, add, pick, places_in, node_places, scan_val, scan_vals, scan_elems}
+use Rattle.defmt_values.specs.Plain.{Val, flag, char, str, istr, bytes, format, seq, float, Vals, Elems, no_elems, elem, elems_empty, elems_len}
+use Rattle.defmt_values.specs.Scan.{◌>>=◌, test, flag_cause, float_cause, char_cause, str_cause, istr_cause, bytes_cause, node_cause, list_cause, count_cause, element_form, form_at, add, pick, places_in, node_places, scan_val, scan_vals, scan_elems}
 use Rattle.defmt_values.specs.declared.value.Value.{Value}
 
 module _ (t : Map) (left weight sum : ℕ) where
@@ -36,12 +36,51 @@ module _ (t : Map) (left weight sum : ℕ) where
   decimal_scan (slots.One kinds.FormatSlice) n = refl
   decimal_scan (slots.One (kinds.FormatArray count)) n = refl
   decimal_scan (slots.One (kinds.Bits lo hi)) n = refl
+  decimal_scan (slots.One (kinds.Float size)) n = refl
+  decimal_scan (slots.One kinds.Debug) n = refl
+  decimal_scan (slots.One kinds.Display) n = refl
+  decimal_scan (slots.One kinds.Sequence) n = refl
   decimal_scan (slots.Bits first width) n = refl
 
   pub hexadecimal_scan : (slot : Slot) (n : ℕ) → scan_val t left slot weight sum (hexadecimal_at slot n) ≡ sum_or (hexadecimal_cause slot n) sum
   unfolding scan_val
-  hexadecimal_scan (slots.One kind) n = refl
+  hexadecimal_scan (slots.One (kinds.Uint size)) n = refl
+  hexadecimal_scan (slots.One (kinds.Int size)) n = refl
+  hexadecimal_scan (slots.One kinds.Bool) n = refl
+  hexadecimal_scan (slots.One kinds.Char) n = refl
+  hexadecimal_scan (slots.One kinds.Str) n = refl
+  hexadecimal_scan (slots.One kinds.Istr) n = refl
+  hexadecimal_scan (slots.One kinds.Bytes) n = refl
+  hexadecimal_scan (slots.One (kinds.ByteArray count)) n = refl
+  hexadecimal_scan (slots.One kinds.Format) n = refl
+  hexadecimal_scan (slots.One kinds.FormatSlice) n = refl
+  hexadecimal_scan (slots.One (kinds.FormatArray count)) n = refl
+  hexadecimal_scan (slots.One (kinds.Bits lo hi)) n = refl
+  hexadecimal_scan (slots.One (kinds.Float size)) n = refl
+  hexadecimal_scan (slots.One kinds.Debug) n = refl
+  hexadecimal_scan (slots.One kinds.Display) n = refl
+  hexadecimal_scan (slots.One kinds.Sequence) n = refl
   hexadecimal_scan (slots.Bits first width) n = refl
+
+  pub negative_scan : (slot : Slot) (n : ℕ) → scan_val t left slot weight sum (negative_at slot n) ≡ sum_or (negative_cause slot n) sum
+  unfolding scan_val
+  negative_scan (slots.One (kinds.Uint size)) n = refl
+  negative_scan (slots.One (kinds.Int size)) n = refl
+  negative_scan (slots.One kinds.Bool) n = refl
+  negative_scan (slots.One kinds.Char) n = refl
+  negative_scan (slots.One kinds.Str) n = refl
+  negative_scan (slots.One kinds.Istr) n = refl
+  negative_scan (slots.One kinds.Bytes) n = refl
+  negative_scan (slots.One (kinds.ByteArray count)) n = refl
+  negative_scan (slots.One kinds.Format) n = refl
+  negative_scan (slots.One kinds.FormatSlice) n = refl
+  negative_scan (slots.One (kinds.FormatArray count)) n = refl
+  negative_scan (slots.One (kinds.Bits lo hi)) n = refl
+  negative_scan (slots.One (kinds.Float size)) n = refl
+  negative_scan (slots.One kinds.Debug) n = refl
+  negative_scan (slots.One kinds.Display) n = refl
+  negative_scan (slots.One kinds.Sequence) n = refl
+  negative_scan (slots.Bits first width) n = refl
 
   pub empty_scan : (slot : Slot) → scan_val t left slot weight sum (seq None no_elems) ≡ sum_or (empty_cause slot) sum
   unfolding scan_val
@@ -57,6 +96,10 @@ module _ (t : Map) (left weight sum : ℕ) where
   empty_scan (slots.One kinds.FormatSlice) = refl
   empty_scan (slots.One (kinds.FormatArray count)) = refl
   empty_scan (slots.One (kinds.Bits lo hi)) = refl
+  empty_scan (slots.One (kinds.Float size)) = refl
+  empty_scan (slots.One kinds.Debug) = refl
+  empty_scan (slots.One kinds.Display) = refl
+  empty_scan (slots.One kinds.Sequence) = refl
   empty_scan (slots.Bits first width) = refl
 
   -- a leaf that was given with its sum
@@ -79,9 +122,13 @@ module _ (t : Map) (left weight sum : ℕ) where
     unfolding meant_val
     empty_arm s e h = subst Gives (sym e) (arm slot (seq None no_elems) (empty_cause slot) result (empty_scan slot) h)
 
-    pub negative_arm : (s : Shape) (n : ℕ) → s ≡ shapes.negative n → GivesValue result (int (negated n)) (sum_or (int_cause slot (negated n)) sum) → Gives s
+    pub negative_arm : (s : Shape) (n : ℕ) → s ≡ shapes.negative n → GivesValue result (negative_at slot n) (sum_or (negative_cause slot n) sum) → Gives s
+    unfolding meant_val
+    negative_arm s n e h = subst Gives (sym e) (arm slot (negative_at slot n) (negative_cause slot n) result (negative_scan slot n) h)
+
+    pub float_arm : (s : Shape) (x : List ℕ) → s ≡ shapes.float x → GivesValue result (float (bits_at slot x)) (sum_or (float_cause slot (bits_at slot x)) sum) → Gives s
     unfolding meant_val scan_val
-    negative_arm s n e h = subst Gives (sym e) h
+    float_arm s x e h = subst Gives (sym e) h
 
     pub flag_arm : (s : Shape) (b : Bool) → s ≡ shapes.flag b → GivesValue result (flag b) (sum_or (flag_cause slot) sum) → Gives s
     unfolding meant_val scan_val
@@ -105,15 +152,20 @@ module _ (t : Map) (left weight sum : ℕ) where
 
   -- ---- Format values
 
-  form_first : (b : Bool) (index : ℕ) (g : Parsed → Result ℕ ℕ) → (test b 6 >>= λ _. (form_at t index >>= g)) ≡ ((test b 6 >>= λ _. form_at t index) >>= g)
-  form_first true index g = refl
-  form_first false index g = refl
+  form_first : (b : Bool) (found : Result Parsed ℕ) (g : Parsed → Result ℕ ℕ) → (test b 6 >>= λ _. (found >>= g)) ≡ ((test b 6 >>= λ _. found) >>= g)
+  form_first true found g = refl
+  form_first false found g = refl
 
   -- behind the tests of a Format value's slot, depth and entry come its weight, its variant and its values
   pub node_is : (slot : Slot) (index : ℕ) (variant : Option ℕ) (vs : Vals) → node_cause slot ≡ Ok tt
       → scan_val t left slot weight sum (format index variant vs) ≡ (form_scan t left index >>= λ form. item_scan t (left - 1) form weight sum variant vs)
   unfolding scan_val
-  node_is slot index variant vs h = rw h (form_first (nat_lt 0 left) index (λ form. item_scan t (left - 1) form weight sum variant vs))
+  node_is slot index variant vs h = rw h (form_first (nat_lt 0 left) (form_at t index) (λ form. item_scan t (left - 1) form weight sum variant vs))
+
+  -- the same of an element of a sequence
+  pub element_is : (index : ℕ) (variant : Option ℕ) (vs : Vals) → found_scan t left (element_form t index) weight sum variant vs ≡ (element_scan t left index >>= λ form. item_scan t (left - 1) form weight sum variant vs)
+  unfolding scan_val
+  element_is index variant vs = form_first (nat_lt 0 left) (element_form t index) (λ form. item_scan t (left - 1) form weight sum variant vs)
 
   pub node_wrong : (slot : Slot) (index : ℕ) (variant : Option ℕ) (vs : Vals) (c : ℕ) → node_cause slot ≡ Err c → scan_val t left slot weight sum (format index variant vs) ≡ Err c
   unfolding scan_val
@@ -124,7 +176,7 @@ module _ (t : Map) (left weight sum : ℕ) where
   pub list_is : (slot : Slot) (index : ℕ) (es : Elems) → list_cause slot ≡ Ok tt → elems_empty es ≡ false
       → scan_val t left slot weight sum (seq (Some index) es) ≡ (form_scan t left index >>= λ form. (scan_elems t (left - 1) form weight sum es >>= λ r. sum_or (count_cause slot (elems_len es)) r))
   unfolding scan_val
-  list_is slot index es h n = rw (h, n) (form_first (nat_lt 0 left) index (λ form. (scan_elems t (left - 1) form weight sum es >>= λ r. sum_or (count_cause slot (elems_len es)) r)))
+  list_is slot index es h n = rw (h, n) (form_first (nat_lt 0 left) (form_at t index) (λ form. (scan_elems t (left - 1) form weight sum es >>= λ r. sum_or (count_cause slot (elems_len es)) r)))
 
   pub list_wrong : (slot : Slot) (index : ℕ) (es : Elems) (c : ℕ) → list_cause slot ≡ Err c → scan_val t left slot weight sum (seq (Some index) es) ≡ Err c
   unfolding scan_val
@@ -178,19 +230,19 @@ module _ (names : NameMap) (t : Map) (left weight sum : ℕ) (slot : Slot) (name
   unfolding meant_val
   list_kind items c h = list_wrong t left weight sum slot (index_of names name) _ c h
 
-  some_elems : (index : ℕ) (inside : List ℕ) (items : Items) → StartsThere inside → SpellsItems inside items → elems_empty (meant_elems names t index items) ≡ false
+  some_elems : (index : ℕ) (inside : List ℕ) (items : Items) → StartsThere inside → SpellsItems t.language inside items → elems_empty (meant_elems names t index items) ≡ false
   unfolding meant_val
   some_elems index inside no_items n h = absurd (empty_starts inside h n)
   some_elems index inside (item variant ss more) n h = refl
 
-  pub list_entry : (inside : List ℕ) (items : Items) (c : ℕ) → list_cause slot ≡ Ok tt → StartsThere inside → SpellsItems inside items → form_scan t left (index_of names name) ≡ Err c → list_scan items ≡ Err c
+  pub list_entry : (inside : List ℕ) (items : Items) (c : ℕ) → list_cause slot ≡ Ok tt → StartsThere inside → SpellsItems t.language inside items → form_scan t left (index_of names name) ≡ Err c → list_scan items ≡ Err c
   unfolding meant_val
   list_entry inside items c k n s h =
       list_is t left weight sum slot (index_of names name) (meant_elems names t (index_of names name) items) k (some_elems (index_of names name) inside items n s)
       ∙ ap (λ (x : Result Parsed ℕ). x >>= λ f. (scan_elems t (left - 1) f weight sum (meant_elems names t (index_of names name) items) >>= λ r. sum_or (count_cause slot (elems_len (meant_elems names t (index_of names name) items))) r)) h
 
   -- the elements, and then how many there are
-  pub list_inside : (inside : List ℕ) (items : Items) (form : Parsed) (r q : Result ℕ ℕ) → list_cause slot ≡ Ok tt → StartsThere inside → SpellsItems inside items → form_scan t left (index_of names name) ≡ Ok form
+  pub list_inside : (inside : List ℕ) (items : Items) (form : Parsed) (r q : Result ℕ ℕ) → list_cause slot ≡ Ok tt → StartsThere inside → SpellsItems t.language inside items → form_scan t left (index_of names name) ≡ Ok form
       → scan_elems t (left - 1) form weight sum (meant_elems names t (index_of names name) items) ≡ r
       → (r >>= λ s. sum_or (count_cause slot (elems_len (meant_elems names t (index_of names name) items))) s) ≡ q → list_scan items ≡ q
   unfolding meant_val

@@ -41,7 +41,7 @@ module _ (names : NameMap) (t : Map) (left weight sum : ℕ) (slot : Slot) (name
     node_end index form given args next k f g =
         (node_value names t left weight sum slot name index form variant given ss args f.0 f.1 g.0 g.1, node_inside names t left weight sum slot name form variant ss (Ok next) k f.1 g.2)
 
-  module _ (inside : List ℕ) (items : Items) (n : StartsThere inside) (s : SpellsItems inside items) where
+  module _ (inside : List ℕ) (items : Items) (n : StartsThere inside) (s : SpellsItems t.language inside items) where
     abbrev pub ListFault : ArgFault → Type 0
     ListFault fault = GivesValue (Err fault) (meant_val names t slot (shapes.sequence name items)) (scan_val t left slot weight sum (meant_val names t slot (shapes.sequence name items)))
 

@@ -48,7 +48,7 @@ module _ (names : NameMap) (t : Map) (left weight : ℕ) where
       }
 
   -- one more value stands in front
-  later : (p : Place) (ps : List Place) (sum r : ℕ) (text rest : List ℕ) (s : Shape) (c : ℕ) → HeadShape (skip_spaces text) s rest → FitsVal t left p.slot (meant_val names t p.slot s)
+  later : (p : Place) (ps : List Place) (sum r : ℕ) (text rest : List ℕ) (s : Shape) (c : ℕ) → HeadShape t.language (skip_spaces text) s rest → FitsVal t left p.slot (meant_val names t p.slot s)
       → sum + weigh_val t (p.uses * weight) (meant_val names t p.slot s) ≡ r → FirstFault names t left weight ps r rest c → FirstFault names t left weight (p ∷ ps) sum text c
   unfolding meant_val
   later p ps sum r text rest s c head f is m =
@@ -90,7 +90,7 @@ module _ (names : NameMap) (t : Map) (left weight : ℕ) where
   next_scanned (p ∷ ps) sum text c (inr (inl h)) = inr (inl h)
   next_scanned (p ∷ ps) sum text c (inr (inr h)) = inr (inr (h.0, h.1, h.2, inl (fault_refused t left p.slot (p.uses * weight) sum (meant_val names t p.slot h.0) c h.3)))
 
-  front_scanned : (front others : List Place) (sum : ℕ) (text rest : List ℕ) (ss : Shapes) (c : ℕ) → HeadShapes text ss rest → FitsVals t left front (meant_vals names t front ss)
+  front_scanned : (front others : List Place) (sum : ℕ) (text rest : List ℕ) (ss : Shapes) (c : ℕ) → HeadShapes t.language text ss rest → FitsVals t left front (meant_vals names t front ss)
       → sum + weigh_vals t front weight (meant_vals names t front ss) ≤ 8192
       → ScannedFault names t left weight others (sum + weigh_vals t front weight (meant_vals names t front ss)) rest c → ScannedFault names t left weight (front ++ others) sum text c
   unfolding meant_val

@@ -1,6 +1,7 @@
 -- The elements of a list, one after another.
 use Rattle.std.proofs.Common.{◌≡◌, ◌<◌, ℕ, List, [], length, Option, Some, None, Result, Ok, Err, Bor, refl, sym, ap, subst, ◌∙◌}
 use Rattle.defmt_grammar.specs.Cut.{skip_spaces}
+use Rattle.defmt_grammar.specs.declared.language.Language.{Language}
 use Rattle.defmt_intern.specs.Table.{Map}
 use Rattle.defmt_intern.specs.declared.parsed.Parsed.{Parsed}
 use Rattle.defmt_shapes.specs.Shape.{Shapes, Items, no_items, item, SpellsShapes, SpellsItems}
@@ -23,12 +24,12 @@ use Rattle.defmt_values.proofs.Joins.{join_snoc_elem, join_no_elems}
 -- some elements are still to be read: they are spelled, and with those so far make the whole
 pub record ItemsLeft (names : NameMap) (t : Map) (left weight : ℕ) (form : Parsed) (index sum : ℕ) (items : Items) (done : Elems) (total : ℕ) (rest : List ℕ) : Type 0 where
   pub others : Items
-  pub spelled : SpellsItems rest others
+  pub spelled : SpellsItems t.language rest others
   pub joined : join_elems done (meant_elems names t index others) ≡ meant_elems names t index items
   pub scan : scan_elems t left form weight total (meant_elems names t index others) ≡ scan_elems t left form weight sum (meant_elems names t index items)
 
 module _ (names : NameMap) (t : Map) (left weight : ℕ) (form : Parsed) (index sum : ℕ) (items : Items) (there : form_at t index ≡ Ok form) where
-  pub all_left : (text : List ℕ) → SpellsItems text items → ItemsLeft names t left weight form index sum items no_elems sum text
+  pub all_left : (text : List ℕ) → SpellsItems t.language text items → ItemsLeft names t left weight form index sum items no_elems sum text
   all_left text s = record { others = items; spelled = s; joined = refl; scan = refl }
 
   first_meant : (variant : Option ℕ) (ss : Shapes) (more : Items) → meant_elems names t index (item variant ss more) ≡ elem variant (meant_inside names t form variant ss) (meant_elems names t index more)
@@ -57,7 +58,7 @@ module _ (names : NameMap) (t : Map) (left weight : ℕ) (form : Parsed) (index 
       item_exit faults.Memory h = tt
 
       pub item_done : (given : Option ℕ) (args : Vals) (next : ℕ) (new : Elems) (after : List ℕ) → given ≡ variant → args ≡ meant_inside names t form variant ss → item_scan t left form weight total variant (meant_inside names t form variant ss) ≡ Ok next
-          → new ≡ snoc_elem done given args → SpellsItems after more → ItemsLeft names t left weight form index sum items new next after
+          → new ≡ snoc_elem done given args → SpellsItems t.language after more → ItemsLeft names t left weight form index sum items new next after
       item_done given args next new after v a h is s =
           let same_new : new ≡ snoc_elem done variant (meant_inside names t form variant ss) = is ∙ ap (λ (o : Option ℕ). snoc_elem done o args) v ∙ ap (snoc_elem done variant) a in
           record {
@@ -70,48 +71,48 @@ module _ (names : NameMap) (t : Map) (left weight : ℕ) (form : Parsed) (index 
           }
 
 -- the element that the code tells is the first of those that are spelled
-pub record ToldItem (others : Items) (number : Option Number) (inside rest : List ℕ) : Type 0 where
+pub record ToldItem (lang : Language) (others : Items) (number : Option Number) (inside rest : List ℕ) : Type 0 where
   pub variant : Option ℕ
   pub shapes : Shapes
   pub more : Items
   pub is : others ≡ item variant shapes more
   pub holds : HoldsVariant number variant
-  pub spelled : SpellsShapes inside shapes
-  pub later : SpellsItems rest more
+  pub spelled : SpellsShapes lang inside shapes
+  pub later : SpellsItems lang rest more
 
-none_there : (text : List ℕ) (others : Items) → SpellsItems text others → ((v : Option ℕ) (ss : Shapes) (rest : List ℕ) → HeadItem (skip_spaces text) v ss rest → ⊥) → others ≡ no_items
-none_there text no_items s n = refl
-none_there text (item v ss more) s n = let h = split_item text v ss more s in absurd (n v ss h.rest h.head)
+none_there : (lang : Language) (text : List ℕ) (others : Items) → SpellsItems lang text others → ((v : Option ℕ) (ss : Shapes) (rest : List ℕ) → HeadItem lang (skip_spaces text) v ss rest → ⊥) → others ≡ no_items
+none_there lang text no_items s n = refl
+none_there lang text (item v ss more) s n = let h = split_item lang text v ss more s in absurd (n v ss h.rest h.head)
 
-pub told_none : (text behind : List ℕ) (others : Items) (o : Option (Item × Bor (List ℕ))) → behind ≡ skip_spaces text → IsItem behind o → o ≡ None → SpellsItems text others → others ≡ no_items
-told_none text behind others o e h is s = none_there text others s (subst (λ (x : List ℕ). IsItem x None) e (subst (IsItem behind) is h))
+pub told_none : (lang : Language) (text behind : List ℕ) (others : Items) (o : Option (Item × Bor (List ℕ))) → behind ≡ skip_spaces text → IsItem lang behind o → o ≡ None → SpellsItems lang text others → others ≡ no_items
+told_none lang text behind others o e h is s = none_there lang text others s (subst (λ (x : List ℕ). IsItem lang x None) e (subst (IsItem lang behind) is h))
 
 nothing_skipped : (text : List ℕ) → text ≡ [] → skip_spaces text ≡ []
 unfolding skip_spaces
 nothing_skipped text e = rw e refl
 
-module _ (one : (text : List ℕ) (v u : Option ℕ) (ss rs : Shapes) (rest after : List ℕ) → HeadItem text v ss rest → HeadItem text u rs after → (v ≡ u) × (ss ≡ rs) × (rest ≡ after)) where
-  first_told : (text : List ℕ) (others : Items) (number : Option Number) (inside rest : List ℕ) (v : Option ℕ) (rs : Shapes) → SpellsItems text others → HeadItem (skip_spaces text) v rs rest → HoldsVariant number v → SpellsShapes inside rs → ToldItem others number inside rest
-  first_told text no_items number inside rest v rs s h holds spelled = absurd (empty_starts (skip_spaces text) (nothing_skipped text s) (item_starts (skip_spaces text) rest v rs h))
-  first_told text (item u ss more) number inside rest v rs s h holds spelled =
-      let k = split_item text u ss more s in
-      let e = one (skip_spaces text) v u rs ss rest k.rest h k.head in
+module _ (one : (lang : Language) (text : List ℕ) (v u : Option ℕ) (ss rs : Shapes) (rest after : List ℕ) → HeadItem lang text v ss rest → HeadItem lang text u rs after → (v ≡ u) × (ss ≡ rs) × (rest ≡ after)) where
+  first_told : (lang : Language) (text : List ℕ) (others : Items) (number : Option Number) (inside rest : List ℕ) (v : Option ℕ) (rs : Shapes) → SpellsItems lang text others → HeadItem lang (skip_spaces text) v rs rest → HoldsVariant number v → SpellsShapes lang inside rs → ToldItem lang others number inside rest
+  first_told lang text no_items number inside rest v rs s h holds spelled = absurd (empty_starts (skip_spaces text) (nothing_skipped text s) (item_starts lang (skip_spaces text) rest v rs h))
+  first_told lang text (item u ss more) number inside rest v rs s h holds spelled =
+      let k = split_item lang text u ss more s in
+      let e = one lang (skip_spaces text) v u rs ss rest k.rest h k.head in
       record {
         variant = u;
         shapes = ss;
         more = more;
         is = refl;
         holds = subst (HoldsVariant number) e.0 holds;
-        spelled = subst (SpellsShapes inside) e.1 spelled;
-        later = subst (λ (x : List ℕ). SpellsItems x more) (sym e.2) k.others;
+        spelled = subst (SpellsShapes lang inside) e.1 spelled;
+        later = subst (λ (x : List ℕ). SpellsItems lang x more) (sym e.2) k.others;
       }
 
-  pub told_item : (text behind : List ℕ) (others : Items) (o : Option (Item × Bor (List ℕ))) (told : Item) (rest : Bor (List ℕ)) → behind ≡ skip_spaces text → IsItem behind o → o ≡ Some (told, rest) → SpellsItems text others → ToldItem others told.variant told.inside.now rest.now
-  told_item text behind others o told rest e h is s =
-      let k = subst (λ (x : List ℕ). IsItem x (Some (told, rest))) e (subst (IsItem behind) is h) in
-      first_told text others told.variant told.inside.now rest.now k.0 k.1 s k.2 k.3 k.4
+  pub told_item : (lang : Language) (text behind : List ℕ) (others : Items) (o : Option (Item × Bor (List ℕ))) (told : Item) (rest : Bor (List ℕ)) → behind ≡ skip_spaces text → IsItem lang behind o → o ≡ Some (told, rest) → SpellsItems lang text others → ToldItem lang others told.variant told.inside.now rest.now
+  told_item lang text behind others o told rest e h is s =
+      let k = subst (λ (x : List ℕ). IsItem lang x (Some (told, rest))) e (subst (IsItem lang behind) is h) in
+      first_told lang text others told.variant told.inside.now rest.now k.0 k.1 s k.2 k.3 k.4
 
-pub told_shorter : (text behind : List ℕ) (o : Option (Item × Bor (List ℕ))) (told : Item) (rest : Bor (List ℕ)) → behind ≡ skip_spaces text → IsItem behind o → o ≡ Some (told, rest) → length rest.now < length text
-told_shorter text behind o told rest e h is =
-    let k = subst (λ (x : List ℕ). IsItem x (Some (told, rest))) e (subst (IsItem behind) is h) in
-    item_shorter text rest.now k.0 k.1 k.2
+pub told_shorter : (lang : Language) (text behind : List ℕ) (o : Option (Item × Bor (List ℕ))) (told : Item) (rest : Bor (List ℕ)) → behind ≡ skip_spaces text → IsItem lang behind o → o ≡ Some (told, rest) → length rest.now < length text
+told_shorter lang text behind o told rest e h is =
+    let k = subst (λ (x : List ℕ). IsItem lang x (Some (told, rest))) e (subst (IsItem lang behind) is h) in
+    item_shorter lang text rest.now k.0 k.1 k.2

@@ -60,7 +60,7 @@ module _ (names : NameMap) (t : Map) (left weight : ℕ) where
       let one : scan_val t left p.slot (p.uses * weight) sum v ≡ Ok next = sym (same t left p.slot (p.uses * weight) u sum v cap) ∙ f.fits in
       record {
         shapes = shape f.shape m.shapes;
-        spelled = join_shape text rest f.shape m.shapes f.head m.spelled;
+        spelled = join_shape t.language text rest f.shape m.shapes f.head m.spelled;
         meant = ap (λ (x : Val). val x (meant_vals names t ps m.shapes)) f.meant ∙ ap (val v) m.meant;
         fits = rw one m.fits;
       }
@@ -117,29 +117,29 @@ module _ (names : NameMap) (t : Map) (left weight : ℕ) where
 
   -- ---- a text that is known to be spelled
 
-  module _ (one : (text : List ℕ) (s r : Shape) (rest after : List ℕ) → HeadShape text s rest → HeadShape text r after → (s ≡ r) × (rest ≡ after)) where
-    pub one_shapes : (text : List ℕ) (ss rs : Shapes) → SpellsShapes text ss → SpellsShapes text rs → ss ≡ rs
+  module _ (one : (text : List ℕ) (s r : Shape) (rest after : List ℕ) → HeadShape t.language text s rest → HeadShape t.language text r after → (s ≡ r) × (rest ≡ after)) where
+    pub one_shapes : (text : List ℕ) (ss rs : Shapes) → SpellsShapes t.language text ss → SpellsShapes t.language text rs → ss ≡ rs
     one_shapes text no_shapes no_shapes a b = refl
-    one_shapes text no_shapes (shape r rs) a b = let h = split text r rs b in absurd (empty_starts (skip_spaces text) (skip_all text a) (head_starts (skip_spaces text) h.rest r h.head))
-    one_shapes text (shape s ss) no_shapes a b = let h = split text s ss a in absurd (empty_starts (skip_spaces text) (skip_all text b) (head_starts (skip_spaces text) h.rest s h.head))
+    one_shapes text no_shapes (shape r rs) a b = let h = split t.language text r rs b in absurd (empty_starts (skip_spaces text) (skip_all text a) (head_starts t.language (skip_spaces text) h.rest r h.head))
+    one_shapes text (shape s ss) no_shapes a b = let h = split t.language text s ss a in absurd (empty_starts (skip_spaces text) (skip_all text b) (head_starts t.language (skip_spaces text) h.rest s h.head))
     one_shapes text (shape s ss) (shape r rs) a b =
-        let h = split text s ss a in
-        let k = split text r rs b in
+        let h = split t.language text s ss a in
+        let k = split t.language text r rs b in
         let e = one (skip_spaces text) s r h.rest k.rest h.head k.head in
-        let o = one_shapes k.rest ss rs (subst (λ (x : List ℕ). SpellsShapes x ss) e.1 h.others) k.others in
+        let o = one_shapes k.rest ss rs (subst (λ (x : List ℕ). SpellsShapes t.language x ss) e.1 h.others) k.others in
         ap (λ (x : Shape). shape x ss) e.0 ∙ ap (shape r) o
 
-    pub fault_scan : (places : List Place) (sum : ℕ) (text : List ℕ) (c : ℕ) (ss : Shapes) → ScannedFault names t left weight places sum text c → SpellsShapes text ss → scan_vals t left places weight sum (meant_vals names t places ss) ≡ Err c
+    pub fault_scan : (places : List Place) (sum : ℕ) (text : List ℕ) (c : ℕ) (ss : Shapes) → ScannedFault names t left weight places sum text c → SpellsShapes t.language text ss → scan_vals t left places weight sum (meant_vals names t places ss) ≡ Err c
     unfolding scan_val meant_val
     fault_scan [] sum text c no_shapes h s = absurd (empty_starts (skip_spaces text) (skip_all text s) h.0)
     fault_scan [] sum text c (shape r rs) h s = ap Err (sym h.1)
     fault_scan (p ∷ ps) sum text c no_shapes (inl h) s = ap Err (sym h.1)
     fault_scan (p ∷ ps) sum text c no_shapes (inr (inl h)) s = absurd (empty_starts (skip_spaces text) (skip_all text s) h.0)
-    fault_scan (p ∷ ps) sum text c no_shapes (inr (inr h)) s = absurd (empty_starts (skip_spaces text) (skip_all text s) (head_starts (skip_spaces text) h.1 h.0 h.2))
-    fault_scan (p ∷ ps) sum text c (shape r rs) (inl h) s = let k = split text r rs s in absurd (empty_starts (skip_spaces text) h.0 (head_starts (skip_spaces text) k.rest r k.head))
-    fault_scan (p ∷ ps) sum text c (shape r rs) (inr (inl h)) s = let k = split text r rs s in absurd (h.1 r k.rest k.head)
+    fault_scan (p ∷ ps) sum text c no_shapes (inr (inr h)) s = absurd (empty_starts (skip_spaces text) (skip_all text s) (head_starts t.language (skip_spaces text) h.1 h.0 h.2))
+    fault_scan (p ∷ ps) sum text c (shape r rs) (inl h) s = let k = split t.language text r rs s in absurd (empty_starts (skip_spaces text) h.0 (head_starts t.language (skip_spaces text) k.rest r k.head))
+    fault_scan (p ∷ ps) sum text c (shape r rs) (inr (inl h)) s = let k = split t.language text r rs s in absurd (h.1 r k.rest k.head)
     fault_scan (p ∷ ps) sum text c (shape r rs) (inr (inr h)) s =
-        let k = split text r rs s in
+        let k = split t.language text r rs s in
         let e = one (skip_spaces text) h.0 r h.1 k.rest h.2 k.head in
         elim h.3 [
           | inl a ↦ (let refused : judged names t left weight p sum r ≡ Err c = subst (λ (x : Shape). judged names t left weight p sum x ≡ Err c) e.0 a in rw refused refl)
@@ -149,7 +149,7 @@ module _ (names : NameMap) (t : Map) (left weight : ℕ) where
               rw passes later)
         ]
 
-    pub inside_gives : (places : List Place) (sum : ℕ) (text : List ℕ) (result : Result (Vals × ℕ) ArgFault) → ReadsValues names t left weight places sum text result → (ss : Shapes) → SpellsShapes text ss → GivesValues result (meant_vals names t places ss) (scan_vals t left places weight sum (meant_vals names t places ss))
+    pub inside_gives : (places : List Place) (sum : ℕ) (text : List ℕ) (result : Result (Vals × ℕ) ArgFault) → ReadsValues names t left weight places sum text result → (ss : Shapes) → SpellsShapes t.language text ss → GivesValues result (meant_vals names t places ss) (scan_vals t left places weight sum (meant_vals names t places ss))
     inside_gives places sum text (Ok r) m ss s =
         let e : r.0 ≡ meant_vals names t places ss = sym m.meant ∙ ap (meant_vals names t places) (one_shapes text m.shapes ss m.spelled s) in
         (e, ap (scan_vals t left places weight sum) (sym e) ∙ m.fits)
@@ -161,11 +161,11 @@ module _ (names : NameMap) (t : Map) (left weight : ℕ) where
     one_fault [] sum text c d h k = h.1 ∙ sym k.1
     one_fault (p ∷ ps) sum text c d (inl h) (inl k) = h.1 ∙ sym k.1
     one_fault (p ∷ ps) sum text c d (inl h) (inr (inl k)) = absurd (empty_starts (skip_spaces text) h.0 k.0)
-    one_fault (p ∷ ps) sum text c d (inl h) (inr (inr k)) = absurd (empty_starts (skip_spaces text) h.0 (head_starts (skip_spaces text) k.1 k.0 k.2))
+    one_fault (p ∷ ps) sum text c d (inl h) (inr (inr k)) = absurd (empty_starts (skip_spaces text) h.0 (head_starts t.language (skip_spaces text) k.1 k.0 k.2))
     one_fault (p ∷ ps) sum text c d (inr (inl h)) (inl k) = absurd (empty_starts (skip_spaces text) k.0 h.0)
     one_fault (p ∷ ps) sum text c d (inr (inl h)) (inr (inl k)) = h.2 ∙ sym k.2
     one_fault (p ∷ ps) sum text c d (inr (inl h)) (inr (inr k)) = absurd (h.1 k.0 k.1 k.2)
-    one_fault (p ∷ ps) sum text c d (inr (inr h)) (inl k) = absurd (empty_starts (skip_spaces text) k.0 (head_starts (skip_spaces text) h.1 h.0 h.2))
+    one_fault (p ∷ ps) sum text c d (inr (inr h)) (inl k) = absurd (empty_starts (skip_spaces text) k.0 (head_starts t.language (skip_spaces text) h.1 h.0 h.2))
     one_fault (p ∷ ps) sum text c d (inr (inr h)) (inr (inl k)) = absurd (k.1 h.0 h.1 h.2)
     one_fault (p ∷ ps) sum text c d (inr (inr h)) (inr (inr k)) =
         let e = one (skip_spaces text) h.0 k.0 h.1 k.1 h.2 k.2 in
@@ -185,8 +185,8 @@ module _ (names : NameMap) (t : Map) (left weight : ℕ) where
 -- ---- the first value
 
 module _ (names : NameMap) (t : Map) (left : ℕ) (slot : Slot) (weight sum : ℕ) (text : List ℕ) where
-  pub front_unspelled : (behind : List ℕ) → behind ≡ skip_spaces text → false ≡ eqb (length behind) 0 → NoValue behind → FrontFault names t left slot weight sum text 1
-  front_unspelled behind e h n = inr (inl (starts_is text (ap (λ (x : List ℕ). eqb (length x) 0) (sym e) ∙ sym h), subst NoValue e n, refl))
+  pub front_unspelled : (behind : List ℕ) → behind ≡ skip_spaces text → false ≡ eqb (length behind) 0 → NoValue t.language behind → FrontFault names t left slot weight sum text 1
+  front_unspelled behind e h n = inr (inl (starts_is text (ap (λ (x : List ℕ). eqb (length x) 0) (sym e) ∙ sym h), subst (NoValue t.language) e n, refl))
 
 pub sound_others : (slots others : List Slot) (slot : Slot) → slots ≡ slot ∷ others → All IsSound slots → All IsSound others
 sound_others slots others slot e h = All-rest IsSound slot others slots e h

@@ -3,10 +3,10 @@ use Rattle.std.specs.Prelude.{◌<◌}
 use Rattle.std.specs.Char.{IsScalar}
 use Rattle.std.specs.List.{AllByRecursion}
 use Rattle.std.specs.Str.{IsUtf8}
-use Rattle.defmt_spelling.specs.Named.{HasName, ListNamed, IsNamed, AreNamed, ElemsNamed}
+use Rattle.defmt_spelling.specs.Named.{HasName, ListNamed, IsNamed, AreNamed, ElemsNamed, NodesNamed}
 use Rattle.defmt_spelling.specs.Names.{NameMap}
-use Rattle.defmt_values.specs.Plain.{Val, uint, int, flag, char, str, istr, bytes, bits, format, seq, Vals, no_vals, val, Elems, no_elems, elem}
-use Rattle.defmt_values.specs.Sound.{IsSound, AreSound, ElemsSound}
+use Rattle.defmt_values.specs.Plain.{Val, uint, int, flag, char, str, istr, bytes, bits, format, seq, float, sequence, Vals, no_vals, val, Elems, no_elems, elem, Nodes, no_nodes, node}
+use Rattle.defmt_values.specs.Sound.{IsSound, AreSound, ElemsSound, NodesSound}
 
 abbrev mutual
   pub IsWritable : NameMap → Val → Type 0
@@ -20,6 +20,8 @@ abbrev mutual
   IsWritable names (bits n) = Unit {0}
   IsWritable names (format index variant vs) = HasName names index × AreWritable names vs
   IsWritable names (seq index es) = ListNamed names index es × ElemsWritable names es
+  IsWritable names (float n) = Unit {0}
+  IsWritable names (sequence ns) = NodesWritable names ns
 
   pub AreWritable : NameMap → Vals → Type 0
   AreWritable names no_vals = Unit {0}
@@ -28,6 +30,10 @@ abbrev mutual
   pub ElemsWritable : NameMap → Elems → Type 0
   ElemsWritable names no_elems = Unit {0}
   ElemsWritable names (elem variant vs es) = AreWritable names vs × ElemsWritable names es
+
+  pub NodesWritable : NameMap → Nodes → Type 0
+  NodesWritable names no_nodes = Unit {0}
+  NodesWritable names (node index variant vs ns) = HasName names index × AreWritable names vs × NodesWritable names ns
 
 module _ (names : NameMap) where
   mutual
@@ -42,6 +48,8 @@ module _ (names : NameMap) where
     val_writable (bits n) h s = tt
     val_writable (format index variant vs) h s = (h.0, vals_writable vs h.1 s)
     val_writable (seq index es) h s = (h.0, elems_writable es h.1 s)
+    val_writable (float n) h s = tt
+    val_writable (sequence ns) h s = nodes_writable ns h s
 
     pub vals_writable : (vs : Vals) → AreNamed names vs → AreSound vs → AreWritable names vs
     vals_writable no_vals h s = tt
@@ -50,3 +58,7 @@ module _ (names : NameMap) where
     pub elems_writable : (es : Elems) → ElemsNamed names es → ElemsSound es → ElemsWritable names es
     elems_writable no_elems h s = tt
     elems_writable (elem variant vs es) h s = (vals_writable vs h.0 s.0, elems_writable es h.1 s.1)
+
+    pub nodes_writable : (ns : Nodes) → NodesNamed names ns → NodesSound ns → NodesWritable names ns
+    nodes_writable no_nodes h s = tt
+    nodes_writable (node index variant vs ns) h s = (h.0, vals_writable vs h.1 s.0, nodes_writable ns h.2 s.1)

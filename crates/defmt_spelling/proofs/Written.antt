@@ -1,5 +1,5 @@
 -- What is written spells what it was written for: numbers, characters, texts and bytes.
-use Rattle.std.proofs.Common.{◌≡◌, ◌≢◌, ◌⊎◌, inl, inr, ◌<◌, ◌≤◌, ◌+◌, ◌*◌, ◌-◌, ◌++◌, ℕ, zero, suc, pos, negsuc, Bool, true, false, cond, List, [], ◌∷◌, length, map, replicate, get_or, Option, Some, None, refl, sym, ap, subst, ◌∙◌, arith, nat_lt}
+use Rattle.std.proofs.Common.{◌≡◌, ◌≢◌, ◌⊎◌, inl, inr, ◌<◌, ◌≤◌, ◌+◌, ◌*◌, ◌-◌, ◌++◌, ℕ, zero, suc, pos, negsuc, Bool, true, false, cond, List, [], ◌∷◌, length, length-append, map, replicate, get_or, Option, Some, None, refl, sym, ap, subst, ◌∙◌, arith, nat_lt}
 use Rattle.std.proofs.lemmas.Bool.{cases_eq, cases_lt, ne_eqb, and_parts}
 use Rattle.std.proofs.lemmas.Int.Digits.{digits_value_is}
 use Rattle.std.proofs.lemmas.List.Concat.{flat_map-append}
@@ -19,6 +19,7 @@ use Rattle.defmt_hints.proofs.DigitsLaws.{are_digits, weighted_sum_is, length_ze
 use Rattle.defmt_hints.specs.Digits.{HasNoLeadingZero, digits, number_text, zero_filled}
 use Rattle.defmt_hints.specs.Escapes.{escape_of, escaped as written, quoted_text}
 use Rattle.defmt_hints.specs.Printed.{printed_uint, printed_int, printed_bool, printed_char, printed_str, radix_text}
+use Rattle.defmt_grammar.specs.declared.language.Language.{Language}
 use Rattle.defmt_shapes.specs.Shape as shapes
 use Rattle.defmt_shapes.specs.Shape.{SpellsShape, SpellsCharacter, SpellsCharacters, SpellsBytes, IsNumber, IsVariant, IsItemMark, IsCallMark, escaped}
 use Rattle.defmt_spelling.specs.Printed.{hex_text, item_mark, call_mark}
@@ -101,18 +102,18 @@ pub call_mark_spelled : (variant : Option ℕ) → IsCallMark (call_mark variant
 call_mark_spelled None = refl
 call_mark_spelled (Some v) = (printed_uint v Plain, variant_spelled v, refl)
 
-pub positive_spelled : (n : ℕ) → SpellsShape (printed_int (pos n) W128 Plain) (shapes.decimal n)
+pub positive_spelled : (lang : Language) (n : ℕ) → SpellsShape lang (printed_int (pos n) W128 Plain) (shapes.decimal n)
 unfolding printed_int
-positive_spelled n = number_spelled 10 n (omega arith) (omega arith)
+positive_spelled lang n = number_spelled 10 n (omega arith) (omega arith)
 
-pub negative_spelled : (n : ℕ) → SpellsShape (printed_int (negsuc n) W128 Plain) (shapes.negative (suc n))
+pub negative_spelled : (lang : Language) (n : ℕ) → SpellsShape lang (printed_int (negsuc n) W128 Plain) (shapes.negative (suc n))
 unfolding printed_int
-negative_spelled n = (number_text 10 false (suc n), number_spelled 10 (suc n) (omega arith) (omega arith), refl)
+negative_spelled lang n = (number_text 10 false (suc n), number_spelled 10 (suc n) (omega arith) (omega arith), refl)
 
-pub flag_spelled : (b : Bool) → SpellsShape (printed_bool b) (shapes.flag b)
+pub flag_spelled : (lang : Language) (b : Bool) → SpellsShape lang (printed_bool b) (shapes.flag b)
 unfolding printed_bool
-flag_spelled true = refl
-flag_spelled false = refl
+flag_spelled lang true = refl
+flag_spelled lang false = refl
 
 -- ---- characters and texts in quotes
 
@@ -188,13 +189,13 @@ module _ (quote : ℕ) (facts : QuoteFacts quote) where
       let b = and_parts _ (all_scalars cs) h in
       (flat_map (written quote) (encode_utf8 c), flat_map (written quote) (encode_utf8_all cs), one_char c b.0, chars_spelled cs b.1, flat_map-append (written quote) (encode_utf8 c) (encode_utf8_all cs))
 
-pub char_spelled : (c : ℕ) → IsScalar c → SpellsShape (printed_char c Debug) (shapes.character c)
+pub char_spelled : (lang : Language) (c : ℕ) → IsScalar c → SpellsShape lang (printed_char c Debug) (shapes.character c)
 unfolding printed_char quoted_text
-char_spelled c s = (flat_map (written 39) (encode_utf8 c), one_char 39 single c s, refl)
+char_spelled lang c s = (flat_map (written 39) (encode_utf8 c), one_char 39 single c s, refl)
 
-pub str_spelled : (s : List ℕ) → IsUtf8 s → SpellsShape (printed_str s Debug) (shapes.quoted s)
+pub str_spelled : (lang : Language) (s : List ℕ) → IsUtf8 s → SpellsShape lang (printed_str s Debug) (shapes.quoted s)
 unfolding printed_str quoted_text
-str_spelled s u =
+str_spelled lang s u =
     (flat_map (written 34) s, (u.0, subst (λ (x : List ℕ). SpellsCharacters 34 (flat_map (written 34) x) u.0) u.1.1 (chars_spelled 34 double u.0 u.1.0), u.1.1), refl)
 
 -- ---- bytes
@@ -225,23 +226,34 @@ pair_of (x ∷ []) b l a v = absurd (omega arith)
 pair_of (x ∷ y ∷ []) b l a v = record { high = x; low = y; is = refl; above = a.0; below = a.1.0; value = pair_value (digit_value x) (digit_value y) b v }
 pair_of (x ∷ y ∷ z ∷ zs) b l a v = absurd (omega arith)
 
-hex_is : (b : ℕ) → printed_uint b (Radix Hex false 2) ≡ zero_filled 2 (number_text 16 false b)
+hex_is : (w b : ℕ) → printed_uint b (Radix Hex false w) ≡ zero_filled w (number_text 16 false b)
 unfolding printed_uint radix_text
-hex_is b = refl
+hex_is w b = let e : w - 0 ≡ w = omega arith in ap (λ (k : ℕ). zero_filled k (number_text 16 false b)) e
 
-filled_digits : (text : List ℕ) → AllDigits 16 text → AllDigits 16 (zero_filled 2 text)
+filled_digits : (w : ℕ) (text : List ℕ) → AllDigits 16 text → AllDigits 16 (zero_filled w text)
 unfolding zero_filled
-filled_digits text h = zeros_digits (2 - length text) text h
+filled_digits w text h = zeros_digits (w - length text) text h
 
-filled_value : (text : List ℕ) → digits_value 16 (zero_filled 2 text) ≡ digits_value 16 text
+filled_value : (w : ℕ) (text : List ℕ) → digits_value 16 (zero_filled w text) ≡ digits_value 16 text
 unfolding zero_filled
-filled_value text = zeros_value (2 - length text) text
+filled_value w text = zeros_value (w - length text) text
+
+filled_some : (w : ℕ) (text : List ℕ) → 0 < length text → 0 < length (zero_filled w text)
+unfolding zero_filled
+filled_some w text h = omega (arith, h, length-append (replicate (w - length text) 48) text)
+
+-- all digits of a number
+pub hex_number : (w n : ℕ) → IsNumber 16 (printed_uint n (Radix Hex false w)) n
+hex_number w n =
+    let k = number_spelled 16 n (omega arith) (omega arith) in
+    subst (λ (x : List ℕ). IsNumber 16 x n) (sym (hex_is w n))
+    (record { some = filled_some w (number_text 16 false n) k.some; all = filled_digits w (number_text 16 false n) k.all; value = filled_value w (number_text 16 false n) ∙ k.value })
 
 hex_pair : (b : ℕ) → b < 256 → HexPair (printed_uint b (Radix Hex false 2)) b
 hex_pair b h =
     let n = number_spelled 16 b (omega arith) (omega arith) in
-    subst (λ (x : List ℕ). HexPair x b) (sym (hex_is b))
-    (pair_of (zero_filled 2 (number_text 16 false b)) b (length_zero_filled 16 2 b false (omega arith) (omega arith) h) (filled_digits (number_text 16 false b) n.all) (filled_value (number_text 16 false b) ∙ n.value))
+    subst (λ (x : List ℕ). HexPair x b) (sym (hex_is 2 b))
+    (pair_of (zero_filled 2 (number_text 16 false b)) b (length_zero_filled 16 2 b false (omega arith) (omega arith) h) (filled_digits 2 (number_text 16 false b) n.all) (filled_value 2 (number_text 16 false b) ∙ n.value))
 
 pub hex_spelled : (bs : List ℕ) → AllByRecursion (λ b. b < 256) bs → SpellsBytes (hex_text bs) bs
 unfolding hex_text

@@ -2,7 +2,7 @@
 use Rattle.std.specs.Prelude.{◌≡◌, ℕ, List, Option, Some}
 use Rattle.defmt_shapes.specs.Shape.{IsName}
 use Rattle.defmt_spelling.specs.Names.{NameMap, name_of}
-use Rattle.defmt_values.specs.Plain.{Val, uint, int, flag, char, str, istr, bytes, bits, format, seq, Vals, no_vals, val, Elems, no_elems, elem}
+use Rattle.defmt_values.specs.Plain.{Val, uint, int, flag, char, str, istr, bytes, bits, format, seq, float, sequence, Vals, no_vals, val, Elems, no_elems, elem, Nodes, no_nodes, node}
 use Rattle.defmt_values.specs.Scan.{index_or}
 
 -- the index has a name, and the least of its names is spelled as names are
@@ -29,6 +29,8 @@ abbrev mutual
   IsNamed names (bits n) = Unit {0}
   IsNamed names (format index variant vs) = HasName names index × AreNamed names vs
   IsNamed names (seq index es) = ListNamed names index es × ElemsNamed names es
+  IsNamed names (float n) = Unit {0}
+  IsNamed names (sequence ns) = NodesNamed names ns
 
   pub AreNamed : NameMap → Vals → Type 0
   AreNamed names no_vals = Unit {0}
@@ -37,3 +39,8 @@ abbrev mutual
   pub ElemsNamed : NameMap → Elems → Type 0
   ElemsNamed names no_elems = Unit {0}
   ElemsNamed names (elem variant vs es) = AreNamed names vs × ElemsNamed names es
+
+  pub NodesNamed : NameMap → Nodes → Type 0
+  NodesNamed names no_nodes = Unit {0}
+  NodesNamed names (node index variant vs ns) =
+      HasName names index × AreNamed names vs × NodesNamed names ns

@@ -10,8 +10,8 @@ pub enum ArgFault {
     /// The first of these causes from left to right: 1 a text at a value's place that spells no value; 2 fewer or
     /// more values than positions; 3 a value of another kind; 4 a number outside its kind, bits outside their window,
     /// an array of another length, a variant that isn't there, is missing or is given to no enum; 5 a name or an
-    /// index that isn't in the table, or whose tag doesn't suit; 6 a Format value at depth 17; 7 the weights pass
-    /// 8,192; 8 an entry whose text was refused.
+    /// index that isn't in the table, or whose tag doesn't suit, and the index 0 of an element of a sequence; 6 a
+    /// Format value at depth 17; 7 the weights pass 8,192; 8 an entry whose text was refused.
     Refused { cause: u8 },
     /// Want of memory.
     Memory,

@@ -1,8 +1,8 @@
 //! What a value with values inside is held against: its slot, the form of its entry, and the weight that is left.
 ghost use Rattle.std.specs.Prelude.{◌<◌, ◌≤◌, ℕ, Option, IfOk, OnOk};
 ghost use Rattle.defmt_shapes.specs.Spelling.{HoldsVariant};
-ghost use Rattle.defmt_spelling.specs.Reading.{GivesForm, GivesVariant, GivesSum, Tests};
-ghost use Rattle.defmt_values.specs.Scan.{node_cause, list_cause, count_cause, pick, add};
+ghost use Rattle.defmt_spelling.specs.Reading.{GivesForm, GivesElement, GivesVariant, GivesSum, Tests};
+ghost use Rattle.defmt_values.specs.Scan.{node_cause, list_cause, sequence_cause, count_cause, pick, add};
 
 use crate::fault::{ArgFault, Cause};
 use crate::leaves::index_of;
@@ -10,7 +10,7 @@ use crate::names::Names;
 use defmt_grammar::{Kind, Pieces, Slot};
 use defmt_intern::{Parsed, Table};
 use defmt_shapes::Number;
-use defmt_values::{form_of, pick};
+use defmt_values::{element_form, form_of, pick};
 
 // The most that the values of a text weigh.
 const WEIGHT_LIMIT: usize = 8192;
@@ -31,6 +31,16 @@ pub fn check_list(slot: Slot) -> Result<(), ArgFault>
 {
     match slot {
         Slot::One(Kind::FormatSlice | Kind::FormatArray(_)) => Ok(()),
+        _ => Err(Cause::Kind.into()),
+    }
+}
+
+/// Whether a sequence may stand in this slot.
+pub fn check_sequence(slot: Slot) -> Result<(), ArgFault>
+    ensures { Tests (sequence_cause slot) result }
+{
+    match slot {
+        Slot::One(Kind::Sequence) => Ok(()),
         _ => Err(Cause::Kind.into()),
     }
 }
@@ -73,6 +83,24 @@ pub fn find_form<'a>(
     }
     let index = index_of(names, name)?;
     let form = form_of(table, index)?;
+    Ok((index, form))
+}
+
+/// The same of an element of a sequence.
+pub fn find_element<'a>(
+    names: &Names,
+    table: &'a Table,
+    left: u8,
+    name: &str,
+) -> Result<(u16, &'a Parsed), ArgFault>
+    ensures form { GivesElement names.now table.now.entries left name.now result }
+    ensures deep { OnOk result (0 < left) }
+{
+    if left == 0 {
+        return Err(Cause::Deep.into());
+    }
+    let index = index_of(names, name)?;
+    let form = element_form(table, index)?;
     Ok((index, form))
 }
 

@@ -5,13 +5,17 @@
 
 mod arguments;
 mod fault;
+mod floats;
 mod forms;
 mod leaves;
+mod marks;
 mod names;
 mod nested;
+mod numbers;
 mod printing;
 mod quick;
 mod reading;
+mod sequences;
 
 pub use arguments::{one_reading, read_args};
 pub use fault::ArgFault;

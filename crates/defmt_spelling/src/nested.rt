@@ -12,6 +12,7 @@ use crate::forms::{add, check_count, check_list, check_node, find_form, find_pie
 use crate::leaves::read_leaf;
 use crate::names::Names;
 use crate::reading::read_values;
+use crate::sequences::read_sequence;
 use defmt_grammar::Slot;
 use defmt_intern::{Parsed, Table};
 use defmt_shapes::{Number, Spelling, first_item, skip_spaces};
@@ -32,7 +33,7 @@ pub fn read_value(
 ) -> Result<(Value, usize), ArgFault>
     requires sum { sum ≤ 8192 }
     requires sound { IsSound slot }
-    ensures value { (s : AnyShape) → Tells spelling.entry s
+    ensures value { (s : AnyShape) → Tells table.now.entries.language spelling.entry s
         → GivesValue result (meant_val names.now table.now.entries slot s)
         (scan_val table.now.entries left slot weight sum
         (meant_val names.now table.now.entries slot s)) }
@@ -48,6 +49,9 @@ pub fn read_value(
         ),
         Spelling::Sequence { name, inside } => read_list(
             alloc, names, table, slot, left, weight, sum, name, inside,
+        ),
+        Spelling::Nodes(inside) => read_sequence(
+            alloc, names, table, slot, left, weight, sum, inside,
         ),
         leaf => read_leaf(alloc, names, table, slot, sum, leaf),
     }
@@ -69,11 +73,11 @@ pub fn read_node(
 ) -> Result<(Value, usize), ArgFault>
     requires sum { sum ≤ 8192 }
     ensures value { (v : Option ℕ) (ss : Shapes) → HoldsVariant variant v
-        → SpellsShapes inside.now ss
+        → SpellsShapes table.now.entries.language inside.now ss
         → GivesValue result (meant_val names.now table.now.entries slot (call name.now v ss))
         (scan_val table.now.entries left slot weight sum
         (meant_val names.now table.now.entries slot (call name.now v ss))) }
-    ensures spelled { IfOk result (λ _. SpellsSome inside.now) }
+    ensures spelled { IfOk result (λ _. SpellsSome table.now.entries.language inside.now) }
     ensures small { SmallValue result }
 {
     check_node(slot)?;
@@ -114,7 +118,8 @@ fn read_list(
     inside: &str,
 ) -> Result<(Value, usize), ArgFault>
     requires sum { sum ≤ 8192 }
-    ensures value { (items : AnyItems) → StartsThere inside.now → SpellsItems inside.now items
+    ensures value { (items : AnyItems) → StartsThere inside.now
+        → SpellsItems table.now.entries.language inside.now items
         → GivesValue result (meant_val names.now table.now.entries slot (sequence name.now items))
         (scan_val table.now.entries left slot weight sum
         (meant_val names.now table.now.entries slot (sequence name.now items))) }
@@ -147,16 +152,17 @@ fn read_items(
 ) -> Result<(Items, usize), ArgFault>
     requires sum { sum ≤ 8192 }
     ensures value { (index : ℕ) (items : AnyItems) → form_at table.now.entries index ≡ Ok form.now
-        → SpellsItems text.now items
+        → SpellsItems table.now.entries.language text.now items
         → GivesElems result (meant_elems names.now table.now.entries index items)
         (scan_elems table.now.entries left form.now weight sum
         (meant_elems names.now table.now.entries index items)) }
     ensures small { SmallValue result }
 {
+    let language = table.language();
     let mut items = Items::new(alloc);
     let mut total = sum;
     let mut rest = text;
-    'each: while let Some((told, more)) = first_item(alloc, skip_spaces(rest))? {
+    'each: while let Some((told, more)) = first_item(alloc, language, skip_spaces(rest))? {
         let (item, next) = read_item(
             alloc,
             names,
@@ -175,9 +181,9 @@ fn read_items(
     Ok((items, total))
 }
 
-// The values of a form, or of its variant.
+/// The values of a form, or of its variant.
 #[cycle(read)]
-fn read_item(
+pub fn read_item(
     alloc: Global,
     names: &Names,
     table: &Table,
@@ -190,11 +196,11 @@ fn read_item(
 ) -> Result<(Item, usize), ArgFault>
     requires sum { sum ≤ 8192 }
     ensures value { (v : Option ℕ) (ss : Shapes) → HoldsVariant variant v
-        → SpellsShapes inside.now ss
+        → SpellsShapes table.now.entries.language inside.now ss
         → GivesItem result v (meant_inside names.now table.now.entries form.now v ss)
         (item_scan table.now.entries left form.now weight sum v
         (meant_inside names.now table.now.entries form.now v ss)) }
-    ensures spelled { IfOk result (λ _. SpellsSome inside.now) }
+    ensures spelled { IfOk result (λ _. SpellsSome table.now.entries.language inside.now) }
     ensures small { SmallValue result }
 {
     let sum = add(weight, sum)?;

@@ -4,10 +4,11 @@ ghost use Rattle.std.specs.Bool.{OnTrue};
 ghost use Rattle.std.specs.Str.{IsUtf8};
 ghost use Rattle.defmt_grammar.specs.Sizes.{size_bits};
 ghost use Rattle.defmt_grammar.specs.Slots.{IsSound};
+ghost use Rattle.defmt_spelling.specs.Leaves.{NotFloat};
 ghost use Rattle.defmt_spelling.specs.Quick.{Appends, IsQuick};
 ghost use Rattle.defmt_values.specs.View.{plain};
 
-use crate::leaves::{decimal_value, negative_value};
+use crate::numbers::{decimal_value, negative_value};
 use defmt_grammar::{IntSize, Kind, Slot, Text};
 use defmt_shapes::{Number, quick_bytes, quick_decimal, quick_flag, quick_negative, quick_quoted};
 use defmt_values::{Args, Value};
@@ -16,7 +17,8 @@ use std::alloc::Global;
 
 // A number of decimal digits, without a sign or with one.
 fn number(slot: Slot, text: &str) -> Option<(Value, &str)>
-    requires { IsSound slot }
+    requires sound { IsSound slot }
+    requires other { NotFloat slot }
     ensures value { IfSome result (λ p. IsQuick slot text.now (plain p.0) p.1.now) }
     ensures utf8 { IfSome result (λ p. IsUtf8 p.1.now) }
 {
@@ -31,6 +33,7 @@ fn number(slot: Slot, text: &str) -> Option<(Value, &str)>
 
 // A number behind a sign.
 fn below_zero(slot: Slot, text: &str) -> Option<(Value, &str)>
+    requires { NotFloat slot }
     ensures value { IfSome result (λ p. IsQuick slot text.now (plain p.0) p.1.now) }
     ensures utf8 { IfSome result (λ p. IsUtf8 p.1.now) }
 {
@@ -70,7 +73,8 @@ pub fn push_quick<'a>(
 
 // The same of a number of a signed kind, or of any bit fields.
 fn push_number<'a>(slot: Slot, text: &'a str, args: &mut Args) -> Result<Option<&'a str>, Memory>
-    requires { IsSound slot }
+    requires sound { IsSound slot }
+    requires other { NotFloat slot }
     ensures value { IfOk result (λ o. Appends slot text.now args.old args.new o) }
     ensures utf8 { IfOk result (λ o. IfSome o (λ rest. IsUtf8 rest.now)) }
 {

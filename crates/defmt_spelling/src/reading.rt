@@ -10,7 +10,7 @@ use crate::fault::{ArgFault, Cause};
 use crate::names::Names;
 use crate::nested::{read_node, read_value};
 use crate::quick::push_quick;
-use defmt_grammar::{Kind, Pieces, Slot};
+use defmt_grammar::{Kind, Language, Pieces, Slot};
 use defmt_intern::Table;
 use defmt_shapes::{first_value, last_call, skip_spaces};
 use defmt_values::{Args, Value, cut};
@@ -94,7 +94,7 @@ fn read_front<'a>(
     if text.is_empty() {
         return Err(Cause::Count.into());
     }
-    let Some((spelling, rest)) = first_value(alloc, text)? else {
+    let Some((spelling, rest)) = first_value(alloc, table.language(), text)? else {
         return Err(Cause::Syntax.into());
     };
     let (value, sum) = read_value(alloc, names, table, slot, left, weight, sum, spelling)?;
@@ -102,11 +102,11 @@ fn read_front<'a>(
 }
 
 // Whether a text spells values, of any kinds.
-fn are_values(alloc: Global, text: &str) -> Result<bool, Memory>
-    ensures { IfOk result (λ are. OnTrue are (SpellsSome text.now)) }
+fn are_values(alloc: Global, language: Language, text: &str) -> Result<bool, Memory>
+    ensures { IfOk result (λ are. OnTrue are (SpellsSome language text.now)) }
 {
     let mut rest = text;
-    'each: while let Some((_, more)) = first_value(alloc, skip_spaces(rest))? {
+    'each: while let Some((_, more)) = first_value(alloc, language, skip_spaces(rest))? {
         rest = more;
     }
     Ok(skip_spaces(rest).is_empty())
@@ -144,7 +144,7 @@ fn read_next<'a>(
                 return Ok((value, sum, rest));
             }
             Err(fault) => {
-                let spelled = are_values(alloc, inside)?;
+                let spelled = are_values(alloc, table.language(), inside)?;
                 if spelled {
                     return Err(fault);
                 }

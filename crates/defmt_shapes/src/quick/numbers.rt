@@ -4,6 +4,7 @@ ghost use Rattle.std.specs.Prelude.{◌≡◌, ◌<◌, ◌≤◌, ℕ, List, ta
 ghost use Rattle.std.specs.Char.{digit_value};
 ghost use Rattle.std.specs.Str.{IsUtf8, IsCharBoundary};
 ghost use Rattle.std.specs.Str.Parse.{AllDigits, digits_value};
+ghost use Rattle.defmt_grammar.specs.declared.language.Language.{Language};
 ghost use Rattle.defmt_shapes.specs.Shape.{HeadShape, decimal, negative};
 
 use crate::parts::{behind, ends_there};
@@ -13,10 +14,10 @@ const MOST: u64 = 1_844_674_407_370_955_159;
 
 /// The number of decimal digits that the text begins with, and what follows it. Numbers from 18,446,744,073,709,551,600 on are left.
 pub fn quick_decimal(text: &str) -> Option<(u64, &str)>
-    ensures value { MatchOption result
-        ((n : ℕ) (rest : List ℕ) → HeadShape text.now (decimal n) rest
+    ensures value { (language : Language) → MatchOption result
+        ((n : ℕ) (rest : List ℕ) → HeadShape language text.now (decimal n) rest
         → 18446744073709551600 ≤ n)
-        (λ p. HeadShape text.now (decimal p.0) p.1.now) }
+        (λ p. HeadShape language text.now (decimal p.0) p.1.now) }
     ensures utf8 { IfSome result (λ p. IsUtf8 p.1.now) }
 {
     let mut number = 0u64;
@@ -38,10 +39,10 @@ fn number_before(text: &str, at: usize, number: u64) -> Option<(u64, &str)>
     requires digits { AllDigits 10 (take at text.now) }
     requires value { digits_value 10 (take at text.now) ≡ number }
     requires stop { at < length text.now → 10 ≤ digit_value (slice_index_or text.now at 0) }
-    ensures value { MatchOption result
-        ((n : ℕ) (rest : List ℕ) → HeadShape text.now (decimal n) rest
+    ensures value { (language : Language) → MatchOption result
+        ((n : ℕ) (rest : List ℕ) → HeadShape language text.now (decimal n) rest
         → 18446744073709551600 ≤ n)
-        (λ p. HeadShape text.now (decimal p.0) p.1.now) }
+        (λ p. HeadShape language text.now (decimal p.0) p.1.now) }
     ensures utf8 { IfSome result (λ p. IsUtf8 p.1.now) }
 {
     if at == 0 {
@@ -57,10 +58,10 @@ fn number_before(text: &str, at: usize, number: u64) -> Option<(u64, &str)>
 
 /// The number behind the sign `-` that the text begins with, and what follows it. The same numbers are left.
 pub fn quick_negative(text: &str) -> Option<(u64, &str)>
-    ensures value { MatchOption result
-        ((n : ℕ) (rest : List ℕ) → HeadShape text.now (negative n) rest
+    ensures value { (language : Language) → MatchOption result
+        ((n : ℕ) (rest : List ℕ) → HeadShape language text.now (negative n) rest
         → 18446744073709551600 ≤ n)
-        (λ p. HeadShape text.now (negative p.0) p.1.now) }
+        (λ p. HeadShape language text.now (negative p.0) p.1.now) }
     ensures utf8 { IfSome result (λ p. IsUtf8 p.1.now) }
 {
     let Some(digits) = behind(text, '-') else {

@@ -3,6 +3,7 @@
 ghost use Rattle.std.specs.Prelude.{◌≡◌, ◌<◌, ◌+◌, ◌*◌, ◌++◌, IfSome, IfOk};
 ghost use Rattle.std.specs.Char.{digit_value};
 ghost use Rattle.std.specs.Str.{IsUtf8};
+ghost use Rattle.defmt_grammar.specs.declared.language.Language.{Language};
 ghost use Rattle.defmt_shapes.specs.Shape.{HeadShape, bytes, EndsThere, SpellsBytes};
 
 use crate::digits::digit_of;
@@ -16,8 +17,8 @@ use std::alloc::Global;
 /// # Errors
 /// `Memory` where memory runs out.
 pub fn quick_bytes(alloc: Global, text: &str) -> Result<Option<(Bytes, &str)>, Memory>
-    ensures value { IfOk result
-        (λ o. IfSome o (λ p. HeadShape text.now (bytes p.0.items) p.1.now)) }
+    ensures value { (language : Language) → IfOk result
+        (λ o. IfSome o (λ p. HeadShape language text.now (bytes p.0.items) p.1.now)) }
     ensures utf8 { IfOk result (λ o. IfSome o (λ p. IsUtf8 p.1.now)) }
 {
     let Some(digits) = behind(text, '#') else {

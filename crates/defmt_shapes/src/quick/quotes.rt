@@ -2,6 +2,7 @@
 
 ghost use Rattle.std.specs.Prelude.{IfSome};
 ghost use Rattle.std.specs.Str.{IsUtf8};
+ghost use Rattle.defmt_grammar.specs.declared.language.Language.{Language};
 ghost use Rattle.defmt_shapes.specs.Shape.{HeadShape, quoted};
 
 use crate::parts::{behind, ends_there};
@@ -9,7 +10,8 @@ use memchr::memchr2;
 
 /// The text in quotes that the text begins with, where it has no escape, and what follows it.
 pub fn quick_quoted(text: &str) -> Option<(&str, &str)>
-    ensures value { IfSome result (λ p. HeadShape text.now (quoted p.0.now) p.1.now) }
+    ensures value { (language : Language)
+        → IfSome result (λ p. HeadShape language text.now (quoted p.0.now) p.1.now) }
     ensures utf8 { IfSome result (λ p. IsUtf8 p.0.now × IsUtf8 p.1.now) }
 {
     let quoted = behind(text, '"')?;

@@ -2,15 +2,16 @@
 
 ghost use Rattle.std.specs.Prelude.{◌≡◌, ◌≢◌, ◌++◌, ℕ, Bool, List, IfSome, MatchOption};
 ghost use Rattle.std.specs.Str.{IsUtf8};
+ghost use Rattle.defmt_grammar.specs.declared.language.Language.{Language};
 ghost use Rattle.defmt_shapes.specs.Shape.{HeadShape, flag, flag_word};
 
 use crate::parts::ends_there;
 
 /// The truth value that the text begins with, and what follows it.
 pub fn quick_flag(text: &str) -> Option<(bool, &str)>
-    ensures value { MatchOption result
-        ((b : Bool) (rest : List ℕ) → HeadShape text.now (flag b) rest → ⊥)
-        (λ p. HeadShape text.now (flag p.0) p.1.now) }
+    ensures value { (language : Language) → MatchOption result
+        ((b : Bool) (rest : List ℕ) → HeadShape language text.now (flag b) rest → ⊥)
+        (λ p. HeadShape language text.now (flag p.0) p.1.now) }
     ensures utf8 { IfSome result (λ p. IsUtf8 p.1.now) }
 {
     let Some((value, rest)) = word(text) else {

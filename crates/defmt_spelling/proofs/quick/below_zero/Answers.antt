@@ -6,4 +6,4 @@ use Rattle.defmt_spelling.proofs.quick.below_zero.Goals as goal
 pub returns-in-Ok-clause-value : goal.returns-in-Ok-clause-value
 returns-in-Ok-clause-value c =
     let k = c.in-Ok.ensures c.in-Some.number (c.from.ensures, omega arith) in
-    negative_quick c.args.slot c.args.text.now c.in-Some.rest.now c.in-Some.number (plain c.in-Ok.value) c.in-Some.ensures.value k.0 k.1
+    negative_quick c.args.slot c.args.text.now c.in-Some.rest.now c.in-Some.number (plain c.in-Ok.value) c.requires c.in-Some.ensures.value k.0 k.1

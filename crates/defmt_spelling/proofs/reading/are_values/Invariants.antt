@@ -7,7 +7,7 @@ use Rattle.defmt_spelling.proofs.reading.are_values.Given as goal
 abbrev pub invariant-each : goal.invariant-each
 invariant-each l = record {
   utf8 : IsUtf8 l.rest;
-  front : (ss : Shapes) → SpellsShapes l.rest ss → SpellsSome l.text;
+  front : (ss : Shapes) → SpellsShapes l.language l.rest ss → SpellsSome l.language l.text;
 }
 
 abbrev pub decreases-each : goal.decreases-each

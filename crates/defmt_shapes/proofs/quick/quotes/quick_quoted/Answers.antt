@@ -8,9 +8,9 @@ use Rattle.defmt_shapes.proofs.QuickQuotes.{misses_front, spells_itself}
 use Rattle.defmt_shapes.proofs.quick.quotes.quick_quoted.Goals as goal
 
 pub returns-then-ends_there-clause-value : goal.returns-then-ends_there-clause-value
-returns-then-ends_there-clause-value c =
+returns-then-ends_there-clause-value c = λ language.
     let utf8 : IsUtf8 c.split_at.result.0.now = search rules in
-    quoted_there c.args.text.now c.in_ok-quoted.quoted.now c.split_at.result.0.now c.split_at.result.1.now c.in_ok-rest.rest.now (behind_found 34 c.args.text.now c.in_ok-quoted.quoted.now (sym c.in_ok-quoted.ensures.rest))
+    quoted_there language c.args.text.now c.in_ok-quoted.quoted.now c.split_at.result.0.now c.split_at.result.1.now c.in_ok-rest.rest.now (behind_found 34 c.args.text.now c.in_ok-quoted.quoted.now (sym c.in_ok-quoted.ensures.rest))
     (two_parts c.in_ok-quoted.quoted.now c.split_at.result.0.now c.split_at.result.1.now c.in_ok-end.end c.split_at.ensures.front c.split_at.ensures.back)
     (behind_found 34 c.split_at.result.1.now c.in_ok-rest.rest.now (sym c.in_ok-rest.ensures.rest)) (ends_found c.in_ok-rest.rest.now (sym c.ends_there.ensures ∙ c.if-ends_there.true))
     (spells_itself c.split_at.result.0.now utf8

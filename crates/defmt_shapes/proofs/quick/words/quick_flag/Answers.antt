@@ -5,10 +5,10 @@ use Rattle.defmt_shapes.proofs.FlagLaws.{flag_ends}
 use Rattle.defmt_shapes.proofs.quick.words.quick_flag.Goals as goal
 
 pub returns-in_default-clause-value : goal.returns-in_default-clause-value
-returns-in_default-clause-value c = λ b rest h. c.in_default.ensures.text b rest (rw h.spelled at h.text_is)
+returns-in_default-clause-value c = λ language b rest h. c.in_default.ensures.text b rest (rw h.spelled at h.text_is)
 
 pub returns-then-ends_there-clause-value : goal.returns-then-ends_there-clause-value
-returns-then-ends_there-clause-value c = record {
+returns-then-ends_there-clause-value c = λ language. record {
   front = flag_word c.in-Some.value;
   spelled = refl;
   ends = ends_found c.in-Some.rest.now (sym c.ends_there.ensures ∙ c.if-ends_there.true);
@@ -16,5 +16,5 @@ returns-then-ends_there-clause-value c = record {
 }
 
 pub returns-else-ends_there-clause-value : goal.returns-else-ends_there-clause-value
-returns-else-ends_there-clause-value c = λ b rest h.
-    ends_not c.in-Some.rest.now (sym c.ends_there.ensures ∙ c.if-ends_there.false) (flag_ends c.args.text.now c.in-Some.rest.now rest c.in-Some.value b c.in-Some.ensures.text h)
+returns-else-ends_there-clause-value c = λ language b rest h.
+    ends_not c.in-Some.rest.now (sym c.ends_there.ensures ∙ c.if-ends_there.false) (flag_ends language c.args.text.now c.in-Some.rest.now rest c.in-Some.value b c.in-Some.ensures.text h)
