@@ -9,6 +9,17 @@ use Rattle.defmt_lines.specs.declared.form.Form.TheVariants as forms
 
 -- the code's test, by the places of the forms
 pub ranked : (first form : Form) → in_order first form ≡ nat_le (rank first) (rank form)
+ranked forms.Language forms.Language = refl
+ranked forms.Language forms.Ring = refl
+ranked forms.Language forms.Mode = refl
+ranked forms.Language forms.Reader = refl
+ranked forms.Language forms.Stamp = refl
+ranked forms.Language forms.Profile = refl
+ranked forms.Language forms.Order = refl
+ranked forms.Language forms.Entry = refl
+ranked forms.Language forms.Statement = refl
+ranked forms.Language forms.Say = refl
+ranked forms.Ring forms.Language = refl
 ranked forms.Ring forms.Ring = refl
 ranked forms.Ring forms.Mode = refl
 ranked forms.Ring forms.Reader = refl
@@ -18,6 +29,7 @@ ranked forms.Ring forms.Order = refl
 ranked forms.Ring forms.Entry = refl
 ranked forms.Ring forms.Statement = refl
 ranked forms.Ring forms.Say = refl
+ranked forms.Mode forms.Language = refl
 ranked forms.Mode forms.Ring = refl
 ranked forms.Mode forms.Mode = refl
 ranked forms.Mode forms.Reader = refl
@@ -27,6 +39,7 @@ ranked forms.Mode forms.Order = refl
 ranked forms.Mode forms.Entry = refl
 ranked forms.Mode forms.Statement = refl
 ranked forms.Mode forms.Say = refl
+ranked forms.Reader forms.Language = refl
 ranked forms.Reader forms.Ring = refl
 ranked forms.Reader forms.Mode = refl
 ranked forms.Reader forms.Reader = refl
@@ -36,6 +49,7 @@ ranked forms.Reader forms.Order = refl
 ranked forms.Reader forms.Entry = refl
 ranked forms.Reader forms.Statement = refl
 ranked forms.Reader forms.Say = refl
+ranked forms.Stamp forms.Language = refl
 ranked forms.Stamp forms.Ring = refl
 ranked forms.Stamp forms.Mode = refl
 ranked forms.Stamp forms.Reader = refl
@@ -45,6 +59,7 @@ ranked forms.Stamp forms.Order = refl
 ranked forms.Stamp forms.Entry = refl
 ranked forms.Stamp forms.Statement = refl
 ranked forms.Stamp forms.Say = refl
+ranked forms.Profile forms.Language = refl
 ranked forms.Profile forms.Ring = refl
 ranked forms.Profile forms.Mode = refl
 ranked forms.Profile forms.Reader = refl
@@ -54,6 +69,7 @@ ranked forms.Profile forms.Order = refl
 ranked forms.Profile forms.Entry = refl
 ranked forms.Profile forms.Statement = refl
 ranked forms.Profile forms.Say = refl
+ranked forms.Order forms.Language = refl
 ranked forms.Order forms.Ring = refl
 ranked forms.Order forms.Mode = refl
 ranked forms.Order forms.Reader = refl
@@ -63,6 +79,7 @@ ranked forms.Order forms.Order = refl
 ranked forms.Order forms.Entry = refl
 ranked forms.Order forms.Statement = refl
 ranked forms.Order forms.Say = refl
+ranked forms.Entry forms.Language = refl
 ranked forms.Entry forms.Ring = refl
 ranked forms.Entry forms.Mode = refl
 ranked forms.Entry forms.Reader = refl
@@ -72,6 +89,7 @@ ranked forms.Entry forms.Order = refl
 ranked forms.Entry forms.Entry = refl
 ranked forms.Entry forms.Statement = refl
 ranked forms.Entry forms.Say = refl
+ranked forms.Statement forms.Language = refl
 ranked forms.Statement forms.Ring = refl
 ranked forms.Statement forms.Mode = refl
 ranked forms.Statement forms.Reader = refl
@@ -81,6 +99,7 @@ ranked forms.Statement forms.Order = refl
 ranked forms.Statement forms.Entry = refl
 ranked forms.Statement forms.Statement = refl
 ranked forms.Statement forms.Say = refl
+ranked forms.Say forms.Language = refl
 ranked forms.Say forms.Ring = refl
 ranked forms.Say forms.Mode = refl
 ranked forms.Say forms.Reader = refl
@@ -107,6 +126,7 @@ in_order_on first form later one two =
 
 -- strings may come behind a setting
 setting_first : (form : Form) → IsSetting form → in_order form forms.Entry ≡ true
+setting_first forms.Language h = refl
 setting_first forms.Ring h = refl
 setting_first forms.Mode h = refl
 setting_first forms.Reader h = refl
@@ -121,6 +141,7 @@ pub strings_before : (first form : Form) → in_order first form ≡ true → Is
 strings_before first form order h = in_order_on first form forms.Entry order (setting_first form h)
 
 pub strings_behind : (form : Form) → IsSetting form → StringsMayCome (next form)
+strings_behind forms.Language h = refl
 strings_behind forms.Ring h = refl
 strings_behind forms.Mode h = refl
 strings_behind forms.Reader h = refl

@@ -44,6 +44,7 @@ other_count form n m p q = ap count (sym p ∙ q)
 
 pub head_again : (form : Form) (words : List Text) (rest : Text) → shape_of form ≡ setting (length words) → AreFields rest words → by_form form rest ≡ Some (head form words)
 head_again form [] rest is are = absurd are
+head_again forms.Language (word ∷ []) rest is are = one_word_again forms.Language rest word are
 head_again forms.Ring (word ∷ []) rest is are = one_word_again forms.Ring rest word are
 head_again forms.Mode (word ∷ []) rest is are = one_word_again forms.Mode rest word are
 head_again forms.Reader (word ∷ []) rest is are = one_word_again forms.Reader rest word are
@@ -53,6 +54,7 @@ head_again forms.Order (word ∷ []) rest is are = absurd (omega (arith, other_c
 head_again forms.Entry (word ∷ []) rest is are = absurd (cc is)
 head_again forms.Statement (word ∷ []) rest is are = absurd (cc is)
 head_again forms.Say (word ∷ []) rest is are = absurd (cc is)
+head_again forms.Language (word ∷ next ∷ more) rest is are = absurd (omega (arith, other_count forms.Language 1 (length (word ∷ next ∷ more)) refl is))
 head_again forms.Ring (word ∷ next ∷ more) rest is are = absurd (omega (arith, other_count forms.Ring 1 (length (word ∷ next ∷ more)) refl is))
 head_again forms.Mode (word ∷ next ∷ more) rest is are = absurd (omega (arith, other_count forms.Mode 1 (length (word ∷ next ∷ more)) refl is))
 head_again forms.Reader (word ∷ next ∷ more) rest is are = absurd (omega (arith, other_count forms.Reader 1 (length (word ∷ next ∷ more)) refl is))
@@ -77,6 +79,7 @@ act_again form rest writer field more s =
     ∙ rw (cut_again 32 s.digits s.behind s.first.bare, rest_again s.behind field more s.follows, writer_again s.digits writer s.writer_is) refl
 
 pub action_again : (form : Form) (rest : Text) (writer : Option ℕ) (field more : Text) → shape_of form ≡ action → IsAction rest writer field more → by_form form rest ≡ Some (act form writer field more)
+action_again forms.Language rest writer field more is s = absurd (cc is)
 action_again forms.Ring rest writer field more is s = absurd (cc is)
 action_again forms.Mode rest writer field more is s = absurd (cc is)
 action_again forms.Reader rest writer field more is s = absurd (cc is)

@@ -107,6 +107,7 @@ act_found form rest line is e =
     subst (λ (l : Line). SpellsRest form rest l) b.2 (refl, is, spelled)
 
 rest_said : (form : Form) (rest : Text) (line : Line) → by_form form rest ≡ Some line → SpellsRest form rest line
+rest_said forms.Language rest line e = one_word_found forms.Language rest line refl e
 rest_said forms.Ring rest line e = one_word_found forms.Ring rest line refl e
 rest_said forms.Mode rest line e = one_word_found forms.Mode rest line refl e
 rest_said forms.Reader rest line e = one_word_found forms.Reader rest line refl e

@@ -3,12 +3,13 @@ use Rattle.std.proofs.Common.{◌≡◌, ◌<◌, ◌≤◌, ◌++◌, ◌&&◌,
 use Rattle.std.specs.Prelude.{nat_lt}
 use Rattle.std.proofs.lemmas.Bool.Decides.{nat_tests}
 use Rattle.std.proofs.lemmas.Option.{same_Some}
+use Rattle.defmt_grammar.specs.declared.language.Language.{Language}
 use Rattle.defmt_hooks.specs.Levels.{level_named}
 use Rattle.defmt_hooks.specs.declared.level.Level.{Level}
 use Rattle.defmt_intern.specs.declared.table.Profile.{Profile}
 use Rattle.defmt_lines.proofs.NumberLaws.{number_again, number_found, one_number}
 use Rattle.defmt_lines.specs.Number.{IsNumber, number_within}
-use Rattle.defmt_lines.specs.Settings.{IsOrder, Sets, SetsMode, SetsOrder, SetsProfile, SetsReader, SetsRing, SetsStamp, frames_limit, is_block, late_of, mode_of, mode_or, order_or, orders_limit, profile_of, profile_or, reader_or, ring_or, stamp_limit, stamp_or, with_mode, with_order, with_profile, with_reader, with_ring, with_stamp, with_words}
+use Rattle.defmt_lines.specs.Settings.{IsOrder, Sets, SetsLanguage, SetsMode, SetsOrder, SetsProfile, SetsReader, SetsRing, SetsStamp, frames_limit, is_block, language_of, language_or, late_of, mode_of, mode_or, order_or, orders_limit, profile_of, profile_or, reader_or, ring_or, stamp_limit, stamp_or, with_language, with_mode, with_order, with_profile, with_reader, with_ring, with_stamp, with_words}
 use Rattle.defmt_lines.specs.declared.cause.Cause.{Cause}
 use Rattle.defmt_lines.specs.declared.cause.Cause.TheVariants as causes
 use Rattle.defmt_lines.specs.declared.form.Form.{Form}
@@ -21,6 +22,14 @@ use Rattle.defmt_lines.specs.declared.settings.Settings.{Settings}
 -- where no number is read there is none
 no_number : (low high : ℕ) (text : List ℕ) → number_within low high text ≡ None → (n : ℕ) → IsNumber low high text n → ⊥
 no_number low high text none n is = let clash : None ≡ Some n = sym none ∙ number_again low high n text is in absurd (cc clash)
+
+language_by : (s : Settings) (word : List ℕ) (o : Option Language) → language_of word ≡ o → SetsLanguage word s (language_or s o)
+language_by s word (Some l) e = (l, e, refl)
+language_by s word None e = (e, refl)
+
+language_found : (s : Settings) (word : List ℕ) → SetsLanguage word s (with_language s word)
+unfolding with_language
+language_found s word = language_by s word (language_of word) refl
 
 ring_by : (s : Settings) (word : List ℕ) (o : Option ℕ) → number_within 16 65536 word ≡ o → SetsRing word s (ring_or s o)
 ring_by s word (Some n) e = (n, number_found 16 65536 n word e, refl)
@@ -90,6 +99,7 @@ unfolding with_order
 order_found s number word = order_by s number word (number_within 0 frames_limit number) (level_named word) refl refl
 
 pub set_found : (form : Form) (words : List (List ℕ)) (s : Settings) → Sets form words s (with_words form words s)
+set_found forms.Language (word ∷ []) s = language_found s word
 set_found forms.Ring (word ∷ []) s = ring_found s word
 set_found forms.Mode (word ∷ []) s = mode_found s word
 set_found forms.Reader (word ∷ []) s = reader_found s word
@@ -102,6 +112,14 @@ set_found form words s = refl
 
 abbrev Answer : Type 0
 Answer = Result Settings Cause
+
+one_language : (s : Settings) (word : List ℕ) (a b : Answer) → SetsLanguage word s a → SetsLanguage word s b → a ≡ b
+one_language s word (Ok t) (Ok u) p q =
+    let same : p.0 ≡ q.0 = same_Some p.0 q.0 (sym p.1 ∙ q.1) in
+    ap (λ (x : Settings). let r : Answer = Ok x in r) (p.2 ∙ ap (λ (l : Language). let x : Settings = record s { language = l } in x) same ∙ sym q.2)
+one_language s word (Ok t) (Err cause) p q = let clash : Some p.0 ≡ None = sym p.1 ∙ q.0 in absurd (cc clash)
+one_language s word (Err cause) (Ok u) p q = let clash : Some q.0 ≡ None = sym q.1 ∙ p.0 in absurd (cc clash)
+one_language s word (Err cause) (Err other) p q = ap (λ (c : Cause). let r : Answer = Err c in r) (p.1 ∙ sym q.1)
 
 one_ring : (s : Settings) (word : List ℕ) (a b : Answer) → SetsRing word s a → SetsRing word s b → a ≡ b
 one_ring s word (Ok t) (Ok u) p q =
@@ -181,6 +199,7 @@ one_order s number word (Err cause) (Ok u) p q = absurd (ordered_or_refused s nu
 one_order s number word (Err cause) (Err other) p q = ap (λ (c : Cause). let r : Answer = Err c in r) (one_order_refusal s number word cause other p q)
 
 pub one_setting : (form : Form) (words : List (List ℕ)) (s : Settings) (a b : Answer) → Sets form words s a → Sets form words s b → a ≡ b
+one_setting forms.Language (word ∷ []) s a b p q = one_language s word a b p q
 one_setting forms.Ring (word ∷ []) s a b p q = one_ring s word a b p q
 one_setting forms.Mode (word ∷ []) s a b p q = one_mode s word a b p q
 one_setting forms.Reader (word ∷ []) s a b p q = one_reader s word a b p q

@@ -5,7 +5,8 @@ use Rattle.defmt_grammar.specs.Grammar.{Spells, HasFault, SameFault}
 use Rattle.defmt_grammar.specs.Fault.{cause_number}
 use Rattle.defmt_grammar.specs.declared.fault.Cause.{Cause}
 use Rattle.defmt_grammar.specs.declared.fault.Mode.{Mode}
-use Rattle.defmt_grammar.specs.declared.fault.Mode.TheVariants.{Strict}
+use Rattle.defmt_grammar.specs.Language.{strict_of}
+use Rattle.defmt_grammar.specs.declared.language.Language.{Language}
 use Rattle.defmt_grammar.specs.declared.piece.Piece.{Piece}
 use Rattle.defmt_intern.specs.Body.{HasNoBar, variants}
 use Rattle.defmt_intern.specs.declared.entry.Tag.{Tag}
@@ -19,23 +20,23 @@ pub record OneAnswer : Type 0 where
   pub never_both : (text : List ℕ) (mode : Mode) (ps : List Piece) (cause : Cause) (at : ℕ) → Spells text mode ps → HasFault text mode cause at → ⊥
   pub first : (text : List ℕ) (mode : Mode) (c d : Cause) (a b : ℕ) → HasFault text mode c a → HasFault text mode d b → SameFault c d a b
 
-module _ (law : OneAnswer) where
-  one_of_forms : (texts : List (List ℕ)) (v w : Option ℕ) → JudgesForms texts v → JudgesForms texts w → v ≡ w
+module _ (law : OneAnswer) (language : Language) where
+  one_of_forms : (texts : List (List ℕ)) (v w : Option ℕ) → JudgesForms language texts v → JudgesForms language texts w → v ≡ w
   one_of_forms [] v w p q = p ∙ sym q
   one_of_forms (text ∷ texts) v w (inl p) (inl q) = one_of_forms texts v w p.2 q.2
-  one_of_forms (text ∷ texts) v w (inl p) (inr q) = absurd (law.never_both text Strict p.0 q.2.0 q.1 p.1 q.2.1)
-  one_of_forms (text ∷ texts) v w (inr p) (inl q) = absurd (law.never_both text Strict q.0 p.2.0 p.1 q.1 p.2.1)
+  one_of_forms (text ∷ texts) v w (inl p) (inr q) = absurd (law.never_both text (strict_of language) p.0 q.2.0 q.1 p.1 q.2.1)
+  one_of_forms (text ∷ texts) v w (inr p) (inl q) = absurd (law.never_both text (strict_of language) q.0 p.2.0 p.1 q.1 p.2.1)
   one_of_forms (text ∷ texts) v w (inr p) (inr q) =
-      let same : p.0 ≡ q.0 = p.2.2 ∙ ap cause_number (law.first text Strict p.2.0 q.2.0 p.1 q.1 p.2.1 q.2.1).cause ∙ sym q.2.2 in
+      let same : p.0 ≡ q.0 = p.2.2 ∙ ap cause_number (law.first text (strict_of language) p.2.0 q.2.0 p.1 q.1 p.2.1 q.2.1).cause ∙ sym q.2.2 in
       p.3 ∙ ap (λ (n : ℕ). let o : Option ℕ = Some n in o) same ∙ sym q.3
 
-  one_of_variants : (texts : List (List ℕ)) (v w : Option ℕ) → JudgesVariants texts v → JudgesVariants texts w → v ≡ w
+  one_of_variants : (texts : List (List ℕ)) (v w : Option ℕ) → JudgesVariants language texts v → JudgesVariants language texts w → v ≡ w
   one_of_variants texts v w (inl p) (inl q) = p.1 ∙ sym q.1
   one_of_variants texts v w (inl p) (inr q) = absurd (omega (arith, p.0, q.0))
   one_of_variants texts v w (inr p) (inl q) = absurd (omega (arith, p.0, q.0))
   one_of_variants texts v w (inr p) (inr q) = one_of_forms texts v w p.1 q.1
 
-  one_of_body : (tag : Tag) (text : List ℕ) (v w : Option ℕ) → JudgesBody tag text v → JudgesBody tag text w → v ≡ w
+  one_of_body : (tag : Tag) (text : List ℕ) (v w : Option ℕ) → JudgesBody language tag text v → JudgesBody language tag text w → v ≡ w
   one_of_body tags.Interned text v w p q = p ∙ sym q
   one_of_body tags.Prim text v w p q = one_of_variants (variants text) v w p q
   one_of_body tags.Derived text v w p q = one_of_variants (variants text) v w p q
@@ -50,56 +51,56 @@ module _ (law : OneAnswer) where
   one_of_body (tags.Other name) text v w p q = one_of_forms (text ∷ []) v w p q
 
   by_cases : (tag : Tag) (text : List ℕ) (v w : Option ℕ)
-      → ((4096 < length text) × (v ≡ Some 0)) ⊎ ((length text ≤ 4096) × JudgesBody tag text v)
-      → ((4096 < length text) × (w ≡ Some 0)) ⊎ ((length text ≤ 4096) × JudgesBody tag text w) → v ≡ w
+      → ((4096 < length text) × (v ≡ Some 0)) ⊎ ((length text ≤ 4096) × JudgesBody language tag text v)
+      → ((4096 < length text) × (w ≡ Some 0)) ⊎ ((length text ≤ 4096) × JudgesBody language tag text w) → v ≡ w
   by_cases tag text v w (inl p) (inl q) = p.1 ∙ sym q.1
   by_cases tag text v w (inl p) (inr q) = absurd (omega (arith, p.0, q.0))
   by_cases tag text v w (inr p) (inl q) = absurd (omega (arith, p.0, q.0))
   by_cases tag text v w (inr p) (inr q) = one_of_body tag text v w p.1 q.1
 
-  pub one_verdict : (tag : Tag) (text : List ℕ) (v w : Option ℕ) → Judges tag text v → Judges tag text w → v ≡ w
+  pub one_verdict : (tag : Tag) (text : List ℕ) (v w : Option ℕ) → Judges language tag text v → Judges language tag text w → v ≡ w
   unfolding Judges
   one_verdict tag text v w p q = by_cases tag text v w p q
 
 -- ---- what a reading says of its verdict
 
 -- the verdict of a reading, where it is known how that ends
-pub at_read : {A : Type 0} (texts : List (List ℕ)) {read ending : Result A ℕ} → read ≡ ending → JudgesForms texts (result_err read) → JudgesForms texts (result_err ending)
-at_read {A = A} texts is j = subst (λ (r : Result A ℕ). JudgesForms texts (result_err r)) is j
+pub at_read : {A : Type 0} (language : Language) (texts : List (List ℕ)) {read ending : Result A ℕ} → read ≡ ending → JudgesForms language texts (result_err read) → JudgesForms language texts (result_err ending)
+at_read {A = A} language texts is j = subst (λ (r : Result A ℕ). JudgesForms language texts (result_err r)) is j
 
 -- one text, which isn't cut
-pub uncut : (text : List ℕ) (v : Option ℕ) → length (variants text) ≡ 1 → JudgesForms (text ∷ []) v → JudgesVariants (variants text) v
-uncut text v one j = inr (omega (arith, one), subst (λ (ts : List (List ℕ)). JudgesForms ts v) (sym (variants_alone text one)) j)
+pub uncut : (language : Language) (text : List ℕ) (v : Option ℕ) → length (variants text) ≡ 1 → JudgesForms language (text ∷ []) v → JudgesVariants language (variants text) v
+uncut language text v one j = inr (omega (arith, one), subst (λ (ts : List (List ℕ)). JudgesForms language ts v) (sym (variants_alone text one)) j)
 
 -- ---- variants one after another
 
 -- what the verdict on the rest is, is the verdict on the whole
-pub record IsBehind (rest text : List ℕ) : Type 0 where
-  pub then : (v : Option ℕ) → JudgesForms (variants rest) v → JudgesForms (variants text) v
+pub record IsBehind (language : Language) (rest text : List ℕ) : Type 0 where
+  pub then : (v : Option ℕ) → JudgesForms language (variants rest) v → JudgesForms language (variants text) v
 
-pub begins : (text : List ℕ) → IsBehind text text
-begins text = record { then = λ v j. j }
+pub begins : (language : Language) (text : List ℕ) → IsBehind language text text
+begins language text = record { then = λ v j. j }
 
-taken_first : (variant : List ℕ) (more : List (List ℕ)) (v : Option ℕ) → JudgesForms (variant ∷ []) None → JudgesForms more v → JudgesForms (variant ∷ more) v
-taken_first variant more v (inl p) j = inl (p.0, p.1, j)
-taken_first variant more v (inr p) j = absurd (cc p.3)
+taken_first : (language : Language) (variant : List ℕ) (more : List (List ℕ)) (v : Option ℕ) → JudgesForms language (variant ∷ []) None → JudgesForms language more v → JudgesForms language (variant ∷ more) v
+taken_first language variant more v (inl p) j = inl (p.0, p.1, j)
+taken_first language variant more v (inr p) j = absurd (cc p.3)
 
-refused_first : (variant : List ℕ) (more : List (List ℕ)) (number : ℕ) → JudgesForms (variant ∷ []) (Some number) → JudgesForms (variant ∷ more) (Some number)
-refused_first variant more number (inl p) = absurd (cc p.2)
-refused_first variant more number (inr p) = inr p
+refused_first : (language : Language) (variant : List ℕ) (more : List (List ℕ)) (number : ℕ) → JudgesForms language (variant ∷ []) (Some number) → JudgesForms language (variant ∷ more) (Some number)
+refused_first language variant more number (inl p) = absurd (cc p.2)
+refused_first language variant more number (inr p) = inr p
 
-pub goes_on : (rest text variant after : List ℕ) → IsBehind rest text → rest ≡ variant ++ 124 ∷ after → HasNoBar variant → JudgesForms (variant ∷ []) None → IsBehind after text
-goes_on rest text variant after behind e bare taken = record {
+pub goes_on : (language : Language) (rest text variant after : List ℕ) → IsBehind language rest text → rest ≡ variant ++ 124 ∷ after → HasNoBar variant → JudgesForms language (variant ∷ []) None → IsBehind language after text
+goes_on language rest text variant after behind e bare taken = record {
   then = λ v j.
       let cut : variants rest ≡ variant ∷ variants after = ap variants e ∙ variants_more variant after bare in
-      behind.then v (subst (λ (ts : List (List ℕ)). JudgesForms ts v) (sym cut) (taken_first variant (variants after) v taken j));
+      behind.then v (subst (λ (ts : List (List ℕ)). JudgesForms language ts v) (sym cut) (taken_first language variant (variants after) v taken j));
 }
 
-pub stops : (rest text variant after : List ℕ) (number : ℕ) → IsBehind rest text → rest ≡ variant ++ 124 ∷ after → HasNoBar variant → JudgesForms (variant ∷ []) (Some number)
-    → JudgesForms (variants text) (Some number)
-stops rest text variant after number behind e bare refused =
+pub stops : (language : Language) (rest text variant after : List ℕ) (number : ℕ) → IsBehind language rest text → rest ≡ variant ++ 124 ∷ after → HasNoBar variant → JudgesForms language (variant ∷ []) (Some number)
+    → JudgesForms language (variants text) (Some number)
+stops language rest text variant after number behind e bare refused =
     let cut : variants rest ≡ variant ∷ variants after = ap variants e ∙ variants_more variant after bare in
-    behind.then (Some number) (subst (λ (ts : List (List ℕ)). JudgesForms ts (Some number)) (sym cut) (refused_first variant (variants after) number refused))
+    behind.then (Some number) (subst (λ (ts : List (List ℕ)). JudgesForms language ts (Some number)) (sym cut) (refused_first language variant (variants after) number refused))
 
-pub ends : (rest text : List ℕ) (v : Option ℕ) → IsBehind rest text → HasNoBar rest → JudgesForms (rest ∷ []) v → JudgesForms (variants text) v
-ends rest text v behind bare j = behind.then v (subst (λ (ts : List (List ℕ)). JudgesForms ts v) (sym (variants_one rest bare)) j)
+pub ends : (language : Language) (rest text : List ℕ) (v : Option ℕ) → IsBehind language rest text → HasNoBar rest → JudgesForms language (rest ∷ []) v → JudgesForms language (variants text) v
+ends language rest text v behind bare j = behind.then v (subst (λ (ts : List (List ℕ)). JudgesForms language ts v) (sym (variants_one rest bare)) j)

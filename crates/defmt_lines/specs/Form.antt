@@ -7,10 +7,10 @@ use Rattle.defmt_lines.specs.declared.form.Form.TheVariants as forms
 -- the form that a line's first word gives it
 abbrev pub form_of : List ℕ → Option Form
 form_of word = at_word word (
-    (codes "ring", forms.Ring) ∷ (codes "mode", forms.Mode) ∷ (codes "reader", forms.Reader)
-    ∷ (codes "stamp", forms.Stamp) ∷ (codes "profile", forms.Profile)
-    ∷ (codes "d", forms.Order) ∷ (codes "s", forms.Entry) ∷ (codes "w", forms.Statement)
-    ∷ (codes "t", forms.Say) ∷ [])
+    (codes "language", forms.Language) ∷ (codes "ring", forms.Ring) ∷ (codes "mode", forms.Mode)
+    ∷ (codes "reader", forms.Reader) ∷ (codes "stamp", forms.Stamp)
+    ∷ (codes "profile", forms.Profile) ∷ (codes "d", forms.Order) ∷ (codes "s", forms.Entry)
+    ∷ (codes "w", forms.Statement) ∷ (codes "t", forms.Say) ∷ [])
 
 -- What stands behind the first word: so many words that set something; the name, the tag and the text of a string; or a writer, a field
 -- and the rest of the line.
@@ -20,6 +20,7 @@ pub data Shape : Type 0 where
   action : Shape
 
 abbrev pub shape_of : Form → Shape
+shape_of forms.Language = setting 1
 shape_of forms.Ring = setting 1
 shape_of forms.Mode = setting 1
 shape_of forms.Reader = setting 1
@@ -38,10 +39,11 @@ IsSetting form = (count : ℕ) × (shape_of form ≡ setting count)
 -- the lines of a script stand in this order, but that statements and texts may come in any
 abbrev pub order : List Form
 order =
-    forms.Ring ∷ forms.Mode ∷ forms.Reader ∷ forms.Stamp ∷ forms.Profile
+    forms.Language ∷ forms.Ring ∷ forms.Mode ∷ forms.Reader ∷ forms.Stamp ∷ forms.Profile
     ∷ forms.Order ∷ forms.Entry ∷ forms.Statement ∷ forms.Say ∷ []
 
 abbrev pub is_form : Form → Form → Bool
+is_form forms.Language forms.Language = true
 is_form forms.Ring forms.Ring = true
 is_form forms.Mode forms.Mode = true
 is_form forms.Reader forms.Reader = true
@@ -69,6 +71,7 @@ in_order first form = has_form form (from first order)
 -- the first form that may come behind a line of this form: orders, strings, statements and texts may come again, and each other setting
 -- stands at most once
 abbrev pub next : Form → Form
+next forms.Language = forms.Ring
 next forms.Ring = forms.Mode
 next forms.Mode = forms.Reader
 next forms.Reader = forms.Stamp
@@ -94,12 +97,13 @@ StringsAreOver first = in_order first forms.Entry ≡ false
 
 -- the place of a form in the order
 abbrev pub rank : Form → ℕ
-rank forms.Ring = 0
-rank forms.Mode = 1
-rank forms.Reader = 2
-rank forms.Stamp = 3
-rank forms.Profile = 4
-rank forms.Order = 5
-rank forms.Entry = 6
-rank forms.Statement = 7
-rank forms.Say = 8
+rank forms.Language = 0
+rank forms.Ring = 1
+rank forms.Mode = 2
+rank forms.Reader = 3
+rank forms.Stamp = 4
+rank forms.Profile = 5
+rank forms.Order = 6
+rank forms.Entry = 7
+rank forms.Statement = 8
+rank forms.Say = 9

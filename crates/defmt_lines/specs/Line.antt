@@ -128,6 +128,7 @@ act_of form text =
 
 -- what the rest of a line says behind its first word
 abbrev pub by_form : Form → List ℕ → Option Line
+by_form forms.Language rest = one_word forms.Language rest
 by_form forms.Ring rest = one_word forms.Ring rest
 by_form forms.Mode rest = one_word forms.Mode rest
 by_form forms.Reader rest = one_word forms.Reader rest

@@ -3,6 +3,8 @@ use Rattle.std.specs.Prelude.{◌≡◌, ◌≤◌, ◌<◌, ◌⊎◌, ◌&&◌
 use Rattle.std.specs.List.{AllByRecursion}
 use Rattle.std.specs.Option.{ForSome}
 use Rattle.defmt_grammar.specs.Kind.{at_word}
+use Rattle.defmt_grammar.specs.declared.language.Language.{Language}
+use Rattle.defmt_grammar.specs.declared.language.Language.TheVariants.{Base, Full}
 use Rattle.defmt_hooks.specs.Levels.{level_named}
 use Rattle.defmt_hooks.specs.declared.level.Level.{Level}
 use Rattle.defmt_intern.specs.declared.table.Profile.{Profile}
@@ -27,6 +29,10 @@ frames_limit = 4096
 abbrev pub orders_limit : ℕ
 orders_limit = 64
 
+-- a script that doesn't name its language has the other one
+abbrev pub language_of : List ℕ → Option Language
+language_of word = at_word word ((codes "full", Full) ∷ [])
+
 abbrev pub mode_of : List ℕ → Option RingMode
 mode_of word =
     at_word word ((codes "block", Block) ∷ (codes "skip", Skip) ∷ (codes "trim", Trim) ∷ [])
@@ -46,6 +52,7 @@ profile_of word = at_word word ((codes "1", profiles.One) ∷ (codes "2", profil
 -- what a script has without these lines
 abbrev pub no_settings : Settings
 no_settings = record {
+  language = Base;
   ring = 1024;
   mode = Block;
   late = false;
@@ -55,6 +62,12 @@ no_settings = record {
 }
 
 -- ---- what the words of a line make of the settings, or the cause why they set nothing
+
+-- `language WORD`
+abbrev pub SetsLanguage : List ℕ → Settings → Result Settings Cause → Type 0
+SetsLanguage word s (Ok t) =
+    (l : Language) × (language_of word ≡ Some l) × (t ≡ record s { language = l })
+SetsLanguage word s (Err cause) = (language_of word ≡ None) × (cause ≡ causes.Line)
 
 -- `ring N`
 abbrev pub SetsRing : List ℕ → Settings → Result Settings Cause → Type 0
@@ -111,6 +124,7 @@ SetsOrder number word s (Err cause) =
 
 -- A line of a form of settings, with its words. Other forms, and other numbers of words, set nothing.
 abbrev pub Sets : Form → List (List ℕ) → Settings → Result Settings Cause → Type 0
+Sets forms.Language (word ∷ []) s set = SetsLanguage word s set
 Sets forms.Ring (word ∷ []) s set = SetsRing word s set
 Sets forms.Mode (word ∷ []) s set = SetsMode word s set
 Sets forms.Reader (word ∷ []) s set = SetsReader word s set
@@ -130,6 +144,13 @@ pub record AreLawful (s : Settings) : Type 0 where
   pub orders_within : AllByRecursion (λ order. order.0 ≤ frames_limit) s.orders
 
 -- ---- reading, as the code does it, on lists
+
+abbrev pub language_or : Settings → Option Language → Result Settings Cause
+language_or s (Some l) = Ok (record s { language = l })
+language_or s None = Err causes.Line
+
+unfoldable pub with_language : Settings → List ℕ → Result Settings Cause
+with_language s word = language_or s (language_of word)
 
 abbrev pub ring_or : Settings → Option ℕ → Result Settings Cause
 ring_or s (Some n) = Ok (record s { ring = n })
@@ -178,6 +199,7 @@ unfoldable pub with_order : Settings → List ℕ → List ℕ → Result Settin
 with_order s number word = order_or s (number_within 0 frames_limit number) (level_named word)
 
 abbrev pub with_words : Form → List (List ℕ) → Settings → Result Settings Cause
+with_words forms.Language (word ∷ []) s = with_language s word
 with_words forms.Ring (word ∷ []) s = with_ring s word
 with_words forms.Mode (word ∷ []) s = with_mode s word
 with_words forms.Reader (word ∷ []) s = with_reader s word

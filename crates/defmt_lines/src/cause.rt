@@ -6,7 +6,8 @@ ghost use Rattle.defmt_lines.specs.Cause.{cause_number, inner_number};
 /// Why a line of a script is refused.
 #[derive(Clone, Copy, Debug)]
 pub enum Cause {
-    /// 1: the line isn't UTF-8, has none of the forms, an unknown tag, or stands out of order or twice.
+    /// 1: the line isn't UTF-8, has none of the forms, an unknown tag or an unknown language, or stands out of order or
+    /// twice.
     Line,
     /// 2: the name of a string is spelled wrongly; the name of a statement isn't known, or it is no message's.
     Name,

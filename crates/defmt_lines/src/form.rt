@@ -7,6 +7,8 @@ ghost use Rattle.defmt_lines.specs.Form.{form_of, in_order, next, rank};
 /// any.
 #[derive(Clone, Copy)]
 pub enum Form {
+    /// `language`
+    Language,
     /// `ring`
     Ring,
     /// `mode`
@@ -32,23 +34,25 @@ impl Form {
         ensures { result ≡ rank self }
     {
         match self {
-            Form::Ring => 0,
-            Form::Mode => 1,
-            Form::Reader => 2,
-            Form::Stamp => 3,
-            Form::Profile => 4,
-            Form::Order => 5,
-            Form::Entry => 6,
-            Form::Statement => 7,
-            Form::Say => 8,
+            Form::Language => 0,
+            Form::Ring => 1,
+            Form::Mode => 2,
+            Form::Reader => 3,
+            Form::Stamp => 4,
+            Form::Profile => 5,
+            Form::Order => 6,
+            Form::Entry => 7,
+            Form::Statement => 8,
+            Form::Say => 9,
         }
     }
 
-    /// The first form that may stand behind a line of this one: each of the first five stands at most once.
+    /// The first form that may stand behind a line of this one: each of the first six stands at most once.
     pub fn next(self) -> Form
         ensures { result ≡ next self }
     {
         match self {
+            Form::Language => Form::Ring,
             Form::Ring => Form::Mode,
             Form::Mode => Form::Reader,
             Form::Reader => Form::Stamp,
@@ -81,6 +85,7 @@ pub fn form_of(word: &str) -> Option<Form>
         "reader" => Some(Form::Reader),
         "stamp" => Some(Form::Stamp),
         "profile" => Some(Form::Profile),
+        "language" => Some(Form::Language),
         _ => None,
     }
 }

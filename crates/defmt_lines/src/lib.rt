@@ -11,6 +11,7 @@ mod form;
 mod line;
 mod number;
 mod orders;
+mod setting_words;
 mod settings;
 mod verdict;
 

@@ -122,6 +122,7 @@ fn by_form(form: Form, rest: &str) -> Option<Line<'_>>
     ensures { option_map line_view result ≡ by_form form rest.now }
 {
     match form {
+        Form::Language => one_word(Form::Language, rest),
         Form::Ring => one_word(Form::Ring, rest),
         Form::Mode => one_word(Form::Mode, rest),
         Form::Reader => one_word(Form::Reader, rest),

@@ -2,7 +2,7 @@
 
 ghost use Rattle.std.specs.Prelude.{◌≡◌, ◌∷◌, [], ℕ, List, Result, IfOk, Some, false};
 ghost use Rattle.defmt_lines.specs.LineView.{words_view};
-ghost use Rattle.defmt_lines.specs.Settings.{Sets, is_block, late_of, mode_of, no_settings, order_or, profile_of, with_mode, with_order, with_profile, with_reader, with_ring, with_stamp, with_words};
+ghost use Rattle.defmt_lines.specs.Settings.{Sets, is_block, no_settings, order_or, with_language, with_mode, with_order, with_profile, with_reader, with_ring, with_stamp, with_words};
 ghost use Rattle.defmt_lines.specs.declared.cause.Cause.{Cause as AnyCause};
 ghost use Rattle.defmt_lines.specs.declared.form.Form.{Form as AnyForm};
 ghost use Rattle.defmt_lines.specs.declared.settings.Settings.{Settings as AnySettings};
@@ -12,6 +12,8 @@ use crate::content::Words;
 use crate::form::Form;
 use crate::number::number_within;
 use crate::orders::Orders;
+use crate::setting_words::{language_of, late_of, mode_of, profile_of};
+use defmt_grammar::Language;
 use defmt_hooks::{Level, level_named};
 use defmt_intern::Profile;
 
@@ -43,6 +45,8 @@ pub enum RingMode {
 /// What the first lines of a script set.
 #[derive(Drop)]
 pub struct Settings {
+    /// The language of the strings.
+    pub language: Language,
     /// The ring's size in bytes, from 16 to 65,536.
     pub ring: u32,
     /// What a writer does where its frame doesn't fit.
@@ -58,12 +62,13 @@ pub struct Settings {
 }
 
 impl Settings {
-    /// What a script has without such lines: a ring of 1,024 bytes, blocking mode, a live reader, no stamps, profile One and
-    /// no orders.
+    /// What a script has without such lines: the language Base, a ring of 1,024 bytes, blocking mode, a live reader, no
+    /// stamps, profile One and no orders.
     pub fn new() -> Settings
         ensures { result ≡ no_settings }
     {
         Settings {
+            language: Language::Base,
             ring: 1024,
             mode: RingMode::Block,
             late: false,
@@ -73,9 +78,9 @@ impl Settings {
         }
     }
 
-    /// With what the words of a line of this form say: `ring` and a size, `mode` and a mode, `reader` and whether it is late,
-    /// which it can't be in blocking mode, `stamp` and two numbers, `profile` and a profile, or `d`, a number of frames and a
-    /// level, which is one order more.
+    /// With what the words of a line of this form say: `language full`, `ring` and a size, `mode` and a mode, `reader` and
+    /// whether it is late, which it can't be in blocking mode, `stamp` and two numbers, `profile` and a profile, or `d`, a
+    /// number of frames and a level, which is one order more.
     ///
     /// # Errors
     /// The cause why the words set nothing, `Cause::Line` for another form and another number of words.
@@ -98,6 +103,7 @@ impl Settings {
         ensures { result ≡ with_words form (word.now ∷ []) self.now }
     {
         match form {
+            Form::Language => self.with_language(word),
             Form::Ring => self.with_ring(word),
             Form::Mode => self.with_mode(word),
             Form::Reader => self.with_reader(word),
@@ -114,7 +120,8 @@ impl Settings {
         match form {
             Form::Stamp => self.with_stamp(first, second),
             Form::Order => self.with_order(first, second),
-            Form::Ring
+            Form::Language
+            | Form::Ring
             | Form::Mode
             | Form::Reader
             | Form::Profile
@@ -124,12 +131,26 @@ impl Settings {
         }
     }
 
+    #[tactic(auto, unfolding(crate::specs::Settings::with_language))]
+    fn with_language(&self, word: &str) -> Result<Settings, Cause>
+        ensures { result ≡ with_language self.now word.now }
+    {
+        match language_of(word) {
+            Some(language) => Ok(Settings {
+                language,
+                ..self.copy()
+            }),
+            None => Err(Cause::Line),
+        }
+    }
+
     #[tactic(auto, unfolding(crate::specs::Settings::with_ring))]
     fn with_ring(&self, word: &str) -> Result<Settings, Cause>
         ensures { result ≡ with_ring self.now word.now }
     {
         match number_within(LEAST_RING, GREATEST_RING, word) {
             Some(ring) => Ok(Settings {
+                language: self.language,
                 ring: ring as u32,
                 mode: self.mode,
                 late: self.late,
@@ -226,6 +247,7 @@ impl Settings {
         ensures { result ≡ self.now }
     {
         Settings {
+            language: self.language,
             ring: self.ring,
             mode: self.mode,
             late: self.late,
@@ -251,36 +273,5 @@ impl RingMode {
             RingMode::Block => true,
             RingMode::Skip | RingMode::Trim => false,
         }
-    }
-}
-
-fn mode_of(word: &str) -> Option<RingMode>
-    ensures { result ≡ mode_of word.now }
-{
-    match word {
-        "block" => Some(RingMode::Block),
-        "skip" => Some(RingMode::Skip),
-        "trim" => Some(RingMode::Trim),
-        _ => None,
-    }
-}
-
-fn late_of(word: &str) -> Option<bool>
-    ensures { result ≡ late_of word.now }
-{
-    match word {
-        "live" => Some(false),
-        "late" => Some(true),
-        _ => None,
-    }
-}
-
-fn profile_of(word: &str) -> Option<Profile>
-    ensures { result ≡ profile_of word.now }
-{
-    match word {
-        "1" => Some(Profile::One),
-        "2" => Some(Profile::Two),
-        _ => None,
     }
 }

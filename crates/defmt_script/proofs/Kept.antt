@@ -43,7 +43,7 @@ module _ (P : State → ℕ → Type 0) (keeps : Keeps P) where
       keeps.more after b n (is_set before after form words set b taken.0 given taken.1 h)
 
   judged_kept : (before after : State) (name : List ℕ) (tag : Tag) (text : List ℕ) (v : Option ℕ) (b n : ℕ) → StringsMayCome before.first → map.get before.script.names name ≡ None → length text ≤ n → is_string_tag tag ≡ true
-      → Judges tag text v → Ok after ≡ takes_string before name tag text v → P before b → P after (b + n)
+      → Judges before.script.table.language tag text v → Ok after ≡ takes_string before name tag text v → P before b → P after (b + n)
   judged_kept before after name tag text (Some inner) b n may new within string judges is h = absurd (cc is)
   judged_kept before after name tag text None b n may new within string judges is h =
       let taken = if_so (nat_lt (count_strings before.script) strings_limit) causes.Many (Ok (with_string before name tag text)) after is in
@@ -54,7 +54,7 @@ module _ (P : State → ℕ → Type 0) (keeps : Keeps P) where
         new = new;
         room = below (count_strings before.script) strings_limit taken.0;
         within = within;
-        short = judged_short tag text None refl judges;
+        short = judged_short before.script.table.language tag text None refl judges;
         string = string;
       }) h)
 

@@ -1,9 +1,10 @@
 -- The script that a text reads as is lawful.
 use Rattle.std.proofs.Common.{◌≡◌, ◌≤◌, ℕ, Bool, true, false, cond, List, Option, Some, None, Ok, refl, sym, ◌∙◌, ap, subst, arith, length, lit≤}
 use Rattle.std.specs.Prelude.{IsSome, is_some}
-use Rattle.std.specs.FinMap as map
-use Rattle.std.specs.FinMap.{get-empty}
-use Rattle.std.specs.Ordering.{nat_cmp}
+use Rattle.defmt_grammar.specs.declared.language.Language.{Language}
+use Rattle.defmt_grammar.specs.declared.language.Language.TheVariants.{Base}
+use Rattle.defmt_intern.specs.Entries as map
+use Rattle.defmt_intern.proofs.EntriesLaws.{get-empty_of}
 use Rattle.defmt_intern.proofs.TableLaws.{kept_other, kept_stamp, no_refusal}
 use Rattle.defmt_intern.specs.Table.{EntryRefused, IsKept, IsLawful as IsLawfulTable}
 use Rattle.defmt_intern.specs.declared.entry.Entry.{Entry}
@@ -15,7 +16,7 @@ use Rattle.defmt_lines.specs.declared.form.Form.TheVariants as forms
 use Rattle.defmt_lines.specs.declared.settings.Settings.{Settings}
 use Rattle.defmt_script.proofs.Settled.{stays}
 use Rattle.defmt_script.proofs.StatementSteadiness.{sound_of, statement_steady}
-use Rattle.defmt_script.proofs.Steadiness.{no_stamp_there, said_steady, sets_steady, steady_at_first}
+use Rattle.defmt_script.proofs.Steadiness.{behind_line, no_stamp_there, said_steady, sets_steady, steady_at_first}
 use Rattle.defmt_script.proofs.StringSteadiness.{lawful_closed, not_stamp, stamped_steady, string_steady, unstamped_steady}
 use Rattle.defmt_script.proofs.Kept.{reads_kept}
 use Rattle.defmt_script.proofs.Steps.{IsAdded, IsSaid, IsTaken, Keeps, set_to}
@@ -33,11 +34,22 @@ record IsLaid (s : State) : Type 0 where
   table : IsLawfulTable s.script.table
   told : IsTold s.script
 
+-- an empty table is lawful
+nothing : (language : Language) (index : ℕ) (entry : Entry) → map.get (map.empty_of language) index ≡ Some entry → ⊥
+nothing language index entry there = let none : None ≡ Some entry = sym (get-empty_of language index) ∙ there in absurd (cc none)
+
+empty_lawful : (language : Language) → IsLawfulTable (map.empty_of language)
+empty_lawful language = record {
+  small = λ index entry there. absurd (nothing language index entry there);
+  short = λ index entry there. absurd (nothing language index entry there);
+  one_stamp = λ i j a b. absurd (no_stamp_there language i a);
+}
+
 set_laid : (s : State) (form : Form) (words : List (List ℕ)) (t : Settings) → in_order s.first form ≡ true → Sets form words s.script.settings (Ok t) → IsLaid s → IsLaid (set_to s form t)
 set_laid s form words t order given h = record {
   steady = sets_steady s.first (next form) form s.script.settings t s.script.table s.script.names s.script.writers s.script.said h.steady order
       (stays s.first form words s.script.settings t h.steady.settings h.steady.not_late given order) refl;
-  table = h.table;
+  table = behind_line IsLawfulTable form t.language s.script.table h.table (empty_lawful t.language);
   told = h.told;
 }
 
@@ -111,17 +123,10 @@ keeps_laid = record {
   text = λ s writer terminal text b said h. text_laid s writer terminal text said h;
 }
 
-nothing : (index : ℕ) (entry : Entry) → map.get {X = Entry} {R = nat_cmp} map.empty index ≡ Some entry → ⊥
-nothing index entry there = let none : None ≡ Some entry = sym (get-empty nat_cmp index) ∙ there in absurd (cc none)
-
 begins_laid : IsLaid no_lines
 begins_laid = record {
   steady = steady_at_first;
-  table = record {
-    small = λ index entry there. absurd (nothing index entry there);
-    short = λ index entry there. absurd (nothing index entry there);
-    one_stamp = λ i j a b. absurd (no_stamp_there i a);
-  };
+  table = empty_lawful Base;
   told = told_first no_lines.script refl;
 }
 

@@ -3,6 +3,7 @@ use Rattle.std.proofs.Common.{◌≡◌, ◌+◌, inl, inr, ℕ, List, [], ◌�
 use Rattle.std.specs.Prelude.{◌==◌, true}
 use Rattle.std.specs.Str.Lines.{lines}
 use Rattle.std.proofs.lemmas.Bool.Decides.{nat_tests}
+use Rattle.defmt_grammar.specs.declared.language.Language.{Language}
 use Rattle.defmt_intern.specs.Table.{Map}
 use Rattle.defmt_intern.specs.declared.entry.Tag.{Tag}
 use Rattle.defmt_lines.proofs.LineLaws.{one_line}
@@ -69,13 +70,13 @@ set_becomes old form words set given (Err line_faults.Memory) new is = tt
 
 -- ---- one answer
 
-module _ (texts : (tag : Tag) (text : List ℕ) (verdict other : Option ℕ) → Judges tag text verdict → Judges tag text other → verdict ≡ other)
+module _ (texts : (language : Language) (tag : Tag) (text : List ℕ) (verdict other : Option ℕ) → Judges language tag text verdict → Judges language tag text other → verdict ≡ other)
     (arguments : (names : NameMap) (t : Map) (index : ℕ) (text : List ℕ) (a b : Result Vals ℕ) → ReadsArguments names t index text a → ReadsArguments names t index text b → a ≡ b) where
   one_string : (before : State) (name : List ℕ) (tag : Tag) (text : List ℕ) (admitted : Result (Unit {0}) Cause) (a b : Result State Cause)
       → TakesString before name tag text admitted a → TakesString before name tag text admitted b → a ≡ b
   one_string before name tag text (Err cause) a b p q = p ∙ sym q
   one_string before name tag text (Ok admitted) a b p q =
-      p.2 ∙ ap (takes_string before name tag text) (texts tag text p.0 q.0 p.1 q.1) ∙ sym q.2
+      p.2 ∙ ap (takes_string before name tag text) (texts before.script.table.language tag text p.0 q.0 p.1 q.1) ∙ sym q.2
 
   one_statement : (before : State) (text : List ℕ) (admitted : Result (ℕ × ℕ) Cause) (a b : Result State Cause)
       → TakesStatement before text admitted a → TakesStatement before text admitted b → a ≡ b

@@ -2,7 +2,6 @@
 use Rattle.std.proofs.Common.{◌≡◌, inl, inr, ◌≤◌, ◌<◌, ◌-◌, ◌/◌, ◌%◌, ◌^◌, ℕ, zero, suc, List, [], ◌∷◌, ◌++◌, length, refl, sym, ◌∙◌, ap, subst, arith, length-append, false}
 use Rattle.std.specs.Prelude.{Option, Some, None, codes, replicate, nat_lt}
 use Rattle.std.specs.List.{slice_get}
-use Rattle.std.specs.FinMap as map
 use Rattle.std.proofs.lemmas.Bool.{cond-true, lt-ltb}
 use Rattle.std.proofs.lemmas.List.{append-nil}
 use Rattle.defmt_encode.specs.Out.{message_limit}
@@ -10,7 +9,8 @@ use Rattle.defmt_grammar.specs.Grammar.{IsHole, Spells, hole}
 use Rattle.defmt_grammar.specs.Param.{SpellsParam}
 use Rattle.defmt_grammar.specs.Kind.{named}
 use Rattle.defmt_grammar.specs.Slots.{kinds_at, positions, slot_of, slots_of}
-use Rattle.defmt_grammar.specs.declared.fault.Mode.TheVariants.{Lenient}
+use Rattle.defmt_grammar.specs.Language.{lenient_of}
+use Rattle.defmt_grammar.specs.declared.language.Language.{Language}
 use Rattle.defmt_grammar.specs.declared.kind.IntSize.TheVariants.{W64}
 use Rattle.defmt_grammar.specs.declared.kind.Kind.TheVariants.{Uint}
 use Rattle.defmt_grammar.specs.declared.hint.Hint.TheVariants.{Micros, Plain}
@@ -22,6 +22,7 @@ use Rattle.defmt_grammar.specs.Cut.{behind}
 use Rattle.defmt_hints.specs.Digits.{zero_filled, number_text}
 use Rattle.defmt_hints.specs.Printed.{fraction_text, printed_uint}
 use Rattle.defmt_hints.proofs.DigitsLaws.{length_zero_filled}
+use Rattle.defmt_intern.specs.Entries as map
 use Rattle.defmt_intern.specs.Body.{body_of, one_body}
 use Rattle.defmt_intern.specs.Pieces.{pieces_of}
 use Rattle.defmt_intern.specs.Table.{Map, StampIs, IsLawful as IsLawfulTable}
@@ -70,8 +71,8 @@ stamp_param = record { position = 0; kind = Uint W64; hint = Micros }
 abbrev pub stamp_pieces : List Piece
 stamp_pieces = pieces.Param stamp_param ∷ []
 
-spells_param : SpellsParam Lenient 0 (codes "=u64:us") stamp_param 1
-spells_param = record {
+spells_param : (language : Language) → SpellsParam (lenient_of language) 0 (codes "=u64:us") stamp_param 1
+spells_param language = record {
   parts = record { digits = []; kind = Some (codes "u64"); hint = Some (codes "us") };
   writes = record { digits = refl; no_leading_zero = λ z. absurd (cc z.2); kind = (refl, (refl, (refl, tt))); text = refl };
   position = refl;
@@ -89,21 +90,21 @@ alone : {A : Type 0} (x y : A) (i : ℕ) → slice_get (x ∷ []) i ≡ Some y �
 alone x y zero is = (refl, cc is)
 alone x y (suc i) is = absurd (cc is)
 
-spells_stamp : Spells stamp_spelling Lenient stamp_pieces
-spells_stamp = record {
+spells_stamp : (language : Language) → Spells stamp_spelling (lenient_of language) stamp_pieces
+spells_stamp language = record {
   tokens = hole 0 stamp_param ∷ [];
   after = 1;
-  spelled = (1, [], (codes "=u64:us", is_hole, spells_param, refl), (refl, refl));
+  spelled = (1, [], (codes "=u64:us", is_hole, spells_param language, refl), (refl, refl));
   joins = refl;
   no_clash = λ i j u v before there earlier clash. absurd (omega (arith, before, (alone _ u i there).0));
   no_gap = λ i u there position below. absurd (omega (arith, below, ap (λ w. w.param.position) (sym (alone _ u i there).1)));
 }
 
-pub stamp_body : (entry : Entry) → entry.tag ≡ Timestamp → entry.text ≡ stamp_spelling → body_of entry ≡ One stamp_pieces
-stamp_body entry tag text =
-    let here : one_body (pieces_of Lenient entry.text) ≡ One stamp_pieces =
-    ap (λ (l : List ℕ). one_body (pieces_of Lenient l)) text ∙ ap one_body (pieces_again Lenient stamp_spelling stamp_pieces spells_stamp) in
-    subst (λ (g : Tag). body_of (record { tag = g; «package» = entry.«package»; text = entry.text; disambiguator = entry.disambiguator }) ≡ One stamp_pieces) (sym tag) here
+pub stamp_body : (language : Language) (entry : Entry) → entry.tag ≡ Timestamp → entry.text ≡ stamp_spelling → body_of language entry ≡ One stamp_pieces
+stamp_body language entry tag text =
+    let here : one_body (pieces_of (lenient_of language) entry.text) ≡ One stamp_pieces =
+    ap (λ (l : List ℕ). one_body (pieces_of (lenient_of language) l)) text ∙ ap one_body (pieces_again (lenient_of language) stamp_spelling stamp_pieces (spells_stamp language)) in
+    subst (λ (g : Tag). body_of language (record { tag = g; «package» = entry.«package»; text = entry.text; disambiguator = entry.disambiguator }) ≡ One stamp_pieces) (sym tag) here
 
 -- ---- a stamp fits it
 
@@ -121,7 +122,7 @@ stamp_fits t lawful index n entry there tag text small = record {
   entry = entry;
   pieces = stamp_pieces;
   there = stamp_looks t lawful index entry there;
-  body = stamp_body entry tag text;
+  body = stamp_body t.language entry tag text;
   values = fits_places t n small;
   light = omega arith;
 }
@@ -145,8 +146,8 @@ micros_short n small =
       length-append whole (codes "." ++ part),
     )
 
-stamp_pieces_at : (t : Map) (index : ℕ) (entry : Entry) → look t index ≡ Some entry → body_of entry ≡ One stamp_pieces → own_pieces t index ≡ stamp_pieces
-stamp_pieces_at t index entry there body = ap (λ (o : Option Entry). pieces_in (own_form o)) there ∙ ap (λ (b : Parsed). pieces_in (own_in b)) body
+stamp_pieces_at : (t : Map) (index : ℕ) (entry : Entry) → look t index ≡ Some entry → body_of t.language entry ≡ One stamp_pieces → own_pieces t index ≡ stamp_pieces
+stamp_pieces_at t index entry there body = ap (λ (o : Option Entry). pieces_in (own_form t.language o)) there ∙ ap (λ (b : Parsed). pieces_in (own_in b)) body
 
 stamp_text_is : (t : Map) (n : ℕ) → pieces_text Plain stamp_pieces (shows t (val (uint n) no_vals)) ≡ printed_uint n Micros ++ []
 unfolding pieces_text shows show_val
@@ -155,7 +156,7 @@ stamp_text_is t n = refl
 stamp_narrow : (t : Map) → IsLawfulTable t → (index n : ℕ) (entry : Entry) → map.get t index ≡ Some entry → entry.tag ≡ Timestamp → entry.text ≡ stamp_spelling → n < 2 ^ 64
     → length (eager_text t index (val (uint n) no_vals)) ≤ 65536
 stamp_narrow t lawful index n entry there tag text small =
-    let own = stamp_pieces_at t index entry (stamp_looks t lawful index entry there) (stamp_body entry tag text) in
+    let own = stamp_pieces_at t index entry (stamp_looks t lawful index entry there) (stamp_body t.language entry tag text) in
     let is : eager_text t index (val (uint n) no_vals) ≡ printed_uint n Micros =
     ap (λ (ps : List Piece). pieces_text Plain ps (shows t (val (uint n) no_vals))) own ∙ stamp_text_is t n ∙ append-nil (printed_uint n Micros) in
     omega (arith, ap length is, micros_short n small)

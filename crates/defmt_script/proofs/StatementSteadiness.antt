@@ -65,6 +65,7 @@ statement_steady first s table names writers more said writer stm h over lt room
     let added : count_all (add_statement writer stm writers) ≡ count_all writers + 1 = count-added writer stm writers (omega (arith, lt, h.eight)) in
     subst (λ (ws : List (List Statement)). IsSteady (state first s table names ws said)) (sym more_is) (record {
       settings = h.settings;
+      language = h.language;
       not_late = h.not_late;
       strings_fit = h.strings_fit;
       opened = λ may. absurd (over_or_not first may over);

@@ -20,7 +20,7 @@ use Rattle.defmt_lines.specs.declared.settings.Settings.{Settings}
 use Rattle.defmt_script.specs.Lawful.{first_message, statements_limit}
 use Rattle.defmt_script.specs.Reads.{admits_index, admits_statement, admits_string, admits_terminal, admits_text, is_message, with_statement, with_string, with_text}
 use Rattle.defmt_script.specs.Script.{Script, count_statements, count_strings, statements_by}
-use Rattle.defmt_script.specs.State.{State, closed, strings_limit}
+use Rattle.defmt_script.specs.State.{State, closed, strings_limit, table_behind}
 use Rattle.defmt_values.specs.Fits.{Fits}
 use Rattle.defmt_values.specs.declared.value.Statement.{Statement}
 use Rattle.rtt_terminal.proofs.SayableLaws.{sayable_found}
@@ -75,7 +75,7 @@ string_new before name done is = new_by (in_order before.first forms.Entry) (is_
 -- ---- what each line changes
 
 abbrev pub set_to : State → Form → Settings → State
-set_to before form s = record before { first = next form; script = record before.script { settings = s } }
+set_to before form s = record before { first = next form; script = record before.script { settings = s; table = table_behind form s.language before.script.table } }
 
 -- a string that is taken, of a line of so many bytes
 pub record IsAdded (s : State) (name : List ℕ) (tag : Tag) (text : List ℕ) (bytes : ℕ) : Type 0 where

@@ -1,9 +1,11 @@
 -- A script stays as it must be behind a string, and where no more strings come.
 use Rattle.std.proofs.Common.{◌≡◌, ◌≢◌, ◌≤◌, ◌<◌, ◌+◌, ◌⊎◌, inl, inr, ℕ, Bool, true, false, cond, List, Option, Some, None, refl, sym, ◌∙◌, ap, subst, arith, length}
 use Rattle.std.specs.Prelude.{IsSome, is_some}
-use Rattle.std.specs.FinMap as map
+use Rattle.std.specs.FinMap as name_map
 use Rattle.std.proofs.lemmas.Bool.{cases_eq, cond-true}
 use Rattle.std.proofs.lemmas.Option.{same_Some}
+use Rattle.defmt_grammar.specs.declared.language.Language.{Language}
+use Rattle.defmt_intern.specs.Entries as map
 use Rattle.defmt_intern.specs.Table.{Map, IsStamp, InsertRefused, IsLawful as IsLawfulTable}
 use Rattle.defmt_intern.specs.declared.entry.Entry.{Entry}
 use Rattle.defmt_intern.specs.declared.entry.Tag.{Tag}
@@ -31,9 +33,10 @@ use Rattle.defmt_script.proofs.Steadiness.{none_sound, over_or_not, state}
 
 -- as many names or more, and a table that is the same
 pub kept_steady : (first : Form) (s : Settings) (table same : Map) (names more : NameMap) (writers : List (List Statement)) (said : Speech)
-    → IsSteady (state first s table names writers said) → same ≡ table → map.len names ≤ map.len more → map.len more ≤ 65534 → IsSteady (state first s same more writers said)
+    → IsSteady (state first s table names writers said) → same ≡ table → name_map.len names ≤ name_map.len more → name_map.len more ≤ 65534 → IsSteady (state first s same more writers said)
 kept_steady first s table same names more writers said h is most fits = subst (λ (t : Map). IsSteady (state first s t more writers said)) (sym is) (record {
   settings = h.settings;
+  language = h.language;
   not_late = h.not_late;
   strings_fit = fits;
   opened = λ may. let o = h.opened may in record {
@@ -69,14 +72,15 @@ pub not_stamp : (tag : Tag) → is_string_tag tag ≡ true → tag ≢ tags.Time
 not_stamp tag is e = let clash : true ≡ false = sym is ∙ ap is_string_tag e in absurd (cc clash)
 
 pub string_steady : (first : Form) (k : ℕ) (s : Settings) (table more : Map) (names : NameMap) (writers : List (List Statement)) (said : Speech) (name : List ℕ) (entry : Entry)
-    → IsSteady (state first s table names writers said) → StringsMayCome first → map.get names name ≡ None → k ≡ map.len names + 1 → k ≤ 65534 → is_string_tag entry.tag ≡ true
-    → more ≡ map.insert table k entry → IsSteady (state forms.Entry s more (map.insert names name k) writers said)
+    → IsSteady (state first s table names writers said) → StringsMayCome first → name_map.get names name ≡ None → k ≡ name_map.len names + 1 → k ≤ 65534 → is_string_tag entry.tag ≡ true
+    → more ≡ map.insert table k entry → IsSteady (state forms.Entry s more (name_map.insert names name k) writers said)
 string_steady first k s table more names writers said name entry h may new next_is fits tag more_is =
     let o : IsOpen (state first s table names writers said) = h.opened may in
-    let names_more : NameMap = map.insert names name k in
-    let len : map.len names_more ≡ k = len-added names name k new ∙ sym next_is in
+    let names_more : NameMap = name_map.insert names name k in
+    let len : name_map.len names_more ≡ k = len-added names name k new ∙ sym next_is in
     subst (λ (t : Map). IsSteady (state forms.Entry s t names_more writers said)) (sym more_is) (record {
       settings = h.settings;
+      language = h.language;
       not_late = λ reader. absurd (let clash : false ≡ true = reader in cc clash);
       strings_fit = omega (arith, len, fits);
       opened = λ _. record {
@@ -98,7 +102,7 @@ string_steady first k s table more names writers said name entry h may new next_
 
 -- what the reading has behind a string that it puts at the next index
 pub string_added : (old inside : State) (k : ℕ) (name : List ℕ) (tag : Tag) (text : List ℕ) (entry : Entry) (table : Map) (names : NameMap)
-    → inside ≡ old → k ≡ next_index inside.script → entry ≡ entry_at k tag text → table ≡ map.insert inside.script.table k entry → names ≡ map.insert inside.script.names name k
+    → inside ≡ old → k ≡ next_index inside.script → entry ≡ entry_at k tag text → table ≡ map.insert inside.script.table k entry → names ≡ name_map.insert inside.script.names name k
     → state forms.Entry inside.script.settings table names inside.script.writers inside.script.said ≡ with_string old name tag text
 string_added old inside k name tag text entry table names inside_is next_is entry_is table_is names_are =
     let more : table ≡ map.insert inside.script.table k (entry_at k tag text) = table_is ∙ ap (map.insert inside.script.table k) entry_is in
@@ -146,6 +150,7 @@ pub unstamped_steady : (first : Form) (s : Settings) (table : Map) (names : Name
 unstamped_steady first s table names writers said h may none =
     let o : IsOpen (state first s table names writers said) = h.opened may in record {
       settings = h.settings;
+      language = h.language;
       not_late = λ reader. no_reader reader;
       strings_fit = h.strings_fit;
       opened = λ string. no_string string;
@@ -162,6 +167,7 @@ stamped_steady first k s table more names writers said h may some more_is =
     let o : IsOpen (state first s table names writers said) = h.opened may in
     subst (λ (t : Map). IsSteady (state forms.Statement s t names writers said)) (sym more_is) (record {
       settings = h.settings;
+      language = h.language;
       not_late = λ reader. no_reader reader;
       strings_fit = h.strings_fit;
       opened = λ string. no_string string;
@@ -183,6 +189,7 @@ pub lawful_closed : (s : State) → IsSteady s → StringsAreOver s.first → Is
 lawful_closed s h over table told = record {
   settings = h.settings;
   table = table;
+  language = h.language;
   stamp = h.whole over;
   eight = h.eight;
   few = h.few;
@@ -193,11 +200,11 @@ lawful_closed s h over table told = record {
 
 -- ---- what is found of a string
 
-judged_by : (tag : Tag) (text : List ℕ) (v : Option ℕ) → v ≡ None → ((4096 < length text) × (v ≡ Some 0)) ⊎ ((length text ≤ 4096) × JudgesBody tag text v) → length text ≤ 4096
-judged_by tag text v none (inl h) = let clash : None ≡ Some 0 = sym none ∙ h.1 in absurd (cc clash)
-judged_by tag text v none (inr h) = h.0
+judged_by : (language : Language) (tag : Tag) (text : List ℕ) (v : Option ℕ) → v ≡ None → ((4096 < length text) × (v ≡ Some 0)) ⊎ ((length text ≤ 4096) × JudgesBody language tag text v) → length text ≤ 4096
+judged_by language tag text v none (inl h) = let clash : None ≡ Some 0 = sym none ∙ h.1 in absurd (cc clash)
+judged_by language tag text v none (inr h) = h.0
 
 -- a text that is taken is short
-pub judged_short : (tag : Tag) (text : List ℕ) (v : Option ℕ) → v ≡ None → Judges tag text v → length text ≤ 4096
+pub judged_short : (language : Language) (tag : Tag) (text : List ℕ) (v : Option ℕ) → v ≡ None → Judges language tag text v → length text ≤ 4096
 unfolding Judges
-judged_short tag text v none h = judged_by tag text v none h
+judged_short language tag text v none h = judged_by language tag text v none h

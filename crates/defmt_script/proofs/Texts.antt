@@ -1,13 +1,14 @@
 -- The texts of a script's table have not many more bytes than the script.
 use Rattle.std.proofs.Common.{◌≡◌, ◌≤◌, ◌+◌, ◌*◌, ◌-◌, ◌^◌, inl, inr, ℕ, suc, Bool, true, false, cond, List, [], ◌∷◌, Option, Some, None, Ok, refl, sym, ◌∙◌, ap, arith, length, take}
 use Rattle.std.specs.Prelude.{◌==◌, IsSome, codes, slice_index}
-use Rattle.std.specs.FinMap as map
+use Rattle.std.specs.FinMap as name_map
 use Rattle.std.specs.Fmt.{decimal}
 use Rattle.std.specs.List.{onto_first, slice_split}
 use Rattle.std.specs.Str.Lines.{lines, lines_of_parts}
 use Rattle.std.proofs.lemmas.Fmt.{length-decimal-le}
 use Rattle.std.proofs.lemmas.List.{length-take}
-use Rattle.defmt_intern.proofs.TableLaws.{nowhere}
+use Rattle.defmt_grammar.specs.declared.language.Language.TheVariants.{Base}
+use Rattle.defmt_intern.specs.Entries as map
 use Rattle.defmt_intern.specs.Table.{Map}
 use Rattle.defmt_intern.specs.declared.entry.Entry.{Entry}
 use Rattle.defmt_intern.specs.declared.entry.Tag.{Tag}
@@ -21,13 +22,13 @@ use Rattle.defmt_lines.specs.declared.form.Form.TheVariants as forms
 use Rattle.defmt_lines.specs.declared.settings.Settings.{Settings}
 use Rattle.defmt_script.proofs.Counts.{len-added, no_names}
 use Rattle.defmt_script.proofs.Settled.{is_setting}
-use Rattle.defmt_script.proofs.Steadiness.{over_or_not}
+use Rattle.defmt_script.proofs.Steadiness.{behind_line, nowhere, over_or_not}
 use Rattle.defmt_script.proofs.StringSteadiness.{some_or_before}
 use Rattle.defmt_script.proofs.Kept.{reads_kept}
 use Rattle.defmt_script.proofs.Steps.{Ends, IsAdded, Keeps, set_to, total}
 use Rattle.defmt_script.specs.Reads.{Reads, with_string}
 use Rattle.defmt_script.specs.Script.{Script, count_strings, next_index}
-use Rattle.defmt_script.specs.State.{State, closed, entry_at, no_lines, stamp_entry, with_stamp_entry}
+use Rattle.defmt_script.specs.State.{State, closed, entry_at, no_lines, stamp_entry, table_behind, with_stamp_entry}
 use Rattle.defmt_script.specs.Texts.{CountsTexts, IsKnown}
 
 -- ---- the bytes of all lines
@@ -81,7 +82,17 @@ module _ (count : Map → ℕ) (counts : CountsTexts count) where
       → IsWithin count (set_to s form t) b
   set_within s form words t b order given h =
       let may : StringsMayCome s.first = strings_before s.first form order (is_setting form words s.script.settings t given) in
-      record { few = h.few; free = λ _. h.free may; opened = λ _. h.opened may; whole = h.whole }
+      let none : count (map.empty_of t.language) ≡ 0 = counts.empty t.language in
+      let strings : ℕ = count_strings s.script in
+      let free : (m : Map) → Type 0 = λ m. (index : ℕ) → IsSome (map.get m index) → index ≤ strings in
+      let opened : count (table_behind form t.language s.script.table) ≤ b + 11 * strings =
+      behind_line (λ (m : Map). count m ≤ b + 11 * strings) form t.language s.script.table (h.opened may) (omega (arith, none)) in
+      record {
+        few = h.few;
+        free = λ _. behind_line free form t.language s.script.table (h.free may) (λ index some. absurd (nowhere t.language index some));
+        opened = λ _. opened;
+        whole = omega (arith, opened);
+      }
 
   -- an entry of a script at a new index
   one_more : (table : Map) (k : ℕ) (tag : Tag) (text : List ℕ) → (IsSome (map.get table k) → ⊥) → IsKnown tag → k ≤ 65535
@@ -97,7 +108,7 @@ module _ (count : Map → ℕ) (counts : CountsTexts count) where
       let new : IsSome (map.get before.script.table k) → ⊥ = λ some. absurd (omega (arith, h.free i.may k some)) in
       let added : count (map.insert before.script.table k (entry_at k tag text)) ≤ count before.script.table + length text + 11 =
       one_more before.script.table k tag text new (known tag i.string) (omega (arith, i.room)) in
-      let len : map.len (map.insert before.script.names name k) ≡ count_strings before.script + 1 = len-added before.script.names name k i.new in
+      let len : name_map.len (name_map.insert before.script.names name k) ≡ count_strings before.script + 1 = len-added before.script.names name k i.new in
       record {
         few = omega (arith, i.room, len);
         free = λ _ index some. elim (some_or_before before.script.table k (entry_at k tag text) index some) [
@@ -144,9 +155,9 @@ module _ (count : Map → ℕ) (counts : CountsTexts count) where
   begins_within : IsWithin count no_lines 0
   begins_within = record {
     few = omega (arith, no_names);
-    free = λ _ index some. absurd (nowhere index some);
-    opened = λ _. omega (arith, counts.empty);
-    whole = omega (arith, counts.empty);
+    free = λ _ index some. absurd (nowhere Base index some);
+    opened = λ _. omega (arith, counts.empty Base);
+    whole = omega (arith, counts.empty Base);
   }
 
 pub texts_are_few : (count : Map → ℕ) (text : List ℕ) (script : Script) → CountsTexts count → Reads text (Ok script) → count script.table ≤ length text + 2 ^ 20

@@ -2,8 +2,8 @@
 use Rattle.std.specs.Prelude.{List, refl}
 use Rattle.std.specs.Coded.{Coded, code_by, coded×, coded_list, coded_ℕ}
 use Rattle.std.specs.FinMap as map
+use Rattle.defmt_intern.specs.Entries as entries
 use Rattle.defmt_intern.specs.Table.{Map}
-use Rattle.defmt_intern.specs.contracts.entry.Entry.{the_row as entry_row}
 use Rattle.defmt_lines.specs.contracts.form.Form.{the_row as form_row}
 use Rattle.defmt_lines.specs.contracts.settings.Settings.{the_row as settings_row}
 use Rattle.defmt_lines.specs.declared.form.Form.{Form}
@@ -17,7 +17,7 @@ use Rattle.rtt_terminal.specs.Codes.{coded_speech}
 use Rattle.rtt_terminal.specs.Speech.{Speech}
 
 abbrev coded_table : Coded Map
-coded_table = map.code coded_ℕ entry_row.coded
+coded_table = entries.code
 
 abbrev coded_names : Coded NameMap
 coded_names = map.code (coded_list coded_ℕ) coded_ℕ

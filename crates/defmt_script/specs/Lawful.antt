@@ -1,12 +1,12 @@
 -- What holds of every script.
 use Rattle.std.specs.Prelude.{◌≡◌, ◌≤◌, ℕ, List, codes, length, Option, Some, None, option_map}
-use Rattle.std.specs.FinMap as map
 use Rattle.std.specs.List.{AllByRecursion}
 use Rattle.defmt_eager.specs.Line.{printed_limit}
 use Rattle.defmt_eager.specs.Show.{eager_text}
 use Rattle.defmt_encode.specs.Carry.{message_of, stamp_args}
 use Rattle.defmt_encode.specs.Out.{message_limit}
 use Rattle.defmt_encode.specs.Placed.{place_in}
+use Rattle.defmt_intern.specs.Entries as map
 use Rattle.defmt_intern.specs.Table.{Map, IsStamp, IsLawful as IsLawfulTable}
 use Rattle.defmt_intern.specs.declared.entry.Entry.{Entry}
 use Rattle.defmt_intern.specs.declared.entry.Tag.TheVariants.{Timestamp}
@@ -58,6 +58,7 @@ HasStamp (Some p) table = (index : ℕ) × (entry : Entry) × (map.get table ind
 pub record IsLawful (s : Script) : Type 0 where
   pub settings : AreLawful s.settings
   pub table : IsLawfulTable s.table
+  pub language : s.table.language ≡ s.settings.language
   pub stamp : HasStamp s.settings.stamp s.table
   pub eight : length s.writers ≡ 8
   pub few : count_all s.writers ≤ statements_limit

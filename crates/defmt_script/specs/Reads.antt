@@ -1,10 +1,11 @@
 -- The script that a text gives, or its first line that is refused.
 use Rattle.std.specs.Prelude.{◌≡◌, ◌⊎◌, ◌+◌, ℕ, Bool, false, not, nat_lt, List, [], ◌∷◌, length, Option, Some, None, is_some, Result, Ok, Err, if◌then◌else◌}
-use Rattle.std.specs.FinMap as map
+use Rattle.std.specs.FinMap as name_map
 use Rattle.std.specs.Str.Lines.{lines}
 use Rattle.defmt_eager.specs.Line.{printed_limit}
 use Rattle.defmt_eager.specs.Show.{eager_text}
 use Rattle.defmt_encode.specs.Out.{message_limit}
+use Rattle.defmt_intern.specs.Entries as map
 use Rattle.defmt_intern.specs.Table.{Map}
 use Rattle.defmt_intern.specs.declared.entry.Entry.{Entry}
 use Rattle.defmt_intern.specs.declared.entry.Tag.{Tag}
@@ -20,7 +21,7 @@ use Rattle.defmt_lines.specs.declared.form.Form.TheVariants as forms
 use Rattle.defmt_lines.specs.declared.settings.Settings.{Settings}
 use Rattle.defmt_script.specs.Lawful.{first_message, statements_limit}
 use Rattle.defmt_script.specs.Script.{Script, Refusal, add_statement, count_statements, count_strings, next_index, statements_by}
-use Rattle.defmt_script.specs.State.{State, closed, entry_at, no_lines, strings_limit}
+use Rattle.defmt_script.specs.State.{State, closed, entry_at, no_lines, strings_limit, table_behind}
 use Rattle.defmt_shapes.specs.Shape.{is_name}
 use Rattle.defmt_spelling.specs.Spelling.{ReadsArguments}
 use Rattle.defmt_values.specs.Entries.{look, is_logged}
@@ -36,7 +37,13 @@ use Rattle.rtt_terminal.specs.Speech.{count_texts, saying, texts_limit, with_say
 
 abbrev pub with_settings : State → Form → Result Settings Cause → Result State Cause
 with_settings before form (Ok s) =
-    Ok (record before { first = next form; script = record before.script { settings = s } })
+    Ok (record before {
+      first = next form;
+      script = record before.script {
+        settings = s;
+        table = table_behind form s.language before.script.table;
+      };
+    })
 with_settings before form (Err cause) = Err cause
 
 abbrev pub sets : State → Form → Result Settings Cause → Result State Cause
@@ -54,7 +61,7 @@ abbrev pub admits_string : State → List ℕ → Result (Unit {0}) Cause
 admits_string before name =
     if not (in_order before.first forms.Entry) then Err causes.Line
     else if not (is_name name) then Err causes.Name
-    else if is_some (map.get before.script.names name) then Err causes.Double
+    else if is_some (name_map.get before.script.names name) then Err causes.Double
     else Ok tt
 
 -- with a string at this index
@@ -63,7 +70,7 @@ string_at index before name tag text = record before {
   first = forms.Entry;
   script = record before.script {
     table = map.insert before.script.table index (entry_at index tag text);
-    names = map.insert before.script.names name index;
+    names = name_map.insert before.script.names name index;
   };
 }
 
@@ -81,7 +88,8 @@ abbrev pub TakesString : State → List ℕ → Tag → List ℕ → Result (Uni
     → Result State Cause → Type 0
 TakesString before name tag text (Err cause) taken = taken ≡ Err cause
 TakesString before name tag text (Ok admitted) taken = (verdict : Option ℕ)
-    × Judges tag text verdict × (taken ≡ takes_string before name tag text verdict)
+    × Judges before.script.table.language tag text verdict
+    × (taken ≡ takes_string before name tag text verdict)
 
 -- ---- statements: `w WRITER NAME ARGS`
 
@@ -104,7 +112,7 @@ admits_index before writer (Some index) =
 abbrev pub admits_statement : State → Option ℕ → List ℕ → Result (ℕ × ℕ) Cause
 admits_statement before None name = Err causes.Writer
 admits_statement before (Some writer) name =
-    admits_index before writer (map.get before.script.names name)
+    admits_index before writer (name_map.get before.script.names name)
 
 abbrev pub with_statement : State → ℕ → Statement → State
 with_statement before writer stm = record before {

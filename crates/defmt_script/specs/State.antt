@@ -1,7 +1,9 @@
 -- A script of which some lines are read.
 use Rattle.std.specs.Prelude.{ℕ, List, [], ◌∷◌, codes, Option, Some, None, if◌then◌else◌}
-use Rattle.std.specs.FinMap as map
+use Rattle.std.specs.FinMap as name_map
 use Rattle.std.specs.Fmt.{decimal}
+use Rattle.defmt_grammar.specs.declared.language.Language.{Language}
+use Rattle.defmt_intern.specs.Entries as map
 use Rattle.defmt_intern.specs.Table.{Map}
 use Rattle.defmt_intern.specs.declared.entry.Entry.{Entry}
 use Rattle.defmt_intern.specs.declared.entry.Tag.{Tag}
@@ -30,13 +32,18 @@ abbrev pub empty_script : Script
 empty_script = record {
   settings = no_settings;
   table = map.empty;
-  names = map.empty;
+  names = name_map.empty;
   writers = no_statements;
   said = silence 8;
 }
 
 abbrev pub no_lines : State
-no_lines = record { first = forms.Ring; script = empty_script }
+no_lines = record { first = forms.Language; script = empty_script }
+
+-- behind the line of its language a script has an empty table of it
+abbrev pub table_behind : Form → Language → Map → Map
+table_behind forms.Language language table = map.empty_of language
+table_behind form language table = table
 
 -- an entry of a script, which has its index for its disambiguator
 abbrev pub entry_at : ℕ → Tag → List ℕ → Entry

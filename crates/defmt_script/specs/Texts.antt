@@ -1,6 +1,7 @@
 -- How much text a table has.
 use Rattle.std.specs.Prelude.{◌≡◌, ◌+◌, ℕ, List, length, None}
-use Rattle.std.specs.FinMap as map
+use Rattle.defmt_grammar.specs.declared.language.Language.{Language}
+use Rattle.defmt_intern.specs.Entries as map
 use Rattle.defmt_intern.specs.Table.{Map}
 use Rattle.defmt_intern.specs.declared.entry.Entry.{Entry}
 use Rattle.defmt_intern.specs.declared.entry.Tag.{Tag}
@@ -13,7 +14,7 @@ IsKnown tag = (name : List ℕ) → tag ≡ Other name → ⊥
 -- It counts the bytes of a table's texts: an empty table has none, and each further entry with a known tag adds those of its package,
 -- its text and its disambiguator.
 pub record CountsTexts (count : Map → ℕ) : Type 0 where
-  pub empty : count map.empty ≡ 0
+  pub empty : (language : Language) → count (map.empty_of language) ≡ 0
   pub more : (table : Map) (index : ℕ) (entry : Entry) → map.get table index ≡ None
       → IsKnown entry.tag
       → count (map.insert table index entry)

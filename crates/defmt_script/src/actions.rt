@@ -73,7 +73,8 @@ impl Reading {
         match form {
             Form::Statement => self.take_statement(line),
             Form::Say => self.take_text(line),
-            Form::Ring
+            Form::Language
+            | Form::Ring
             | Form::Mode
             | Form::Reader
             | Form::Stamp

@@ -1,25 +1,25 @@
 //! The parts of a script that is read: entries, arguments and their limits.
 
 ghost use Rattle.std.specs.Prelude.{◌≡◌, length, nat_lt, IfOk, OnErr, OnOk, ℕ};
-ghost use Rattle.std.specs.FinMap as map;
 ghost use Rattle.std.specs.Fmt.{decimal};
 ghost use Rattle.defmt_eager.specs.Line.{printed_limit};
 ghost use Rattle.defmt_eager.specs.Show.{eager_text};
 ghost use Rattle.defmt_encode.specs.Out.{message_limit};
 ghost use Rattle.defmt_encode.specs.Placed.{place_in};
+ghost use Rattle.defmt_intern.specs.Entries as map;
 ghost use Rattle.defmt_intern.specs.Body.{body_of};
 ghost use Rattle.defmt_intern.specs.Table.{InsertRefused};
 ghost use Rattle.defmt_script.specs.Lawful.{first_message};
 ghost use Rattle.defmt_script.specs.Reads.{is_message};
 ghost use Rattle.defmt_script.specs.Script.{base_of};
-ghost use Rattle.defmt_script.specs.State.{entry_at, no_statements};
+ghost use Rattle.defmt_script.specs.State.{entry_at, no_statements, table_behind};
 ghost use Rattle.defmt_spelling.specs.Spelling.{ReadsArguments};
 ghost use Rattle.defmt_values.specs.Fits.{Fits};
 
 use crate::script::Statements;
-use defmt_grammar::Text;
+use defmt_grammar::{Language, Text};
 use defmt_intern::{Entry, Parsed, Profile, Table, TableFault, Tag};
-use defmt_lines::Settings;
+use defmt_lines::{Form, Settings};
 use defmt_spelling::{ArgFault, Names, read_args};
 use defmt_values::{Args, Statement, is_logged};
 use dl_io::Memory;
@@ -35,6 +35,15 @@ pub(crate) fn no_statements(alloc: Global) -> Result<Vec<Statements>, Memory>
         writers.push(Statements::new(alloc))?;
     }
     Ok(writers)
+}
+
+// Behind the line of its language a script has an empty table of it. Takes no memory.
+pub(crate) fn begin_table(alloc: Global, form: Form, language: Language, table: &mut Table)
+    ensures { table.new.entries ≡ table_behind form language table.old.entries }
+{
+    if let Form::Language = form {
+        *table = Table::of_language(alloc, language);
+    }
 }
 
 fn copy_of(alloc: Global, text: &str) -> Result<Text, Memory>
@@ -87,7 +96,7 @@ pub(crate) fn put_parsed(
     parsed: Parsed,
 ) -> Result<(), Memory>
     requires free { (cause : ℕ) → InsertRefused table.old.entries index entry cause → ⊥ }
-    requires parsed { parsed ≡ body_of entry }
+    requires parsed { parsed ≡ body_of table.old.entries.language entry }
     ensures ok { OnOk result (table.new.entries ≡ map.insert table.old.entries index entry) }
     ensures err { OnErr result (table.new.entries ≡ table.old.entries) }
 {

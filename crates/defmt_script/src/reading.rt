@@ -11,7 +11,7 @@ ghost use Rattle.defmt_script.specs.State.{closed, no_lines};
 ghost use Rattle.defmt_script.specs.Steady.{StaysLawful};
 
 use crate::fault::LineFault;
-use crate::parts::{entry_of, no_statements, put_entry};
+use crate::parts::{begin_table, entry_of, no_statements, put_entry};
 use crate::script::{Script, Statements};
 use defmt_intern::{Table, Tag};
 use defmt_lines::{Cause, Form, Line, Settings, Words};
@@ -76,7 +76,7 @@ impl Reading {
         let said = Speech::new(alloc)?;
         Ok(Reading {
             alloc,
-            first: Form::Ring,
+            first: Form::Language,
             strings: 0,
             statements: 0,
             settings: Settings::new(),
@@ -119,7 +119,8 @@ impl Reading {
     // Takes the settings of a line of this form.
     fn set(&mut self, form: Form, settings: Result<Settings, Cause>) -> Result<(), LineFault>
         requires { (s : AnySettings)
-            → settings ≡ Ok s → in_order self.old.first form ≡ true → StaysLawful form s }
+            → settings ≡ Ok s → in_order self.old.first form ≡ true
+            → StaysLawful form self.old.script.settings s }
         ensures { Becomes (sets self.old form settings) result self.new }
     {
         if !form.is_in_order(self.first) {
@@ -127,6 +128,7 @@ impl Reading {
         }
         match settings {
             Ok(settings) => {
+                begin_table(self.alloc, form, settings.language, &mut self.table);
                 self.settings = settings;
                 self.first = form.next();
                 Ok(())

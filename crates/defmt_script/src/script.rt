@@ -225,8 +225,8 @@ impl Script {
         self.settings.orders.get(number)
     }
 
-    /// The strings, with the indexes 1, 2, 3 and so on, and behind them the timestamp's entry where there are stamps. Takes
-    /// no memory.
+    /// The strings, with the indexes 1, 2, 3 and so on, and behind them the timestamp's entry where there are stamps, in the
+    /// script's language. Takes no memory.
     pub fn table(&self) -> &Table
         ensures entries { result.now.entries ≡ self.now.table }
         ensures profile { result.now.profile ≡ self.now.settings.profile }

@@ -50,7 +50,7 @@ impl Reading {
         if let Err(cause) = self.admit_string(line.name) {
             return Err(LineFault::Refused(cause));
         }
-        let parsed = match parse_text(self.alloc, &line.tag, line.text)? {
+        let parsed = match parse_text(self.alloc, self.table.language(), &line.tag, line.text)? {
             Ok(parsed) => parsed,
             Err(inner) => return Err(LineFault::Refused(Cause::Text(inner))),
         };
@@ -68,7 +68,7 @@ impl Reading {
         requires new { map.get self.old.script.names name.now ≡ None }
         requires string_tag { is_string_tag tag ≡ true }
         requires short { length text.now ≤ 4096 }
-        requires parsed { parsed ≡ body_in tag text.now }
+        requires parsed { parsed ≡ body_in self.old.script.table.language tag text.now }
         ensures { OnOk result (self.new ≡ with_string self.old name.now tag text.now) }
     {
         let index = self.next_index();

@@ -1,7 +1,8 @@
 //! What texts of arguments read as, and how arguments are written.
 use crate::rows::Kind;
+use crate::shapes::language_of;
 use crate::texts::{inside_of, put_args, script_of};
-use defmt_grammar::Text;
+use defmt_grammar::{Language, Text};
 use defmt_intern::{Entry, Table, Tag};
 use defmt_spelling::{ArgFault, Names, read_args};
 use defmt_values::Statement;
@@ -10,7 +11,7 @@ use std::fmt::Write;
 use std::test::Fail;
 use test_rows::{each_block, each_line, put_str};
 
-// A format string and a text of arguments; how they are written, or the cause for which they aren't read.
+// The word of the language where it is Full, a format string and a text of arguments; how they are written, or the cause for which they aren't read.
 const KINDS: &str = r#"{=u8} <255> = <255>
 {=u8} < 0x1f  > = <31>
 {=u8} <x(> = cause 1
@@ -47,7 +48,33 @@ const KINDS: &str = r#"{=u8} <255> = <255>
 {=str} <"ä\\ö"> = <"ä\\ö">
 {=[u8]} <#> = <#>
 {=[u8]} <#0g> = cause 1
-{=[u8]} <"a"> = cause 3"#;
+{=[u8]} <"a"> = cause 3
+{=u8} <1.5> = cause 1
+full {=u8} <1.5> = cause 3
+full {=i8} <-1.5> = cause 3
+full {=f32} <1.5> = <1.5>
+full {=f64} <1> = <1.0>
+full {=f32} <-0> = <-0.0>
+full {=f32} <16777217> = <16777216.0>
+full {=f32} <0.1e-3> = <0.0001>
+full {=f32} <0x3f800000> = <1.0>
+full {=f32} <0x7fc00001> = <0x7fc00001>
+full {=f64} <0x7ff8000000000000> = <NaN>
+full {=f64} <NaN> = <NaN>
+full {=f64} <1e400> = <inf>
+full {=f32} <-inf> = <-inf>
+full {=f32} <340282366920938463463374607431768211456> = <inf>
+full {=f32} <0x100000000> = cause 4
+full {=f32} <true> = cause 3
+full {=f32} <1.> = cause 1
+full {=__internal_Debug} <"a"> = <"a">
+full {=__internal_Display} <"ä"> = <"ä">
+full {=__internal_FormatSequence} << z()   z() >> = <<z() z()>>
+full {=__internal_FormatSequence} <<>> = <<>>
+full {=__internal_FormatSequence} <<z()z()>> = cause 1
+full {=__internal_FormatSequence} <<y()>> = cause 5
+full {=__internal_FormatSequence} <1> = cause 3
+full {=?} <<z()>> = cause 3"#;
 
 // The strings of a script, texts of arguments of the first, and how they are written or why they aren't read.
 const BY_SCRIPTS: &str = "\
@@ -260,14 +287,19 @@ pub fn put_written_by_script(alloc: Global, block: &str, out: &mut String) -> Re
 }
 
 pub fn put_written_of_kind(alloc: Global, row: &str, out: &mut String) -> Result<(), Fail> {
+    let (language, row) = language_of(row);
+    let head = match language {
+        Language::Base => "",
+        Language::Full => "language full\n",
+    };
     let (form, args) = row.split_once(' ').unwrap_or((row, ""));
-    let strings = format!(in alloc; "s log defmt_info {form}\ns z defmt_prim z")?;
+    let strings = format!(in alloc; "{head}s log defmt_info {form}\ns z defmt_prim z")?;
     put_by_strings(alloc, strings.as_str(), args, out)
 }
 
 #[test]
 fn each_kind_has_its_spelling_and_its_causes(rt: HostRuntime) -> Result<(), Fail> {
-    each_line(rt.alloc(), KINDS, 37, &Kind::WrittenOfKind)
+    each_line(rt.alloc(), KINDS, 63, &Kind::WrittenOfKind)
 }
 
 #[test]

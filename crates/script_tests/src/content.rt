@@ -1,6 +1,7 @@
 //! The lines of scripts: where they are cut, what each says, and what the first lines set.
 use crate::rows::Kind;
-use crate::texts::{inside_of, put_digits_or_nothing, put_profile, put_settings};
+use crate::texts::{inside_of, put_digits_or_nothing, put_language, put_profile, put_settings};
+use defmt_grammar::Language;
 use defmt_intern::Tag;
 use defmt_lines::{
     ActionLine, Cause, EntryLine, Form, Line, Settings, Words, judge, next_line, read_line,
@@ -20,6 +21,10 @@ const CUTS: &str = "\
 const LINES: &str = "\
 <> = blank
 <#> = blank
+<language full> = language <full>
+<language > = language <>
+<language full 1> = other
+<language> = other
 <ring 64> = ring <64>
 <ring > = ring <>
 <ring 64 > = other
@@ -53,6 +58,10 @@ const BYTES: &str = "\
 
 // A line, and what is set by it, or why it is refused.
 const SETTINGS: &str = "\
+<language full> = ring 1024 block live language full
+<language base> = cause 1
+<language Full> = cause 1
+<language > = cause 1
 <ring 16> = ring 16 block live
 <ring 064> = cause 6
 <ring 65537> = cause 6
@@ -71,13 +80,20 @@ const SETTINGS: &str = "\
 <d 4096 trace> = ring 1024 block live order 4096 Trace
 <d 4097 trace> = cause 19";
 
-// A tag and a text; the number of the fault for which the text is refused.
+// A tag and a text, and in front of them the language where it is the full one; the number of the fault for which the text is
+// refused.
 const TEXTS: &str = "\
 defmt_info {=u8} = taken
 defmt_info a|{=u9} = refused 2
 defmt_prim a|{ = refused 1
 defmt_prim {|} = refused 1
-defmt_str { = taken";
+defmt_str { = taken
+defmt_info {=f32} = refused 8
+defmt_info {=u8:ts} = refused 3
+full defmt_info {=f32:ts} = taken
+full defmt_derived A|B{=__internal_FormatSequence} = taken
+full defmt_info {=u8:z} = refused 3
+full defmt_prim a|{=f16} = refused 2";
 
 const NAMES: &str = "\
 a_1 = true
@@ -106,6 +122,7 @@ fn put_entry(line: &EntryLine<'_>, out: &mut String) -> Result<(), Fail> {
 /// The name of a form in rows.
 pub fn name_of(form: Form) -> &'static str {
     match form {
+        Form::Language => "language",
         Form::Ring => "ring",
         Form::Mode => "mode",
         Form::Reader => "reader",
@@ -173,6 +190,7 @@ pub fn put_setting(row: &str, out: &mut String) -> Result<(), Fail> {
     match set_by(read_line(inside_of(row)?.as_bytes())) {
         Some(Ok(set)) => {
             put_settings(set.ring, set.mode, set.late, set.stamp, out)?;
+            put_language(set.language, out)?;
             put_profile(set.profile, out)?;
             put_first_order(&set, out)
         }
@@ -181,14 +199,18 @@ pub fn put_setting(row: &str, out: &mut String) -> Result<(), Fail> {
     }
 }
 
-fn verdict_of(alloc: Global, tag: &str, text: &str) -> Result<Option<u8>, Fail> {
+fn verdict_of(alloc: Global, language: Language, row: &str) -> Result<Option<u8>, Fail> {
+    let (tag, text) = row.split_once(' ').unwrap_or((row, ""));
     let tag = Tag::of_name(alloc, tag)?;
-    Ok(judge(alloc, &tag, text)?)
+    Ok(judge(alloc, language, &tag, text)?)
 }
 
 pub fn put_verdict(alloc: Global, row: &str, out: &mut String) -> Result<(), Fail> {
-    let (tag, text) = row.split_once(' ').unwrap_or((row, ""));
-    match verdict_of(alloc, tag, text)? {
+    let verdict = match row.strip_prefix("full ") {
+        Some(row) => verdict_of(alloc, Language::Full, row)?,
+        None => verdict_of(alloc, Language::Base, row)?,
+    };
+    match verdict {
         Some(number) => Ok(write!(out, "refused {number}")?),
         None => put_str(out, "taken"),
     }
@@ -205,17 +227,17 @@ fn a_carriage_return_is_passed_over_before_a_newline_alone(rt: HostRuntime) -> R
 
 #[test]
 fn lines_are_cut_at_every_space_where_they_are_texts(rt: HostRuntime) -> Result<(), Fail> {
-    each_line(rt.alloc(), LINES, 28, &Kind::SaidByText)?;
+    each_line(rt.alloc(), LINES, 32, &Kind::SaidByText)?;
     each_line(rt.alloc(), BYTES, 1, &Kind::SaidByBytes)
 }
 
 #[test]
 fn settings_are_decimal_numbers_and_words(rt: HostRuntime) -> Result<(), Fail> {
-    each_line(rt.alloc(), SETTINGS, 17, &Kind::SettingOf)
+    each_line(rt.alloc(), SETTINGS, 21, &Kind::SettingOf)
 }
 
 #[test]
 fn a_text_is_read_by_its_tag_and_a_name_begins_with_a_letter(rt: HostRuntime) -> Result<(), Fail> {
-    each_line(rt.alloc(), TEXTS, 5, &Kind::VerdictOf)?;
+    each_line(rt.alloc(), TEXTS, 11, &Kind::VerdictOf)?;
     each_line(rt.alloc(), NAMES, 2, &Kind::NameOf)
 }

@@ -9,6 +9,7 @@ use test_rows::{each_line, put_str};
 
 // A line, and the forms of which a line may stand behind it.
 const ORDERS: &str = "\
+<language full> = ring mode reader stamp profile order entry statement say
 <ring 64> = mode reader stamp profile order entry statement say
 <mode skip> = reader stamp profile order entry statement say
 <reader late> = stamp profile order entry statement say
@@ -32,6 +33,7 @@ fn form_of(line: &Line<'_>) -> Option<Form> {
 fn put_forms_from(first: Form, out: &mut String) -> Result<(), Fail> {
     let mut gap = "";
     for form in [
+        Form::Language,
         Form::Ring,
         Form::Mode,
         Form::Reader,
@@ -59,7 +61,7 @@ pub fn put_forms_behind(row: &str, out: &mut String) -> Result<(), Fail> {
 
 #[test]
 fn forms_have_an_order(rt: HostRuntime) -> Result<(), Fail> {
-    each_line(rt.alloc(), ORDERS, 9, &Kind::FormsBehind)
+    each_line(rt.alloc(), ORDERS, 10, &Kind::FormsBehind)
 }
 
 #[test]

@@ -12,6 +12,8 @@ mod forms;
 #[cfg(test)]
 mod generated;
 #[cfg(test)]
+mod languages;
+#[cfg(test)]
 mod readers;
 #[cfg(test)]
 mod rows;

@@ -1,6 +1,7 @@
 //! The quick readers of values beside the general one, on the same texts.
 use crate::rows::Kind;
 use crate::texts::inside_of;
+use defmt_grammar::Language;
 use defmt_shapes::{
     Number, Spelling, bytes_of, first_value, quick_bytes, quick_decimal, quick_flag,
     quick_negative, quick_quoted, unescape,
@@ -96,7 +97,7 @@ fn put_bytes(bytes: &[u8], out: &mut String) -> Result<(), Fail> {
 // What the general reader says of a value.
 fn put_meant(alloc: Global, spelling: Spelling<'_>, out: &mut String) -> Result<(), Fail> {
     match spelling {
-        Spelling::Decimal(number) => {
+        Spelling::Decimal(number, _) => {
             put_str(out, "decimal ")?;
             put_number(number, out)
         }
@@ -104,7 +105,7 @@ fn put_meant(alloc: Global, spelling: Spelling<'_>, out: &mut String) -> Result<
             put_str(out, "hexadecimal ")?;
             put_number(number, out)
         }
-        Spelling::Negative(number) => {
+        Spelling::Negative(number, _) => {
             put_str(out, "negative ")?;
             put_number(number, out)
         }
@@ -120,7 +121,7 @@ fn put_meant(alloc: Global, spelling: Spelling<'_>, out: &mut String) -> Result<
 }
 
 fn put_general(alloc: Global, text: &str, out: &mut String) -> Result<(), Fail> {
-    match first_value(alloc, text)? {
+    match first_value(alloc, Language::Base, text)? {
         Some((spelling, rest)) => {
             put_meant(alloc, spelling, out)?;
             put_behind(rest, out)

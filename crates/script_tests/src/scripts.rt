@@ -1,6 +1,8 @@
 //! What scripts say, and the first line for which a text is none.
 use crate::rows::Kind;
-use crate::texts::{put_args, put_lines, put_profile, put_settings, put_whole, script_of};
+use crate::texts::{
+    put_args, put_language, put_lines, put_profile, put_settings, put_whole, script_of,
+};
 use defmt_intern::Entry;
 use defmt_script::{Script, ScriptFault, Step, read};
 use std::alloc::Global;
@@ -231,6 +233,7 @@ fn put_script(alloc: Global, script: &Script, out: &mut String) -> Result<(), Fa
         script.stamp(),
         out,
     )?;
+    put_language(script.table().language(), out)?;
     put_profile(script.profile(), out)?;
     put_orders(script, out)?;
     out.push('\n')?;
@@ -239,14 +242,11 @@ fn put_script(alloc: Global, script: &Script, out: &mut String) -> Result<(), Fa
     put_speakers(script, out)
 }
 
-fn put_said(alloc: Global, text: &str, out: &mut String) -> Result<(), Fail> {
+/// What the script of a text says.
+pub fn said(alloc: Global, text: &str) -> Result<String, Fail> {
     let script = script_of(alloc, text)?;
-    put_script(alloc, &script, out)
-}
-
-fn said(alloc: Global, text: &str) -> Result<String, Fail> {
     let mut out = String::new(alloc);
-    put_said(alloc, text, &mut out)?;
+    put_script(alloc, &script, &mut out)?;
     Ok(out)
 }
 

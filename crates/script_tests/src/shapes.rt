@@ -1,6 +1,7 @@
 //! What texts spell as values and as items, without any table.
 use crate::rows::Kind;
 use crate::texts::{inside_of, put_digits_or_nothing};
+use defmt_grammar::Language;
 use defmt_shapes::{
     Item, Number, Spelling, bytes_of, first_item, first_value, skip_spaces, unescape,
 };
@@ -9,7 +10,7 @@ use std::fmt::Write;
 use std::test::Fail;
 use test_rows::{each_line, put_str};
 
-// What a text spells first, and how many bytes stand behind that.
+// What a text spells first, behind the word of its language where it is Full, and how many bytes stand behind that.
 const VALUES: &str = r#"<7 8> = decimal 7, behind 2
 <0x1F> = hexadecimal 31, behind 0
 <-0> = negative 0, behind 0
@@ -40,7 +41,33 @@ const VALUES: &str = r#"<7 8> = decimal 7, behind 2
 <7)> = none
 <"\q"> = none
 <"\u{d800}"> = none
-<a23456789012345678901234567890123()> = none"#;
+<a23456789012345678901234567890123()> = none
+full <1.5 x> = float 1.5, behind 2
+full <-007.250e-3> = float -007.250e-3, behind 0
+full <2e+5> = float 2e+5, behind 0
+full <NaN> = float NaN, behind 0
+full <-inf x> = float -inf, behind 2
+full <NaN(1)> = call NaN no variant (1), behind 0
+full <7> = decimal 7, behind 0
+full <0x1e5> = hexadecimal 485, behind 0
+full <1.> = none
+full <.5> = none
+full <+1> = none
+full <1e> = none
+full <1E5> = none
+full <1.5)> = none
+full <nan> = none
+full <-NaN> = none
+full <infinity> = none
+full << z()  k:2(1.5) > x> = nodes < z()  k:2(1.5) >, behind 2
+full <<>> = nodes <>, behind 0
+full <<1>> = none
+full <<z()z()>> = none
+full <k(<z()> 2.5)> = call k no variant (<z()> 2.5), behind 0
+<1.5> = none
+<NaN> = none
+<<>> = none
+<k(<z()>)> = none"#;
 
 const ITEMS: &str = "\
 2([] 3) (4) = 2 ([] 3), behind 4";
@@ -91,9 +118,9 @@ fn put_call(
 
 fn put_spelling(spelling: Spelling<'_>, out: &mut String) -> Result<(), Fail> {
     match spelling {
-        Spelling::Decimal(number) => put_numbered("decimal ", number, out),
+        Spelling::Decimal(number, _) => put_numbered("decimal ", number, out),
         Spelling::Hexadecimal(number) => put_numbered("hexadecimal ", number, out),
-        Spelling::Negative(number) => put_numbered("negative ", number, out),
+        Spelling::Negative(number, _) => put_numbered("negative ", number, out),
         Spelling::Flag(flag) => Ok(write!(out, "flag {flag}")?),
         Spelling::Character(character) => Ok(write!(out, "character {character}")?),
         Spelling::Quoted(inside) => Ok(write!(out, "quoted {inside}")?),
@@ -106,11 +133,22 @@ fn put_spelling(spelling: Spelling<'_>, out: &mut String) -> Result<(), Fail> {
         } => put_call(name, variant, inside, out),
         Spelling::Empty => put_str(out, "empty"),
         Spelling::Sequence { name, inside } => Ok(write!(out, "sequence {name} [{inside}]")?),
+        Spelling::Float(text) => Ok(write!(out, "float {text}")?),
+        Spelling::Nodes(inside) => Ok(write!(out, "nodes <{inside}>")?),
+    }
+}
+
+/// The language that a row names, and what follows that.
+pub fn language_of(row: &str) -> (Language, &str) {
+    match row.strip_prefix("full ") {
+        Some(rest) => (Language::Full, rest),
+        None => (Language::Base, row),
     }
 }
 
 pub fn put_value(alloc: Global, row: &str, out: &mut String) -> Result<(), Fail> {
-    match first_value(alloc, inside_of(row)?)? {
+    let (language, row) = language_of(row);
+    match first_value(alloc, language, inside_of(row)?)? {
         Some((spelling, rest)) => {
             put_spelling(spelling, out)?;
             Ok(write!(out, ", behind {}", rest.len())?)
@@ -120,7 +158,7 @@ pub fn put_value(alloc: Global, row: &str, out: &mut String) -> Result<(), Fail>
 }
 
 pub fn put_item(alloc: Global, text: &str, out: &mut String) -> Result<(), Fail> {
-    match first_item(alloc, text)? {
+    match first_item(alloc, Language::Base, text)? {
         Some((Item { variant, inside }, rest)) => {
             put_variant(variant, out)?;
             Ok(write!(out, " ({inside}), behind {}", rest.len())?)
@@ -159,7 +197,7 @@ fn put_calls(opened: u32, closed: u32, text: &mut String) -> Result<(), Fail> {
 }
 
 fn put_behind(alloc: Global, text: &str, out: &mut String) -> Result<(), Fail> {
-    match first_value(alloc, text)? {
+    match first_value(alloc, Language::Base, text)? {
         Some((_, rest)) => Ok(write!(out, "behind {}", rest.len())?),
         None => put_str(out, "none"),
     }
@@ -178,7 +216,7 @@ pub fn put_behind_calls(alloc: Global, row: &str, out: &mut String) -> Result<()
 fn texts_spell_values_or_none_and_deep_brackets_are_closed_one_by_one(
     rt: HostRuntime,
 ) -> Result<(), Fail> {
-    each_line(rt.alloc(), VALUES, 31, &Kind::ValueOf)?;
+    each_line(rt.alloc(), VALUES, 57, &Kind::ValueOf)?;
     each_line(rt.alloc(), DEEP, 2, &Kind::BehindCalls)
 }
 

@@ -1,4 +1,5 @@
 //! The texts of rows, and their scripts. Texts that begin or end with a space, or are empty, stand between `<` and `>`.
+use defmt_grammar::Language;
 use defmt_intern::{Profile, Table};
 use defmt_lines::RingMode;
 use defmt_script::{Script, read};
@@ -64,7 +65,15 @@ pub fn put_profile(profile: Profile, out: &mut String) -> Result<(), Fail> {
     }
 }
 
-/// Puts what the lines in front of the profile set.
+/// Puts the language, where it is the full one.
+pub fn put_language(language: Language, out: &mut String) -> Result<(), Fail> {
+    match language {
+        Language::Base => Ok(()),
+        Language::Full => put_str(out, " language full"),
+    }
+}
+
+/// Puts what the lines between the language and the profile set.
 pub fn put_settings(
     ring: u32,
     mode: RingMode,

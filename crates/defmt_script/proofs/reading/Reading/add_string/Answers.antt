@@ -1,6 +1,6 @@
 use Rattle.std.proofs.Common.{None, ap, arith, length, subst, sym, ◌+◌, ◌<◌, ◌≡◌, ◌≤◌, ◌∙◌}
 use Rattle.std.specs.FinMap as map
-use Rattle.defmt_intern.specs.Body.{body_of}
+use Rattle.defmt_intern.specs.Body.{body_in, body_of}
 use Rattle.defmt_intern.specs.declared.entry.Entry.{Entry}
 use Rattle.defmt_lines.specs.Form.{StringsMayCome}
 use Rattle.defmt_lines.specs.Line.{is_string_tag}
@@ -21,7 +21,9 @@ put_parsed-requires-clause-free c =
     (subst (λ (e : Entry). length e.text ≤ 4096) (sym c.in_ok-entry.ensures) c.requires.short)
 
 pub put_parsed-requires-clause-parsed : goal.put_parsed-requires-clause-parsed
-put_parsed-requires-clause-parsed c = c.requires.parsed ∙ ap body_of (sym c.in_ok-entry.ensures)
+put_parsed-requires-clause-parsed c =
+    let parsed = subst (λ (v : State). c.args.parsed ≡ body_in v.script.table.language c.args.tag c.args.text.now) (sym c.self.view_is) c.requires.parsed in
+    parsed ∙ ap (body_of c.self.inside.table.entries.language) (sym c.in_ok-entry.ensures)
 
 pub invariant_of-self-in_err-put_parsed : goal.invariant_of-self-in_err-put_parsed
 invariant_of-self-in_err-put_parsed c =

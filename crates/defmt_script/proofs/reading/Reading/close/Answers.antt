@@ -1,5 +1,5 @@
 use Rattle.std.proofs.Common.{ap, arith, lit≤, length, not, subst, sym, ◌≤◌, ◌∙◌}
-use Rattle.std.specs.FinMap as map
+use Rattle.defmt_intern.specs.Entries as map
 use Rattle.defmt_intern.specs.declared.entry.Entry.{Entry}
 use Rattle.defmt_script.proofs.Steadiness.{state}
 use Rattle.defmt_script.proofs.StringSteadiness.{is_free, kept_steady, stamp_added, stamped_steady, unstamped_steady}
