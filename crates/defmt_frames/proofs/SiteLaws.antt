@@ -41,17 +41,17 @@ sound_message s stm sound = record {
 }
 
 -- a message has a site with the slots of its text
-pub message_site : (table : Map) (index : ℕ) (entry : Entry) (pieces : List Piece) → look table index ≡ Some entry → is_logged entry.tag ≡ true → body_of entry ≡ One pieces
+pub message_site : (table : Map) (index : ℕ) (entry : Entry) (pieces : List Piece) → look table index ≡ Some entry → is_logged entry.tag ≡ true → body_of table.language entry ≡ One pieces
     → IsSite table index entry.tag (slots_of pieces)
 message_site table index entry pieces there logged body =
-    ap found_in there ∙ ap (λ (b : Bool). if b then found_text entry.tag (body_of entry) else no_message) logged ∙ ap (found_text entry.tag) body
+    ap (found_in table.language) there ∙ ap (λ (b : Bool). if b then found_text entry.tag (body_of table.language entry) else no_message) logged ∙ ap (found_text entry.tag) body
 
 -- the slots of its pieces as they are read are those
-pub own_slots : (table : Map) (index : ℕ) (m : IsMessage table index) (entry : Entry) (body : Parsed) (pieces : List Piece) → look table index ≡ Some entry → body ≡ body_of entry → body ≡ One pieces
+pub own_slots : (table : Map) (index : ℕ) (m : IsMessage table index) (entry : Entry) (body : Parsed) (pieces : List Piece) → look table index ≡ Some entry → body ≡ body_of table.language entry → body ≡ One pieces
     → slots_of pieces ≡ slots_of m.pieces
 own_slots table index m entry body pieces there read is =
     let own : entry ≡ m.entry = same_Some entry m.entry (sym there ∙ m.there) in
-    let both : One pieces ≡ One m.pieces = sym is ∙ read ∙ ap body_of own ∙ m.body in
+    let both : One pieces ≡ One m.pieces = sym is ∙ read ∙ ap (body_of table.language) own ∙ m.body in
     let same : pieces ≡ m.pieces = cc both in
     ap slots_of same
 

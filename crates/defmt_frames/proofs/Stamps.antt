@@ -1,6 +1,6 @@
 -- The stamps of a script suit its table: where there are stamps, the text of the timestamp's entry takes one number of 64 bits.
 use Rattle.std.proofs.Common.{◌≡◌, ◌∙◌, ℕ, [], ◌∷◌, refl, ap, Option, Some, None}
-use Rattle.std.specs.FinMap as map
+use Rattle.defmt_intern.specs.Entries as map
 use Rattle.defmt_encode.proofs.Entries.{own_slots_are, slots_at_places}
 use Rattle.defmt_intern.proofs.Stamps.{stamp_is}
 use Rattle.defmt_encode.specs.Carry.{own_slots, stamp_slots}
@@ -22,7 +22,7 @@ one_number = refl
 
 takes_number : (t : Map) → IsLawfulTable t → (index : ℕ) (entry : Entry) → map.get t index ≡ Some entry → entry.tag ≡ Timestamp → entry.text ≡ stamp_spelling → own_slots t index ≡ OneKind (Uint W64) ∷ []
 takes_number t lawful index entry there tag text =
-    own_slots_are t index entry stamp_pieces (stamp_looks t lawful index entry there) (stamp_body entry tag text) ∙ slots_at_places stamp_pieces ∙ one_number
+    own_slots_are t index entry stamp_pieces (stamp_looks t lawful index entry there) (stamp_body t.language entry tag text) ∙ slots_at_places stamp_pieces ∙ one_number
 
 suits_by : (stamp : Option (ℕ × ℕ)) (t : Map) (n : ℕ) → HasStamp stamp t → IsLawfulTable t → StampSuits t (stamp_in stamp n)
 suits_by None t n has lawful = ap (stamp_slots t) (stamp_is t None lawful has)

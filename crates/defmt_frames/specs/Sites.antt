@@ -37,7 +37,7 @@ pub record IsMessage (table : Map) (index : ℕ) : Type 0 where
   pub pieces : List Piece
   pub there : look table index ≡ Some entry
   pub logged : is_logged entry.tag ≡ true
-  pub body : body_of entry ≡ One pieces
+  pub body : body_of table.language entry ≡ One pieces
 
 -- the site is of the table's entry at this index
 abbrev pub IsSiteOf : Map → ℕ → Site → Type 0

@@ -1,7 +1,7 @@
 -- A call, what is known of its entry in the table, and how its values are spelled.
 use Rattle.std.proofs.Common.{◌≡◌, ◌≤◌, ◌<◌, ◌+◌, ◌^◌, ℕ, true, List, [], ◌∷◌, ◌++◌, Option, Some, Ok, refl, sym, ap, subst, ◌∙◌, arith, length, append-nil, length-append}
 use Rattle.std.specs.Fmt.{decimal}
-use Rattle.std.specs.FinMap as map
+use Rattle.std.specs.FinMap as name_map
 use Rattle.std.proofs.lemmas.Fmt.{decimal_is_IsNumeral}
 use Rattle.defmt_eager.specs.Line.{printed_limit}
 use Rattle.defmt_eager.specs.Show.{eager_text, own_pieces, pieces_in, pieces_text, shows}
@@ -12,6 +12,7 @@ use Rattle.defmt_generate.specs.Generated.{call}
 use Rattle.defmt_generate.proofs.States.{all_names, all_settings, full_table}
 use Rattle.defmt_grammar.specs.declared.hint.Hint.TheVariants as hints
 use Rattle.defmt_grammar.specs.declared.kind.Kind.{Kind}
+use Rattle.defmt_grammar.specs.declared.language.Language.TheVariants.{Base}
 use Rattle.defmt_grammar.specs.declared.piece.Piece.{Piece}
 use Rattle.defmt_grammar.specs.declared.slot.Slot.TheVariants as slots
 use Rattle.defmt_intern.specs.Body.{body_of}
@@ -36,7 +37,7 @@ pub record Call (turn x : ℕ) : Type 0 where
   pub index : ℕ
   pub vs : Vals
   pub fields : field_and_rest (call turn x) ≡ (name, args)
-  pub named : map.get all_names name ≡ Some index
+  pub named : name_map.get all_names name ≡ Some index
   pub logged : is_message full_table index ≡ true
   pub reads : ReadsArguments all_names full_table index args (Ok vs)
   pub short : length (first_message full_table all_settings (record { index = index; args = vs })) ≤ message_limit
@@ -47,14 +48,14 @@ pub record Call (turn x : ℕ) : Type 0 where
 pub record Known (index : ℕ) (ps : List Piece) : Type 0 where
   pub entry : Entry
   pub there : look full_table index ≡ Some entry
-  pub body : body_of entry ≡ One ps
+  pub body : body_of full_table.language entry ≡ One ps
   pub logged : is_logged entry.tag ≡ true
 
 pub is_known : (index : ℕ) (ps : List Piece) → Known index ps → is_message full_table index ≡ true
 is_known index ps k = ap is_message_of k.there ∙ k.logged
 
 own_known : (index : ℕ) (ps : List Piece) → Known index ps → own_pieces full_table index ≡ ps
-own_known index ps k = ap (λ (o : Option Entry). pieces_in (own_form o)) k.there ∙ ap (λ (b : Parsed). pieces_in (own_in b)) k.body
+own_known index ps k = ap (λ (o : Option Entry). pieces_in (own_form full_table.language o)) k.there ∙ ap (λ (b : Parsed). pieces_in (own_in b)) k.body
 
 -- values of these places, which fit
 pub record Given (ps : List Piece) (text : List ℕ) (vs : Vals) : Type 0 where
@@ -63,7 +64,7 @@ pub record Given (ps : List Piece) (text : List ℕ) (vs : Vals) : Type 0 where
   pub fits : FitsVals full_table 16 places vs
   pub light : weigh_vals full_table places 1 vs ≤ 8192
   pub shapes : Shapes
-  pub spelled : SpellsShapes text shapes
+  pub spelled : SpellsShapes Base text shapes
   pub meant : meant_vals all_names full_table places shapes ≡ vs
 
 pub reads_known : (index : ℕ) (ps : List Piece) (text : List ℕ) (vs : Vals) → Known index ps → Given ps text vs → ReadsArguments all_names full_table index text (Ok vs)
@@ -97,10 +98,10 @@ one_most v m h = more_most v no_vals m 0 h none_most
 
 -- ---- spelled values
 
-pub last_spelled : (text : List ℕ) (s : Shape) → SpellsShape text s → SpellsShapes text (shape s no_shapes)
+pub last_spelled : (text : List ℕ) (s : Shape) → SpellsShape Base text s → SpellsShapes Base text (shape s no_shapes)
 last_spelled text s h = ([], text, [], tt, h, tt, tt, sym (append-nil text))
 
-pub two_spelled : (front text : List ℕ) (s u : Shape) → SpellsShape front s → SpellsShape text u → SpellsShapes (front ++ 32 ∷ text) (shape s (shape u no_shapes))
+pub two_spelled : (front text : List ℕ) (s u : Shape) → SpellsShape Base front s → SpellsShape Base text u → SpellsShapes Base (front ++ 32 ∷ text) (shape s (shape u no_shapes))
 two_spelled front text s u h k =
     ([], front, 32 ∷ text, tt, h, refl, (32 ∷ [], text, [], (refl, tt), k, tt, tt, ap (λ (xs : List ℕ). 32 ∷ xs) (sym (append-nil text))), refl)
 

@@ -1,7 +1,7 @@
 -- The nine lines that set up a generated script are read, one after another.
 use Rattle.std.proofs.Common.{◌≡◌, ◌<◌, ◌+◌, ℕ, Bool, true, false, List, [], ◌∷◌, ◌++◌, None, Result, Ok, Err, refl, sym, ap, subst, ◌∙◌, inl, inr, lit≤, lit<, arith}
 use Rattle.std.specs.Prelude.{codes, if◌then◌else◌, is_some, nat_lt, not}
-use Rattle.std.specs.FinMap as map
+use Rattle.std.specs.FinMap as name_map
 use Rattle.std.proofs.lemmas.Bool.Decides.{nat_tests}
 use Rattle.defmt_generate.proofs.Fields.{said}
 use Rattle.defmt_generate.proofs.Texts.{tested}
@@ -9,6 +9,7 @@ use Rattle.defmt_generate.proofs.Words.{boot_pieces, boot_spells, fail_pieces, f
 use Rattle.defmt_generate.specs.Lines.{head_lines}
 use Rattle.defmt_grammar.specs.Cut.{cut}
 use Rattle.defmt_grammar.specs.declared.fault.Mode.TheVariants.{Strict}
+use Rattle.defmt_grammar.specs.declared.language.Language.TheVariants.{Base}
 use Rattle.defmt_intern.specs.declared.entry.Tag.{Tag}
 use Rattle.defmt_intern.specs.declared.entry.Tag.TheVariants as tags
 use Rattle.defmt_lines.specs.Form.{in_order}
@@ -111,18 +112,18 @@ below : (m n : ℕ) → m < n → nat_lt m n ≡ true
 below m n lt = grind (arith, nat_tests)
 
 -- a new string behind so many
-string_taken : (n : ℕ) (s : State) (name : List ℕ) (tag : Tag) (text : List ℕ) → in_order s.first forms.Entry ≡ true → is_name name ≡ true → map.get s.script.names name ≡ None
-    → count_strings s.script ≡ n → n < 65534 → Judges tag text None → Takes s (entry name tag text) (Ok (string_at (n + 1) s name tag text))
+string_taken : (n : ℕ) (s : State) (name : List ℕ) (tag : Tag) (text : List ℕ) → in_order s.first forms.Entry ≡ true → is_name name ≡ true → name_map.get s.script.names name ≡ None
+    → count_strings s.script ≡ n → n < 65534 → Judges s.script.table.language tag text None → Takes s (entry name tag text) (Ok (string_at (n + 1) s name tag text))
 string_taken n s name tag text first spelled new is few judged =
     let taken : Taken = Ok (string_at (n + 1) s name tag text) in
     let next : Taken = Ok (with_string s name tag text) in
-    let fits : admits_string s name ≡ admits = admitted (in_order s.first forms.Entry) (is_name name) (is_some (map.get s.script.names name)) first spelled (ap is_some new) in
+    let fits : admits_string s name ≡ admits = admitted (in_order s.first forms.Entry) (is_name name) (is_some (name_map.get s.script.names name)) first spelled (ap is_some new) in
     let room : nat_lt (count_strings s.script) strings_limit ≡ true = below (count_strings s.script) strings_limit (omega (arith, is, few)) in
     let open_yet : next ≡ takes_string s name tag text None = rw room refl in
     let same : taken ≡ next = ap (λ (k : ℕ). let t : Taken = Ok (string_at (k + 1) s name tag text) in t) (sym is) in
     subst (λ (a : Admitted). TakesString s name tag text a taken) (sym fits) (None, judged, same ∙ open_yet)
 
-boot_judged : Judges tags.Info (codes "boot {=u8}") None
+boot_judged : Judges Base tags.Info (codes "boot {=u8}") None
 unfolding Judges
 boot_judged = inr (lit≤ tt, inl (boot_pieces, boot_spells Strict, refl))
 
@@ -133,7 +134,7 @@ boot_said : Says (codes "s boot defmt_info boot {=u8}") (entry (codes "boot") ta
 unfolding line_by_word entry_of field_and_rest cut
 boot_said = said (codes "s boot defmt_info boot {=u8}") (entry (codes "boot") tags.Info (codes "boot {=u8}")) (tested (codes "s boot defmt_info boot {=u8}") refl) refl
 
-temp_judged : Judges tags.Debug (codes "temp {=i16} of {=[u8]:02x}") None
+temp_judged : Judges Base tags.Debug (codes "temp {=i16} of {=[u8]:02x}") None
 unfolding Judges
 temp_judged = inr (lit≤ tt, inl (temp_pieces, temp_spells Strict, refl))
 
@@ -144,7 +145,7 @@ temp_said : Says (codes "s temp defmt_debug temp {=i16} of {=[u8]:02x}") (entry 
 unfolding line_by_word entry_of field_and_rest cut
 temp_said = said (codes "s temp defmt_debug temp {=i16} of {=[u8]:02x}") (entry (codes "temp") tags.Debug (codes "temp {=i16} of {=[u8]:02x}")) (tested (codes "s temp defmt_debug temp {=i16} of {=[u8]:02x}") refl) refl
 
-link_judged : Judges tags.Warn (codes "link {=bool} {=str:?}") None
+link_judged : Judges Base tags.Warn (codes "link {=bool} {=str:?}") None
 unfolding Judges
 link_judged = inr (lit≤ tt, inl (link_pieces, link_spells Strict, refl))
 
@@ -155,7 +156,7 @@ link_said : Says (codes "s link defmt_warn link {=bool} {=str:?}") (entry (codes
 unfolding line_by_word entry_of field_and_rest cut
 link_said = said (codes "s link defmt_warn link {=bool} {=str:?}") (entry (codes "link") tags.Warn (codes "link {=bool} {=str:?}")) (tested (codes "s link defmt_warn link {=bool} {=str:?}") refl) refl
 
-fail_judged : Judges tags.Error (codes "fail {=u32:#010x}") None
+fail_judged : Judges Base tags.Error (codes "fail {=u32:#010x}") None
 unfolding Judges
 fail_judged = inr (lit≤ tt, inl (fail_pieces, fail_spells Strict, refl))
 
@@ -166,7 +167,7 @@ fail_said : Says (codes "s fail defmt_error fail {=u32:#010x}") (entry (codes "f
 unfolding line_by_word entry_of field_and_rest cut
 fail_said = said (codes "s fail defmt_error fail {=u32:#010x}") (entry (codes "fail") tags.Error (codes "fail {=u32:#010x}")) (tested (codes "s fail defmt_error fail {=u32:#010x}") refl) refl
 
-tick_judged : Judges tags.Trace (codes "tick {=u64}") None
+tick_judged : Judges Base tags.Trace (codes "tick {=u64}") None
 unfolding Judges
 tick_judged = inr (lit≤ tt, inl (tick_pieces, tick_spells Strict, refl))
 

@@ -6,7 +6,8 @@ use Rattle.std.specs.Fmt.{decimal, digit_glyph}
 use Rattle.std.proofs.lemmas.Bool.Decides.{nat_tests}
 use Rattle.std.proofs.lemmas.Fmt.{decimal_digit}
 use Rattle.std.proofs.lemmas.Str.{encode_ascii}
-use Rattle.defmt_eager.proofs.Bounds.{AreBytes, bytes_most, flag_most as shown_flag, int_most as shown_int, str_most as shown_str}
+use Rattle.defmt_eager.proofs.Bounds.{flag_most as shown_flag, int_most as shown_int, str_most as shown_str}
+use Rattle.defmt_eager.proofs.ByteBounds.{AreBytes, bytes_most}
 use Rattle.defmt_eager.specs.Line.{printed_limit}
 use Rattle.defmt_eager.specs.Show.{int_text, pieces_text, show_val, shows}
 use Rattle.defmt_encode.proofs.Most.{bytes_most as carried_bytes, flag_most, int_most, message_short, str_most}
@@ -22,6 +23,7 @@ use Rattle.defmt_grammar.specs.declared.hint.Hint.{Hint}
 use Rattle.defmt_grammar.specs.declared.hint.Hint.TheVariants as hints
 use Rattle.defmt_grammar.specs.declared.kind.IntSize.TheVariants.{W16}
 use Rattle.defmt_grammar.specs.declared.kind.Kind.TheVariants as kinds
+use Rattle.defmt_grammar.specs.declared.language.Language.TheVariants.{Base}
 use Rattle.defmt_grammar.specs.declared.slot.Slot.TheVariants as slots
 use Rattle.defmt_hints.specs.Printed.{printed_bool, printed_bytes, printed_str}
 use Rattle.defmt_intern.proofs.PieceLaws.{pieces_again}
@@ -90,7 +92,7 @@ negated_small (suc k) h = omega (arith, h)
 record Signed (text : List ℕ) : Type 0 where
   shape : Shape
   value : ℤ
-  spelled : SpellsShape text shape
+  spelled : SpellsShape Base text shape
   meant : meant_val all_names full_table (slots.One (kinds.Int W16)) shape ≡ int value
   within : IsSigned 16 value
 
@@ -172,7 +174,7 @@ link_narrow b s few =
     let end : List ℕ = printed_str s hints.Debug ++ [] in
     omega (arith, few, shown_flag b hints.Plain, shown_str s hints.Debug, length-append (printed_bool b) (codes " " ++ end), length-append (printed_str s hints.Debug) [])
 
-flag_spelled : (b : Bool) → SpellsShape (if b then codes "true" else codes "false") (shapes.flag b)
+flag_spelled : (b : Bool) → SpellsShape Base (if b then codes "true" else codes "false") (shapes.flag b)
 flag_spelled true = refl
 flag_spelled false = refl
 
@@ -191,7 +193,7 @@ port d = codes "port" ++ ((48 + d) ∷ [])
 digit_scalar : (d : ℕ) → d < 10 → IsScalar (48 + d)
 digit_scalar d small = grind (arith, nat_tests)
 
-port_spelled : (d : ℕ) → d < 10 → SpellsShape (codes "\"port" ++ (decimal d ++ codes "\"")) (shapes.quoted (port d))
+port_spelled : (d : ℕ) → d < 10 → SpellsShape Base (codes "\"port" ++ (decimal d ++ codes "\"")) (shapes.quoted (port d))
 port_spelled d small =
     let one : decimal d ≡ (48 + d) ∷ [] = decimal_digit d small in
     let t : List ℕ = (48 + d) ∷ [] in
@@ -223,7 +225,7 @@ link_call x =
       reads = reads_known 3 link_pieces _ vs link_known (record {
         places = place kinds.Bool ∷ place kinds.Str ∷ [];
         are = link_places;
-        fits = (place kinds.Bool, place kinds.Str ∷ [], refl, refl, (place kinds.Str, [], refl, refl, refl));
+        fits = (place kinds.Bool, place kinds.Str ∷ [], refl, refl, (place kinds.Str, [], refl, inl refl, refl));
         light = lit≤ tt;
         shapes = shape (shapes.flag even) (shape (shapes.quoted s) no_shapes);
         spelled = two_spelled word quoted (shapes.flag even) (shapes.quoted s) (flag_spelled even) (port_spelled (x % 10) (omega arith));

@@ -1,7 +1,7 @@
 -- Statement by statement, a generated text reads as a script.
 use Rattle.std.proofs.Common.{◌≡◌, ◌≤◌, ◌<◌, ◌+◌, ◌%◌, ℕ, zero, suc, Bool, true, false, List, [], ◌∷◌, ◌++◌, Some, Result, Ok, Err, refl, sym, ap, subst, ◌∙◌, arith, length, length-append, inl}
 use Rattle.std.specs.Prelude.{if◌then◌else◌, nat_lt, not}
-use Rattle.std.specs.FinMap as map
+use Rattle.std.specs.FinMap as name_map
 use Rattle.std.proofs.lemmas.Bool.Decides.{nat_tests}
 use Rattle.defmt_eager.specs.Line.{printed_limit}
 use Rattle.defmt_eager.specs.Show.{eager_text}
@@ -14,6 +14,7 @@ use Rattle.defmt_generate.proofs.Head.{head_read}
 use Rattle.defmt_generate.proofs.States.{all_counted, all_names, all_settings, full_table, ready}
 use Rattle.defmt_generate.proofs.Lines.{generated_lines, statement_printable}
 use Rattle.defmt_generate.specs.Lines.{head_lines, statement_line, statement_lines}
+use Rattle.defmt_intern.specs.Entries as map
 use Rattle.defmt_intern.specs.Table.{Map}
 use Rattle.defmt_lines.specs.Form.{in_order}
 use Rattle.defmt_lines.specs.Line.{Line, Says, act}
@@ -108,7 +109,7 @@ module _ (i x turn w : ℕ) (s : State) (f : Follows i s) (few : i < 4096) (c : 
 
   is_admitted : admits_statement (closed s) (Some w) c.name ≡ Ok (w, c.index)
   is_admitted =
-      ap (λ (m : NameMap). admits_index (closed s) w (map.get m c.name)) f.names
+      ap (λ (m : NameMap). admits_index (closed s) w (name_map.get m c.name)) f.names
       ∙ ap (admits_index (closed s) w) c.named
       ∙ admitted (is_message (closed s).script.table c.index) (nat_lt (count_statements (closed s).script) statements_limit) (w, c.index)
       (ap (λ (t : Map). is_message t c.index) f.table ∙ c.logged) (below (count_statements (closed s).script) statements_limit (omega (arith, f.all, few)))

@@ -1,10 +1,12 @@
 -- The states behind each of the nine lines that set up a generated script, with their names and entries.
 use Rattle.std.proofs.Common.{◌≡◌, ◌+◌, ℕ, false, List, [], ◌∷◌, Option, Some, None, refl, ap, ◌∙◌}
 use Rattle.std.specs.Prelude.{codes}
-use Rattle.std.specs.FinMap as map
-use Rattle.std.specs.Cmp.{nat_cmp_total}
+use Rattle.std.specs.FinMap as name_map
 use Rattle.std.specs.Cmp.Lexicographic.{nat_list_cmp_total, slice_cmp}
 use Rattle.std.specs.Ordering.{nat_cmp}
+use Rattle.defmt_grammar.specs.declared.language.Language.TheVariants.{Base}
+use Rattle.defmt_intern.proofs.EntriesLaws.{get-from_entries}
+use Rattle.defmt_intern.specs.Entries as map
 use Rattle.defmt_intern.specs.Table.{Map}
 use Rattle.defmt_intern.specs.declared.entry.Entry.{Entry}
 use Rattle.defmt_intern.specs.declared.entry.Tag.TheVariants as tags
@@ -20,9 +22,9 @@ use Rattle.defmt_script.specs.State.{State, entry_at, no_statements, stamp_entry
 use Rattle.defmt_spelling.specs.Names.{NameMap}
 use Rattle.rtt_terminal.specs.Speech.{silence}
 
--- the settings with these stamps, profile One and no orders
+-- the settings with these stamps, the language Base, profile One and no orders
 abbrev with_stamps : Option (ℕ × ℕ) → Settings
-with_stamps stamps = record { ring = 1024; mode = Block; late = false; stamp = stamps; profile = profiles.One; orders = [] }
+with_stamps stamps = record { language = Base; ring = 1024; mode = Block; late = false; stamp = stamps; profile = profiles.One; orders = [] }
 
 -- the settings behind the first four lines
 abbrev pub all_settings : Settings
@@ -35,7 +37,7 @@ settled form stamps = record {
   script = record {
     settings = with_stamps stamps;
     table = map.empty;
-    names = map.empty;
+    names = name_map.empty;
     writers = no_statements;
     said = silence 8;
   };
@@ -81,7 +83,7 @@ abbrev five_names : Named
 five_names = (codes "tick", 5) ∷ four_names
 
 abbrev pub all_names : NameMap
-all_names = map.from_entries five_names
+all_names = name_map.from_entries five_names
 
 abbrev Entries : Type 0
 Entries = List (ℕ × Entry)
@@ -96,20 +98,20 @@ entries =
     ∷ (1, entry_at 1 tags.Info (codes "boot {=u8}")) ∷ []
 
 abbrev pub full_table : Map
-full_table = map.from_entries entries
+full_table = map.from_entries Base entries
 
-pub name_there : (name : List ℕ) (index : Option ℕ) → map.find (slice_cmp nat_cmp) name five_names ≡ index → map.get all_names name ≡ index
-name_there name index is = map.get-from_entries nat_list_cmp_total five_names name ∙ is
+pub name_there : (name : List ℕ) (index : Option ℕ) → name_map.find (slice_cmp nat_cmp) name five_names ≡ index → name_map.get all_names name ≡ index
+name_there name index is = name_map.get-from_entries nat_list_cmp_total five_names name ∙ is
 
-pub entry_there : (index : ℕ) (o : Option Entry) → map.find nat_cmp index entries ≡ o → map.get full_table index ≡ o
-entry_there index o is = map.get-from_entries nat_cmp_total entries index ∙ is
+pub entry_there : (index : ℕ) (o : Option Entry) → name_map.find nat_cmp index entries ≡ o → map.get full_table index ≡ o
+entry_there index o is = get-from_entries Base entries index ∙ is
 
-pub new_name : (es : Named) (name : List ℕ) → map.find (slice_cmp nat_cmp) name es ≡ None → map.get (map.from_entries {R = slice_cmp nat_cmp} es) name ≡ None
-new_name es name none = map.get-from_entries nat_list_cmp_total es name ∙ none
+pub new_name : (es : Named) (name : List ℕ) → name_map.find (slice_cmp nat_cmp) name es ≡ None → name_map.get (name_map.from_entries {R = slice_cmp nat_cmp} es) name ≡ None
+new_name es name none = name_map.get-from_entries nat_list_cmp_total es name ∙ none
 
 -- ---- how many strings there are
 
-one_more : (names : NameMap) (name : List ℕ) (k n : ℕ) → map.get names name ≡ None → map.len names ≡ n → map.len (map.insert names name k) ≡ n + 1
+one_more : (names : NameMap) (name : List ℕ) (k n : ℕ) → name_map.get names name ≡ None → name_map.len names ≡ n → name_map.len (name_map.insert names name k) ≡ n + 1
 one_more names name k n new is = len-added names name k new ∙ ap (λ (m : ℕ). m + 1) is
 
 pub none_yet : count_strings no_strings.script ≡ 0

@@ -6,7 +6,7 @@ use Rattle.defmt_grammar.proofs.ReadingLaws.{flushed_some, joined_chars}
 use Rattle.defmt_grammar.proofs.StepLaws.{step_spells, then_tokens}
 use Rattle.defmt_grammar.specs.Cut.{before, behind, cut, lead, number_of, strip}
 use Rattle.defmt_grammar.specs.Grammar.{NoClash, NoGap, Spells, SpellsTokens, Token, char, hole, joined, uses_of}
-use Rattle.defmt_grammar.specs.Hint.{base_of, hint_of, radix_of, width_of}
+use Rattle.defmt_grammar.specs.Hint.{base_of, fill_of, hint_of, radix_of, width_of}
 use Rattle.defmt_grammar.specs.Kind.{bits_of, count_of, kind_of, shape_of}
 use Rattle.defmt_grammar.specs.Param.{param_of, parts_after, position_of, written_of}
 use Rattle.defmt_grammar.specs.Step.{Read, hole as hole_step, plain, run, step_of}
@@ -154,30 +154,30 @@ two_holes mode text c cs p d ds q h =
 -- ---- the five texts
 
 boot_first : (mode : Mode) → step_of mode 0 (codes "boot {=u8}") ≡ okay (run (codes "boot "), codes "{=u8}")
-unfolding step_of plain strip behind before cut lead param_of written_of parts_after position_of number_of kind_of shape_of count_of bits_of hint_of radix_of base_of width_of
+unfolding step_of plain strip behind before cut lead param_of written_of parts_after position_of number_of kind_of shape_of count_of bits_of hint_of radix_of base_of width_of fill_of
 boot_first mode = refl
 
 boot_second : (mode : Mode) → step_of mode 0 (codes "{=u8}") ≡ okay (hole_step (param 0 (kinds.Uint W8) hints.Plain) 1, [])
-unfolding step_of plain strip behind before cut lead param_of written_of parts_after position_of number_of kind_of shape_of count_of bits_of hint_of radix_of base_of width_of
+unfolding step_of plain strip behind before cut lead param_of written_of parts_after position_of number_of kind_of shape_of count_of bits_of hint_of radix_of base_of width_of fill_of
 boot_second mode = refl
 
 pub boot_spells : (mode : Mode) → Spells (codes "boot {=u8}") mode boot_pieces
 boot_spells mode = one_hole mode (codes "boot {=u8}") _ _ (param 0 (kinds.Uint W8) hints.Plain) (record { rest = codes "{=u8}"; first = boot_first mode; second = boot_second mode; position = refl })
 
 temp_first : (mode : Mode) → step_of mode 0 (codes "temp {=i16} of {=[u8]:02x}") ≡ okay (run (codes "temp "), codes "{=i16} of {=[u8]:02x}")
-unfolding step_of plain strip behind before cut lead param_of written_of parts_after position_of number_of kind_of shape_of count_of bits_of hint_of radix_of base_of width_of
+unfolding step_of plain strip behind before cut lead param_of written_of parts_after position_of number_of kind_of shape_of count_of bits_of hint_of radix_of base_of width_of fill_of
 temp_first mode = refl
 
 temp_second : (mode : Mode) → step_of mode 0 (codes "{=i16} of {=[u8]:02x}") ≡ okay (hole_step (param 0 (kinds.Int W16) hints.Plain) 1, codes " of {=[u8]:02x}")
-unfolding step_of plain strip behind before cut lead param_of written_of parts_after position_of number_of kind_of shape_of count_of bits_of hint_of radix_of base_of width_of
+unfolding step_of plain strip behind before cut lead param_of written_of parts_after position_of number_of kind_of shape_of count_of bits_of hint_of radix_of base_of width_of fill_of
 temp_second mode = refl
 
 temp_third : (mode : Mode) → step_of mode 1 (codes " of {=[u8]:02x}") ≡ okay (run (codes " of "), codes "{=[u8]:02x}")
-unfolding step_of plain strip behind before cut lead param_of written_of parts_after position_of number_of kind_of shape_of count_of bits_of hint_of radix_of base_of width_of
+unfolding step_of plain strip behind before cut lead param_of written_of parts_after position_of number_of kind_of shape_of count_of bits_of hint_of radix_of base_of width_of fill_of
 temp_third mode = refl
 
 temp_fourth : (mode : Mode) → step_of mode 1 (codes "{=[u8]:02x}") ≡ okay (hole_step (param 1 kinds.Bytes (hints.Radix Hex false 2)) 2, [])
-unfolding step_of plain strip behind before cut lead param_of written_of parts_after position_of number_of kind_of shape_of count_of bits_of hint_of radix_of base_of width_of
+unfolding step_of plain strip behind before cut lead param_of written_of parts_after position_of number_of kind_of shape_of count_of bits_of hint_of radix_of base_of width_of fill_of
 temp_fourth mode = refl
 
 pub temp_spells : (mode : Mode) → Spells (codes "temp {=i16} of {=[u8]:02x}") mode temp_pieces
@@ -194,19 +194,19 @@ temp_spells mode = two_holes mode (codes "temp {=i16} of {=[u8]:02x}") _ _ (para
 })
 
 link_first : (mode : Mode) → step_of mode 0 (codes "link {=bool} {=str:?}") ≡ okay (run (codes "link "), codes "{=bool} {=str:?}")
-unfolding step_of plain strip behind before cut lead param_of written_of parts_after position_of number_of kind_of shape_of count_of bits_of hint_of radix_of base_of width_of
+unfolding step_of plain strip behind before cut lead param_of written_of parts_after position_of number_of kind_of shape_of count_of bits_of hint_of radix_of base_of width_of fill_of
 link_first mode = refl
 
 link_second : (mode : Mode) → step_of mode 0 (codes "{=bool} {=str:?}") ≡ okay (hole_step (param 0 kinds.Bool hints.Plain) 1, codes " {=str:?}")
-unfolding step_of plain strip behind before cut lead param_of written_of parts_after position_of number_of kind_of shape_of count_of bits_of hint_of radix_of base_of width_of
+unfolding step_of plain strip behind before cut lead param_of written_of parts_after position_of number_of kind_of shape_of count_of bits_of hint_of radix_of base_of width_of fill_of
 link_second mode = refl
 
 link_third : (mode : Mode) → step_of mode 1 (codes " {=str:?}") ≡ okay (run (codes " "), codes "{=str:?}")
-unfolding step_of plain strip behind before cut lead param_of written_of parts_after position_of number_of kind_of shape_of count_of bits_of hint_of radix_of base_of width_of
+unfolding step_of plain strip behind before cut lead param_of written_of parts_after position_of number_of kind_of shape_of count_of bits_of hint_of radix_of base_of width_of fill_of
 link_third mode = refl
 
 link_fourth : (mode : Mode) → step_of mode 1 (codes "{=str:?}") ≡ okay (hole_step (param 1 kinds.Str hints.Debug) 2, [])
-unfolding step_of plain strip behind before cut lead param_of written_of parts_after position_of number_of kind_of shape_of count_of bits_of hint_of radix_of base_of width_of
+unfolding step_of plain strip behind before cut lead param_of written_of parts_after position_of number_of kind_of shape_of count_of bits_of hint_of radix_of base_of width_of fill_of
 link_fourth mode = refl
 
 pub link_spells : (mode : Mode) → Spells (codes "link {=bool} {=str:?}") mode link_pieces
@@ -223,22 +223,22 @@ link_spells mode = two_holes mode (codes "link {=bool} {=str:?}") _ _ (param 0 k
 })
 
 fail_first : (mode : Mode) → step_of mode 0 (codes "fail {=u32:#010x}") ≡ okay (run (codes "fail "), codes "{=u32:#010x}")
-unfolding step_of plain strip behind before cut lead param_of written_of parts_after position_of number_of kind_of shape_of count_of bits_of hint_of radix_of base_of width_of
+unfolding step_of plain strip behind before cut lead param_of written_of parts_after position_of number_of kind_of shape_of count_of bits_of hint_of radix_of base_of width_of fill_of
 fail_first mode = refl
 
 fail_second : (mode : Mode) → step_of mode 0 (codes "{=u32:#010x}") ≡ okay (hole_step (param 0 (kinds.Uint W32) (hints.Radix Hex true 10)) 1, [])
-unfolding step_of plain strip behind before cut lead param_of written_of parts_after position_of number_of kind_of shape_of count_of bits_of hint_of radix_of base_of width_of
+unfolding step_of plain strip behind before cut lead param_of written_of parts_after position_of number_of kind_of shape_of count_of bits_of hint_of radix_of base_of width_of fill_of
 fail_second mode = refl
 
 pub fail_spells : (mode : Mode) → Spells (codes "fail {=u32:#010x}") mode fail_pieces
 fail_spells mode = one_hole mode (codes "fail {=u32:#010x}") _ _ (param 0 (kinds.Uint W32) (hints.Radix Hex true 10)) (record { rest = codes "{=u32:#010x}"; first = fail_first mode; second = fail_second mode; position = refl })
 
 tick_first : (mode : Mode) → step_of mode 0 (codes "tick {=u64}") ≡ okay (run (codes "tick "), codes "{=u64}")
-unfolding step_of plain strip behind before cut lead param_of written_of parts_after position_of number_of kind_of shape_of count_of bits_of hint_of radix_of base_of width_of
+unfolding step_of plain strip behind before cut lead param_of written_of parts_after position_of number_of kind_of shape_of count_of bits_of hint_of radix_of base_of width_of fill_of
 tick_first mode = refl
 
 tick_second : (mode : Mode) → step_of mode 0 (codes "{=u64}") ≡ okay (hole_step (param 0 (kinds.Uint W64) hints.Plain) 1, [])
-unfolding step_of plain strip behind before cut lead param_of written_of parts_after position_of number_of kind_of shape_of count_of bits_of hint_of radix_of base_of width_of
+unfolding step_of plain strip behind before cut lead param_of written_of parts_after position_of number_of kind_of shape_of count_of bits_of hint_of radix_of base_of width_of fill_of
 tick_second mode = refl
 
 pub tick_spells : (mode : Mode) → Spells (codes "tick {=u64}") mode tick_pieces

@@ -1,3 +1,4 @@
+mod Alike
 mod Lengths
 pub mod Messages
 mod Places

@@ -116,7 +116,7 @@ each_fits t (val v vs) places (p, ps, e, h, hs) =
 -- the values of a fitting statement fit the slots of its site
 pub fitting : (t : Map) (index : ℕ) (tag : Tag) (slots : List Slot) (vs : Vals) → Fits t index vs → IsSite t index tag slots → FitSlots t slots vs
 fitting t index tag slots vs f site =
-    let there : own_form (look t index) ≡ Ok f.pieces = rw f.there (ap own_in f.body) in
+    let there : own_form t.language (look t index) ≡ Ok f.pieces = rw f.there (ap own_in f.body) in
     let same : slots_at (places_of f.pieces) ≡ slots = slots_from f.pieces 0 (slots_of f.pieces) ∙ ap slots_in (sym there) ∙ own t index tag slots site in
     let P : List Slot → Type 0 = λ ss. FitSlots t ss vs in
     subst P same (each_fits t vs (places_of f.pieces) f.values)

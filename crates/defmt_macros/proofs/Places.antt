@@ -1,6 +1,7 @@
 -- What holds of sites and of the places where lists of slots differ.
 use Rattle.std.proofs.Common.{◌≡◌, ◌≤◌, ℕ, ◌+◌, length, arith, Bool, true, false, cond, List, [], ◌∷◌, Option, Some, None, refl, sym, ap, ◌∙◌, subst, inl, inr}
 use Rattle.defmt_encode.specs.Carry.{slots_in, own_slots}
+use Rattle.defmt_grammar.specs.declared.language.Language.{Language}
 use Rattle.defmt_grammar.specs.declared.slot.Slot.{Slot}
 use Rattle.defmt_intern.specs.Body.{body_of}
 use Rattle.defmt_intern.specs.Table.{Map}
@@ -72,13 +73,13 @@ logged_by true own tag Unsupported slots l p = absurd (cc)
 logged_by true own tag Raw slots l p = absurd (cc)
 logged_by true own tag (Variants forms) slots l p = absurd (cc)
 
-logged_in : (o : Option Entry) (tag : Tag) (slots : List Slot) → found_in o ≡ message tag slots → is_logged tag ≡ true
-logged_in None tag slots p = absurd (cc)
-logged_in (Some e) tag slots p = logged_by (is_logged e.tag) e.tag tag (body_of e) slots refl p
+logged_in : (language : Language) (o : Option Entry) (tag : Tag) (slots : List Slot) → found_in language o ≡ message tag slots → is_logged tag ≡ true
+logged_in language None tag slots p = absurd (cc)
+logged_in language (Some e) tag slots p = logged_by (is_logged e.tag) e.tag tag (body_of language e) slots refl p
 
 -- a site's tag is a message's
 pub logged : (t : Map) (index : ℕ) (tag : Tag) (slots : List Slot) → IsSite t index tag slots → is_logged tag ≡ true
-logged t index tag slots p = logged_in (look t index) tag slots p
+logged t index tag slots p = logged_in t.language (look t index) tag slots p
 
 own_by : (b : Bool) (own tag : Tag) (body : Parsed) (slots : List Slot) → Told b own body ≡ message tag slots → slots_in (own_in body) ≡ slots
 own_by false own tag body slots p = absurd (cc)
@@ -87,13 +88,13 @@ own_by true own tag Unsupported slots p = absurd (cc)
 own_by true own tag Raw slots p = absurd (cc)
 own_by true own tag (Variants forms) slots p = absurd (cc)
 
-own_at : (o : Option Entry) (tag : Tag) (slots : List Slot) → found_in o ≡ message tag slots → slots_in (own_form o) ≡ slots
-own_at None tag slots p = absurd (cc)
-own_at (Some e) tag slots p = own_by (is_logged e.tag) e.tag tag (body_of e) slots p
+own_at : (language : Language) (o : Option Entry) (tag : Tag) (slots : List Slot) → found_in language o ≡ message tag slots → slots_in (own_form language o) ≡ slots
+own_at language None tag slots p = absurd (cc)
+own_at language (Some e) tag slots p = own_by (is_logged e.tag) e.tag tag (body_of language e) slots p
 
 -- a site's slots are those of its entry's text
 pub own : (t : Map) (index : ℕ) (tag : Tag) (slots : List Slot) → IsSite t index tag slots → own_slots t index ≡ slots
-own t index tag slots p = own_at (look t index) tag slots p
+own t index tag slots p = own_at t.language (look t index) tag slots p
 
 -- ---- one answer
 

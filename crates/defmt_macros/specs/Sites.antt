@@ -2,6 +2,7 @@
 use Rattle.std.specs.Prelude.{◌≡◌, ◌⊎◌, ◌+◌, ℕ, List, [], ◌∷◌, Option, Some, None, Result, Ok, Err, if◌then◌else◌}
 use Rattle.std.specs.Borrow.{Bor}
 use Rattle.defmt_grammar.specs.Slots.{slots_of}
+use Rattle.defmt_grammar.specs.declared.language.Language.{Language}
 use Rattle.defmt_grammar.specs.declared.slot.Slot.{Slot}
 use Rattle.defmt_intern.specs.Body.{body_of}
 use Rattle.defmt_intern.specs.Table.{Map}
@@ -26,13 +27,14 @@ abbrev pub found_text : Tag → Parsed → Found
 found_text tag (One pieces) = message tag (slots_of pieces)
 found_text tag body = no_text
 
-abbrev pub found_in : Option Entry → Found
-found_in None = no_entry
-found_in (Some e) = if is_logged e.tag then found_text e.tag (body_of e) else no_message
+abbrev pub found_in : Language → Option Entry → Found
+found_in language None = no_entry
+found_in language (Some e) =
+    if is_logged e.tag then found_text e.tag (body_of language e) else no_message
 
 -- what a table has at an index
 abbrev pub found : Map → ℕ → Found
-found t index = found_in (look t index)
+found t index = found_in t.language (look t index)
 
 -- the entry at the index is a message's with this tag, and its text has these slots
 abbrev pub IsSite : Map → ℕ → Tag → List Slot → Type 0

@@ -20,7 +20,7 @@ use Rattle.defmt_script.specs.Lawful.{first_message}
 use Rattle.rtt_down.specs.Modes.{FirstMode, IsMode, is_mode_line}
 use Rattle.defmt_script.specs.Reads.{Reads, ReadsLines, Takes, TakesAction, TakesString, TakesStatement, admits_statement, admits_string, admits_text, takes_arguments, takes_string, takes_text, with_settings, with_statement, with_string, with_text}
 use Rattle.defmt_script.specs.Script.{Script, count_strings, next_index}
-use Rattle.defmt_script.specs.State.{State, closed, no_lines, strings_limit, with_stamp_entry}
+use Rattle.defmt_script.specs.State.{State, closed, no_lines, strings_limit, table_behind, with_stamp_entry}
 use Rattle.defmt_values.specs.Plain.{Vals}
 use Rattle.defmt_values.specs.declared.value.Statement.{Statement}
 
@@ -83,6 +83,7 @@ settings_closed s = settings_if (in_order s.first forms.Entry) s (record s {
 
 -- no other line changes the mode
 mode_kept : (form : Form) (words : List (List ℕ)) (s t : Settings) → Sets form words s (Ok t) → is_mode_line (head form words) ≡ false → t.mode ≡ s.mode
+mode_kept forms.Language (word ∷ []) s t set is = ap (λ (x : Settings). x.mode) set.2
 mode_kept forms.Ring (word ∷ []) s t set is = ap (λ (x : Settings). x.mode) set.2
 mode_kept forms.Reader (word ∷ []) s t set is = ap (λ (x : Settings). x.mode) set.3
 mode_kept forms.Stamp (base ∷ step ∷ []) s t set is = ap (λ (x : Settings). x.mode) set.3
@@ -95,7 +96,7 @@ set_by : (before after : State) (form : Form) (words : List (List ℕ)) (set : R
     → Ok after ≡ with_settings before form set → after.script.settings.mode ≡ before.script.settings.mode
 set_by before after form words (Err cause) given is taken = absurd (cc taken)
 set_by before after form words (Ok t) given is taken =
-    let same : after ≡ record before { first = next form; script = record before.script { settings = t } } = cc taken in
+    let same : after ≡ record before { first = next form; script = record before.script { settings = t; table = table_behind form t.language before.script.table } } = cc taken in
     ap (λ (x : State). x.script.settings.mode) same ∙ mode_kept form words before.script.settings t given is
 
 string_by : (before after : State) (name : List ℕ) (tag : Tag) (text : List ℕ) (verdict : Option ℕ) → Ok after ≡ takes_string before name tag text verdict → after.script.settings ≡ before.script.settings
