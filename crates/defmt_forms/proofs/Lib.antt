@@ -1,2 +1,4 @@
+mod Controls
+mod Lines
 pub mod Literals
 pub mod Runs

@@ -1,8 +1,10 @@
 -- A front of a text that stands for itself.
-use Rattle.std.proofs.Common.{◌≡◌, ◌<◌, ◌+◌, ◌==◌, ◌&&◌, ◌||◌, ℕ, Bool, true, false, not, List, [], ◌∷◌, ◌++◌, cond, length, take, drop, get_or, refl, sym, ◌∙◌, ap, arith}
+use Rattle.std.proofs.Common.{◌≡◌, ◌<◌, ◌+◌, ◌==◌, ◌&&◌, ℕ, Bool, true, false, not, List, [], ◌∷◌, ◌++◌, cond, length, take, drop, get_or, refl, sym, ◌∙◌, ap, arith}
 use Rattle.std.specs.Prelude.{nat_le, nat_lt, slice_index}
-use Rattle.std.proofs.lemmas.Bool.{eqb-false, false≢true, le-leb, ltb-false}
+use Rattle.std.specs.List.{list_all}
+use Rattle.std.proofs.lemmas.Bool.{and_parts, eqb-false, false≢true, le-leb, ltb-false}
 use Rattle.std.proofs.lemmas.List.{append-nil, append_assoc, drop_more, take_more}
+use Rattle.std.proofs.lemmas.List.Folds.{list_all-append}
 use Rattle.json.proofs.Printed.Strings.{escape_byte_plain}
 use Rattle.json.specs.Print.{escape}
 use Rattle.defmt_forms.specs.Tamed.{Tames, begins_upper, is_bare, is_plain}
@@ -19,6 +21,16 @@ one_more f text i within plain so =
     so ∙ ap (λ (l : List ℕ). take i text ++ f l) (drop_more text i 0 within) ∙ ap (λ (l : List ℕ). take i text ++ l) plain
     ∙ sym (append_assoc (take i text) (get_or text i 0 ∷ []) (f (drop (i + 1) text)))
     ∙ ap (λ (l : List ℕ). l ++ f (drop (i + 1) text)) (sym (take_more text i 0 within))
+
+and_true : (b : Bool) → (b && true) ≡ b
+and_true true = refl
+and_true false = refl
+
+-- a test that each byte so far passes, and of one byte more
+pub test_more : (test : ℕ → Bool) (text : List ℕ) (i : ℕ) (so : Bool) → i < length text → so ≡ list_all test (take i text) → (so && test (get_or text i 0)) ≡ list_all test (take (i + 1) text)
+test_more test text i so within is =
+    ap (λ (b : Bool). b && test (get_or text i 0)) is ∙ ap (λ (b : Bool). list_all test (take i text) && b) (sym (and_true (test (get_or text i 0))))
+    ∙ sym (ap (list_all test) (take_more text i 0 within) ∙ list_all-append test (take i text) (get_or text i 0 ∷ []))
 
 -- what is done of a text and what is left make the whole, behind such a front
 pub behind_front : (f : List ℕ → List ℕ) (text old now after : List ℕ) (i : ℕ) → Stands f text i → after ≡ now ++ take i text → now ++ f text ≡ old → after ++ f (drop i text) ≡ old
@@ -42,6 +54,13 @@ bare_byte byte rest e =
     let no = no_one (nat_lt byte 32) (byte == 34) (byte == 92) e in
     ap (λ (l : List ℕ). l ++ escape rest) (escape_byte_plain byte (eqb-false byte 34 no.1) (eqb-false byte 92 no.2) (ltb-false byte 32 no.0))
 
+-- and a text in which none does
+pub all_bare : (text : List ℕ) → list_all is_bare text ≡ true → escape text ≡ text
+all_bare [] h = refl
+all_bare (c ∷ cs) h =
+    let parts = and_parts (is_bare c) (list_all is_bare cs) h in
+    bare_byte c cs parts.0 ∙ ap (λ (l : List ℕ). c ∷ l) (all_bare cs parts.1)
+
 -- ---- texts for a terminal
 
 -- a byte that stands for itself, whatever is behind it
@@ -54,6 +73,14 @@ plain_byte byte (next ∷ rest) e =
     let no = neither (is_control byte) (byte == 194) e in
     ap (λ (b : Bool). cond {A = List ℕ} (b && (nat_le 128 next && nat_le next 159)) (tamed next ++ tame rest) (tame_byte byte ++ tame (next ∷ rest))) no.1
     ∙ ap (λ (b : Bool). cond {A = List ℕ} b (tamed byte) (byte ∷ []) ++ tame (next ∷ rest)) no.0
+
+-- and a text of such bytes
+pub all_plain : (text : List ℕ) → list_all is_plain text ≡ true → tame text ≡ text
+unfolding tame
+all_plain [] h = refl
+all_plain (c ∷ cs) h =
+    let parts = and_parts (is_plain c) (list_all is_plain cs) h in
+    plain_byte c cs parts.0 ∙ ap (λ (l : List ℕ). c ∷ l) (all_plain cs parts.1)
 
 -- ---- the first character of a text for a terminal
 

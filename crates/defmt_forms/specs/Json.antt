@@ -1,6 +1,7 @@
 -- The objects of printed lines, as compact JSON (RFC 8259) with the escapes of `serde_json`.
-use Rattle.std.specs.Prelude.{ℕ, Bool, List, [], ◌++◌, codes, Option, Some, None, option_map, if◌then◌else◌}
+use Rattle.std.specs.Prelude.{◌≡◌, ℕ, Bool, true, nat_le, List, [], ◌++◌, codes, Option, Some, None, option_map, if◌then◌else◌}
 use Rattle.std.specs.Fmt.{decimal}
+use Rattle.std.specs.List.{list_all}
 use Rattle.defmt_forms.specs.Names.{level_name}
 use Rattle.defmt_hooks.specs.declared.level.Level.{Level}
 use Rattle.json.specs.Print.{quoted}
@@ -56,6 +57,12 @@ abbrev pub loss_object : List ℕ → ℕ → ℕ → ℕ → ℕ → List ℕ
 loss_object done writer statement need room =
     object done (number_member (codes "writer") writer ++ (number_member (codes "statement") statement
     ++ (number_member (codes "need") need ++ number_member (codes "room") room)))
+
+-- ---- that an object is one line
+
+-- no byte below the space stands in a text
+abbrev pub HasNoBreak : List ℕ → Type 0
+HasNoBreak text = list_all (nat_le 32) text ≡ true
 
 -- ---- for private clauses
 

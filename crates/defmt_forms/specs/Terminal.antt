@@ -1,5 +1,5 @@
 -- Lines with colors, for a terminal (ECMA-48, Select Graphic Rendition).
-use Rattle.std.specs.Prelude.{◌/◌, ◌%◌, ◌==◌, ◌&&◌, ◌||◌, ℕ, Bool, not, nat_lt, nat_le, List, [], ◌∷◌, ◌++◌, codes, Option, Some, None, option_map, if◌then◌else◌}
+use Rattle.std.specs.Prelude.{◌≡◌, ◌/◌, ◌%◌, ◌==◌, ◌&&◌, ◌||◌, ℕ, Bool, false, not, nat_lt, nat_le, List, [], ◌∷◌, ◌++◌, codes, Option, Some, None, option_map, if◌then◌else◌}
 use Rattle.std.specs.Char.{digit_char}
 use Rattle.defmt_forms.specs.Names.{level_gap, level_name, place_part}
 use Rattle.defmt_hooks.specs.declared.level.Level.{Level}
@@ -32,6 +32,13 @@ tame [] = []
 tame (byte ∷ []) = tame_byte byte
 tame (lead ∷ byte ∷ rest) =
     if is_upper_control lead byte then tamed byte ++ tame rest else tame_byte lead ++ tame (byte ∷ rest)
+
+-- no control character but newline and tab stands in a text
+abbrev pub HasNoControls : List ℕ → Type 0
+HasNoControls [] = Unit {0}
+HasNoControls (byte ∷ []) = is_control byte ≡ false
+HasNoControls (lead ∷ byte ∷ rest) =
+    (is_control lead ≡ false) × (is_upper_control lead byte ≡ false) × HasNoControls (byte ∷ rest)
 
 -- ---- colors
 

@@ -2,7 +2,7 @@
 //!
 //! Each call appends to a buffer. A line comes with what it says apart: its stamp, its level, its package, its own text and its place
 //! in the sources. In a terminal's line each control character but newline and tab is written as its number, so that a log can't
-//! steer the terminal. On want of memory a front may have been appended.
+//! steer the terminal. On want of memory it isn't said what was appended.
 //!
 //! So the text `a"b` is `"a\"b"` in JSON, and an escape character is `\u{1b}` for a terminal (program_tests, `forms`).
 #![tactic(auto)]
@@ -18,7 +18,8 @@ pub use color::{add_alarm, add_color_line, add_warning};
 pub use names::level_name;
 pub use objects::{
     add_json_fault, add_json_front, add_json_gap, add_json_line, add_json_loss, add_json_tail,
+    objects_are_lines,
 };
 pub use plain::add_plain_line;
 pub use quoted::add_quoted;
-pub use tame::add_tame;
+pub use tame::{add_tame, tame_has_no_controls};

@@ -1,6 +1,7 @@
 //! Texts in JSON.
 ghost use Rattle.std.specs.Prelude.{◌≡◌, ◌≤◌, ◌/◌, ◌%◌, ◌++◌, ◌∷◌, [], length, take, drop, OnOk};
 ghost use Rattle.std.specs.Char.{digit_char};
+ghost use Rattle.std.specs.List.{list_all};
 ghost use Rattle.defmt_forms.specs.Tamed.{is_bare};
 ghost use Rattle.json.specs.Print.{escape, escape_byte, quoted};
 
@@ -16,8 +17,29 @@ pub fn add_quoted(text: &[u8], out: &mut Bytes) -> Result<(), Memory>
     out.push(b'"')
 }
 
-// Appends a text with its escapes: what needs none up to the next byte that does, and then that byte.
-fn add_escaped(text: &[u8], out: &mut Bytes) -> Result<(), Memory>
+/// Appends a text with its escapes.
+pub(crate) fn add_escaped(text: &[u8], out: &mut Bytes) -> Result<(), Memory>
+    ensures { OnOk result (out.new.items ≡ out.old.items ++ escape text.now) }
+{
+    if is_all_bare(text) {
+        return out.extend_from_slice(text);
+    }
+    add_runs(text, out)
+}
+
+// Whether no byte needs an escape. Each is looked at, so that the compiler can test many at once.
+fn is_all_bare(text: &[u8]) -> bool
+    ensures { result ≡ list_all is_bare text.now }
+{
+    let mut bare = true;
+    for byte in text {
+        bare &= is_bare(*byte);
+    }
+    bare
+}
+
+// The same of any text: what needs no escape up to the next byte that does, and then that byte.
+fn add_runs(text: &[u8], out: &mut Bytes) -> Result<(), Memory>
     ensures { OnOk result (out.new.items ≡ out.old.items ++ escape text.now) }
 {
     let mut rest = text;

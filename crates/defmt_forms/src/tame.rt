@@ -1,13 +1,35 @@
 //! Texts that can't steer a terminal.
-ghost use Rattle.std.specs.Prelude.{◌≡◌, ◌≤◌, ◌<◌, ◌++◌, ◌∷◌, [], length, take, drop, OnOk, IfOk};
+ghost use Rattle.std.specs.Prelude.{◌≡◌, ◌≤◌, ◌<◌, ◌++◌, ◌∷◌, [], ℕ, List, length, take, drop, OnOk, IfOk};
 ghost use Rattle.std.specs.Char.{digit_char};
-ghost use Rattle.defmt_forms.specs.Terminal.{is_control, is_upper_control, tame, tame_byte, tamed};
+ghost use Rattle.std.specs.List.{list_all};
+ghost use Rattle.defmt_forms.specs.Terminal.{HasNoControls, is_control, is_upper_control, tame, tame_byte, tamed};
 ghost use Rattle.defmt_forms.specs.Tamed.{Tames, begins_upper, is_plain};
 
 use dl_io::{Bytes, Memory};
 
 /// Appends a text, in which each control character but newline and tab is written as its number.
 pub fn add_tame(text: &[u8], out: &mut Bytes) -> Result<(), Memory>
+    ensures { OnOk result (out.new.items ≡ out.old.items ++ tame text.now) }
+{
+    if is_all_plain(text) {
+        return out.extend_from_slice(text);
+    }
+    add_runs(text, out)
+}
+
+// Whether each byte stands for itself, whatever is behind it. Each is looked at, so that the compiler can test many at once.
+fn is_all_plain(text: &[u8]) -> bool
+    ensures { result ≡ list_all is_plain text.now }
+{
+    let mut plain = true;
+    for byte in text {
+        plain &= is_plain(*byte);
+    }
+    plain
+}
+
+// The same of any text: what stands for itself up to the next character that may not, and then that.
+fn add_runs(text: &[u8], out: &mut Bytes) -> Result<(), Memory>
     ensures { OnOk result (out.new.items ≡ out.old.items ++ tame text.now) }
 {
     let mut rest = text;
@@ -22,6 +44,11 @@ pub fn add_tame(text: &[u8], out: &mut Bytes) -> Result<(), Memory>
         rest = &rest[taken..];
     }
 }
+
+/// What is written for a terminal has no control character but newline and tab, whatever the bytes of the text.
+pub fn tame_has_no_controls()
+    ensures { (text : List ℕ) → HasNoControls (tame text) }
+{}
 
 // How many bytes at the front stand for themselves, whatever is behind them.
 fn plain_run(text: &[u8]) -> usize

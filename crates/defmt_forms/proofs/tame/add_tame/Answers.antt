@@ -1,13 +1,11 @@
-use Rattle.std.proofs.Common.{◌++◌, ◌-◌, arith, drop, length, length-drop, length-take, List, ℕ}
-use Rattle.std.proofs.lemmas.List.{nil_from_length}
-use Rattle.defmt_forms.proofs.Runs.{behind_front, no_more}
-use Rattle.defmt_forms.specs.Terminal.{tame}
+use Rattle.std.proofs.Common.{◌≡◌, ◌++◌, ◌∙◌, List, ap, sym, ℕ}
+use Rattle.std.proofs.lemmas.Result.{on_ok_weaker}
+use Rattle.defmt_forms.proofs.Runs.{all_plain}
 use Rattle.defmt_forms.proofs.tame.add_tame.Goals as goal
 
-pub returns-then-rest-eq0 : goal.returns-then-rest-eq0
-returns-then-rest-eq0 c =
-    let rest : List ℕ = drop c.plain_run-run.result c.runs.rest.now in
-    let whole : List ℕ = c.args.out.now.items ++ tame c.args.text.now in
-    no_more rest whole c.extend_from_slice.new.self.items (nil_from_length rest (omega (arith, c.if-rest-eq0.true, length-take (length c.runs.rest.now - c.plain_run-run.result) rest, length-drop c.plain_run-run.result c.runs.rest.now)))
-    (behind_front tame c.runs.rest.now whole c.runs.out.items c.extend_from_slice.new.self.items c.plain_run-run.result c.plain_run-run.ensures.plain
-    c.in_ok-extend_from_slice.ensures.ok c.runs.invariant)
+pub returns-then-is_all_plain : goal.returns-then-is_all_plain
+returns-then-is_all_plain c =
+    let same = all_plain c.args.text.now (sym c.is_all_plain.ensures ∙ c.if-is_all_plain.true) in
+    on_ok_weaker c.extend_from_slice.result
+    (λ (e : c.extend_from_slice.new.self.items ≡ c.args.out.now.items ++ c.args.text.now). e ∙ ap (λ (l : List ℕ). c.args.out.now.items ++ l) (sym same))
+    c.extend_from_slice.ensures.ok

@@ -1,6 +1,6 @@
 use Rattle.std.proofs.Common.{◌≡◌, ◌++◌, length}
 use Rattle.json.specs.Print.{escape}
-use Rattle.defmt_forms.proofs.quoted.add_escaped.Given as goal
+use Rattle.defmt_forms.proofs.quoted.add_runs.Given as goal
 
 abbrev pub invariant-runs : goal.invariant-runs
 invariant-runs l = l.out.items ++ escape l.rest ≡ l.fn.out.items ++ escape l.fn.text
