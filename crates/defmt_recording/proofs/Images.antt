@@ -64,14 +64,14 @@ module _ (options : DumpOptions) (input : Input) (shelf : Files) where
   given : (image : List ℕ) → GaveWithin recording_limit input image → IsRest input.left image
   given image whole = all_taken input.left input.left_after image whole.taken whole.at_end
 
-  module _ (table : Table) (places : PlaceMap) (loaded : Loaded shelf options.table table) (are : ArePlaces shelf options.places places) where
+  module _ (table : Table) (places : PlaceMap) (loaded : Loaded options.language shelf options.table table) (are : ArePlaces shelf options.places places) where
     abbrev look : Look
     look = look_by options.style table.entries places
 
     of_image : (image : List ℕ) (fault : Fault) → IsRest input.left image → fault ≡ fault_of_image options image table places → MayDump fault
     of_image image fault rest is =
         let later = placed (fault_of_image options image table) shelf options.places places are in
-        of_table last options.table input shelf table image later.0 fault loaded rest later.1 (is ∙ sym later.2)
+        of_table last options.language options.table input shelf table image later.0 fault loaded rest later.1 (is ∙ sym later.2)
 
     of_all : (bytes rest : List ℕ) (output : Output) (fault : Fault) → Gives options input bytes → HearsAll look false table (at_hand bytes rest) output fault → MayDump fault
     of_all bytes rest output fault gives heard =
@@ -103,13 +103,13 @@ module _ (options : DumpOptions) (input : Input) (shelf : Files) where
     none_may output fault none = absurd none
 
   -- no places
-  of_no_places : (table : Table) → Loaded shelf options.table table → (text : List ℕ) → IsRest input.left text
+  of_no_places : (table : Table) → Loaded options.language shelf options.table table → (text : List ℕ) → IsRest input.left text
       → (fault : Fault) → MayPlace (fault_of_image options text table) shelf options.places fault → MayDump fault
-  of_no_places table loaded text rest fault may = of_table last options.table input shelf table text may.0 fault loaded rest may.1 (sym may.2)
+  of_no_places table loaded text rest fault may = of_table last options.language options.table input shelf table text may.0 fault loaded rest may.1 (sym may.2)
 
   pub dump_may : (output : Output) (fault : Fault) → Dumps options input shelf output fault
       → OrFailing (Unit {0}) (Unit {0}) input shelf output MayDump fault
-  dump_may output fault (inl (inl no_table, unread, unwritten)) = refused_may last options.table input shelf output fault no_table
+  dump_may output fault (inl (inl no_table, unread, unwritten)) = refused_may last options.language options.table input shelf output fault no_table
   dump_may output fault (inl (inr no_places, unread, unwritten)) =
       let text = any_text input.left in
       let last_of = fault_of_image options text.0 no_places.0 in
@@ -122,5 +122,5 @@ module _ (options : DumpOptions) (input : Input) (shelf : Files) where
 
 -- no decoding of an image comes to wrong words
 pub dump_words : (options : DumpOptions) (input : Input) (shelf : Files) (output : Output) → Dumps options input shelf output Words → ⊥
-dump_words options input shelf output (inl refused) = never_words shelf options.table options.places refused.0
+dump_words options input shelf output (inl refused) = never_words options.language shelf options.table options.places refused.0
 dump_words options input shelf output (inr shown) = elim shown.4 [ inl none ↦ none.0 | inr some ↦ some.4 ]

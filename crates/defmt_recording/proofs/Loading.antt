@@ -3,6 +3,7 @@ use Rattle.std.proofs.Common.{◌≡◌, inl, inr, ◌≤◌, ℕ, List, Option,
 use Rattle.std.specs.Prelude.{Result, nat_lt}
 use Rattle.std.proofs.lemmas.Bool.{cond-false, cond-true, le-ltb, lt-ltb}
 use Rattle.dl_io.specs.Outside.{Lacks}
+use Rattle.defmt_grammar.specs.declared.language.Language.{Language}
 use Rattle.defmt_intern.specs.Catalog.{Catalog}
 use Rattle.defmt_intern.specs.declared.table.Table.{Table}
 use Rattle.elf_table.specs.Names.{AnswersOnly, ReadsTable}
@@ -35,25 +36,25 @@ in_other_words input shelf output P Q to fault so = to fault so
 
 -- ---- a fault is what some inputs as told come to
 
-module _ (last : List ℕ → (List ℕ → Option (List ℕ)) → Catalog → Fault) (name : List ℕ) (input : Input) (shelf : Files) where
+module _ (last : List ℕ → (List ℕ → Option (List ℕ)) → Catalog → Fault) (language : Language) (name : List ℕ) (input : Input) (shelf : Files) where
   abbrev pub MayLoad : Fault → Type 0
-  MayLoad fault = (inputs : Inputs) × AreAsTold input.left shelf.files inputs × LoadingComesTo (last inputs.text inputs.later) (inputs.files name) fault
+  MayLoad fault = (inputs : Inputs) × AreAsTold input.left shelf.files inputs × LoadingComesTo language (last inputs.text inputs.later) (inputs.files name) fault
 
   -- with this file and this text
   of_file : (file text : List ℕ) (later : List ℕ → Option (List ℕ)) (fault : Fault) → IsFile shelf.files name file → IsRest input.left text → AreFiles shelf.files later
-      → LoadingComesTo (last text later) (Some file) fault → MayLoad fault
+      → LoadingComesTo language (last text later) (Some file) fault → MayLoad fault
   of_file file text later fault found rest told comes =
       let files = with_file shelf.files name file found in
       let inputs : Inputs = record { text = text; files = files.0; later = later } in
       let as_told : AreAsTold input.left shelf.files inputs = record { text = rest; files = files.1; later = told } in
-      (inputs, as_told, subst (λ (o : Option (List ℕ)). LoadingComesTo (last text later) o fault) (sym files.2) comes)
+      (inputs, as_told, subst (λ (o : Option (List ℕ)). LoadingComesTo language (last text later) o fault) (sym files.2) comes)
 
-  pub of_table : (table : Table) (text : List ℕ) (later : List ℕ → Option (List ℕ)) (fault : Fault) → Loaded shelf name table → IsRest input.left text → AreFiles shelf.files later
+  pub of_table : (table : Table) (text : List ℕ) (later : List ℕ → Option (List ℕ)) (fault : Fault) → Loaded language shelf name table → IsRest input.left text → AreFiles shelf.files later
       → fault ≡ last text later table → MayLoad fault
   of_table table text later fault loaded rest told is = of_file loaded.file text later fault loaded.fetched rest told (inr (loaded.within, (Ok table, loaded.names, is)))
 
   -- whatever stands in the source and on the shelf later
-  of_any : (file : List ℕ) (fault : Fault) → IsFile shelf.files name file → ((text : List ℕ) (later : List ℕ → Option (List ℕ)) → LoadingComesTo (last text later) (Some file) fault) → MayLoad fault
+  of_any : (file : List ℕ) (fault : Fault) → IsFile shelf.files name file → ((text : List ℕ) (later : List ℕ → Option (List ℕ)) → LoadingComesTo language (last text later) (Some file) fault) → MayLoad fault
   of_any file fault found comes =
       let text = any_text input.left in
       let later = any_files shelf.files in
@@ -65,7 +66,7 @@ module _ (last : List ℕ → (List ℕ → Option (List ℕ)) → Catalog → F
       let text = any_text input.left in
       let inputs : Inputs = record { text = text.0; files = files; later = files } in
       let as_told : AreAsTold input.left shelf.files inputs = record { text = text.1; files = told; later = told } in
-      (inputs, as_told, subst (λ (o : Option (List ℕ)). LoadingComesTo (last text.0 files) o Shelf) (sym none) refl)
+      (inputs, as_told, subst (λ (o : Option (List ℕ)). LoadingComesTo language (last text.0 files) o Shelf) (sym none) refl)
 
   name_may : (output : Output) (fault : Fault) → RefusesName shelf name fault → OrFailing (Unit {0}) (Unit {0}) input shelf output MayLoad fault
   name_may output Memory refuses = tt
@@ -78,7 +79,7 @@ module _ (last : List ℕ → (List ℕ → Option (List ℕ)) → Catalog → F
       of_any found.0 Long found.1 (λ text later. inl (found.2, refl))
   name_may output fault refuses = absurd refuses
 
-  file_may : (output : Output) (fault : Fault) (file : List ℕ) → IsFile shelf.files name file → length file ≤ table_limit → RefusesFile file fault → OrFailing (Unit {0}) (Unit {0}) input shelf output MayLoad fault
+  file_may : (output : Output) (fault : Fault) (file : List ℕ) → IsFile shelf.files name file → length file ≤ table_limit → RefusesFile language file fault → OrFailing (Unit {0}) (Unit {0}) input shelf output MayLoad fault
   file_may output Memory file found short refuses = tt
   file_may output (Elf cause part place) file found short refuses =
       of_any file (Elf cause part place) found (λ text later. inr (short, (Err (loads.Elf cause part place), refuses, refl)))
@@ -86,7 +87,7 @@ module _ (last : List ℕ → (List ℕ → Option (List ℕ)) → Catalog → F
       of_any file (Names cause symbol) found (λ text later. inr (short, (Err (loads.Names cause symbol), refuses, refl)))
   file_may output fault file found short refuses = absurd refuses
 
-  pub refused_may : (output : Output) (fault : Fault) → RefusesTable shelf name fault → OrFailing (Unit {0}) (Unit {0}) input shelf output MayLoad fault
+  pub refused_may : (output : Output) (fault : Fault) → RefusesTable language shelf name fault → OrFailing (Unit {0}) (Unit {0}) input shelf output MayLoad fault
   refused_may output fault (inl no_file) = name_may output fault no_file
   refused_may output fault (inr no_table) = file_may output fault no_table.0 no_table.1 no_table.2 no_table.3
 
@@ -165,34 +166,34 @@ no_places_words shelf None refuses = refuses
 no_places_words shelf (Some name) (inl no_file) = no_file
 no_places_words shelf (Some name) (inr no_places) = no_places.3
 
-pub never_words : (shelf : Files) (name : List ℕ) (places : Option (List ℕ)) → RefusesFiles shelf name places Words → ⊥
-never_words shelf name places (inl (inl no_file)) = no_file
-never_words shelf name places (inl (inr no_table)) = no_table.3
-never_words shelf name places (inr no_places) = no_places_words shelf places no_places.2
+pub never_words : (language : Language) (shelf : Files) (name : List ℕ) (places : Option (List ℕ)) → RefusesFiles language shelf name places Words → ⊥
+never_words language shelf name places (inl (inl no_file)) = no_file
+never_words language shelf name places (inl (inr no_table)) = no_table.3
+never_words language shelf name places (inr no_places) = no_places_words shelf places no_places.2
 
 -- ---- inputs come to one fault
 
-module _ (last : Catalog → Fault) where
+module _ (language : Language) (last : Catalog → Fault) where
   same_answer : (read wanted : Result Table LoadFault) (fault : Fault) → AnswersOnly read wanted → ReadingComesTo last read fault → read ≡ wanted
   same_answer (Ok table) wanted fault only comes = only
   same_answer (Err (loads.Elf cause part place)) wanted fault only comes = only
   same_answer (Err (loads.Names cause symbol)) wanted fault only comes = only
   same_answer (Err loads.Memory) wanted fault only comes = absurd comes
 
-  one_load : (file : List ℕ) (read wanted : Result Table LoadFault) (fault other : Fault) → ReadsTable file read → ReadsTable file wanted
+  one_load : (file : List ℕ) (read wanted : Result Table LoadFault) (fault other : Fault) → ReadsTable language file read → ReadsTable language file wanted
       → ReadingComesTo last read fault → ReadingComesTo last wanted other → fault ≡ other
   one_load file read (Ok table) fault other reads wants comes also =
-      let same = same_answer read (Ok table) fault (names_only file read table reads wants) comes in
+      let same = same_answer read (Ok table) fault (names_only language file read table reads wants) comes in
       let here = subst (λ (r : Result Table LoadFault). ReadingComesTo last r fault) same comes in here ∙ sym also
   one_load file read (Err (loads.Elf cause part place)) fault other reads wants comes also =
-      let same = same_answer read (Err (loads.Elf cause part place)) fault (elf_only file read (record { cause = cause; part = part; place = place }) reads wants) comes in
+      let same = same_answer read (Err (loads.Elf cause part place)) fault (elf_only language file read (record { cause = cause; part = part; place = place }) reads wants) comes in
       let here = subst (λ (r : Result Table LoadFault). ReadingComesTo last r fault) same comes in here ∙ sym also
   one_load file read (Err (loads.Names cause symbol)) fault other reads wants comes also =
-      let same = same_answer read (Err (loads.Names cause symbol)) fault (symbol_only file read cause symbol reads wants) comes in
+      let same = same_answer read (Err (loads.Names cause symbol)) fault (symbol_only language file read cause symbol reads wants) comes in
       let here = subst (λ (r : Result Table LoadFault). ReadingComesTo last r fault) same comes in here ∙ sym also
   one_load file read (Err loads.Memory) fault other reads wants comes also = absurd also
 
-  pub load_one : (file : Option (List ℕ)) (fault other : Fault) → LoadingComesTo last file other → LoadingComesTo last file fault → fault ≡ other
+  pub load_one : (file : Option (List ℕ)) (fault other : Fault) → LoadingComesTo language last file other → LoadingComesTo language last file fault → fault ≡ other
   load_one None fault other a b = b ∙ sym a
   load_one (Some file) fault other (inl a) (inl b) = b.1 ∙ sym a.1
   load_one (Some file) fault other (inl a) (inr b) = absurd (omega (arith, a.0, b.0))

@@ -43,13 +43,13 @@ module _ (options : DecodeOptions) (input : Input) (shelf : Files) where
   abbrev last : List ℕ → (List ℕ → Option (List ℕ)) → Catalog → Fault
   last text later table = fault_of_named (fault_of_recording options.style options.live text table) options.places later
 
-  of_recording : (table : Table) (places : PlaceMap) (recording : List ℕ) (fault : Fault) → Loaded shelf options.table table → ArePlaces shelf options.places places → IsRest input.left recording
+  of_recording : (table : Table) (places : PlaceMap) (recording : List ℕ) (fault : Fault) → Loaded options.language shelf options.table table → ArePlaces shelf options.places places → IsRest input.left recording
       → fault ≡ fault_of_recording options.style options.live recording table places → MayDecode fault
   of_recording table places recording fault loaded are rest is =
       let later = placed (fault_of_recording options.style options.live recording table) shelf options.places places are in
-      of_table last options.table input shelf table recording later.0 fault loaded rest later.1 (is ∙ sym later.2)
+      of_table last options.language options.table input shelf table recording later.0 fault loaded rest later.1 (is ∙ sym later.2)
 
-  module _ (table : Table) (places : PlaceMap) (loaded : Loaded shelf options.table table) (are : ArePlaces shelf options.places places) where
+  module _ (table : Table) (places : PlaceMap) (loaded : Loaded options.language shelf options.table table) (are : ArePlaces shelf options.places places) where
     abbrev look : Look
     look = look_by options.style table.entries places
 
@@ -76,13 +76,13 @@ module _ (options : DecodeOptions) (input : Input) (shelf : Files) where
     hears_may output fault hears = absurd hears
 
   -- no places
-  of_no_places : (table : Table) → Loaded shelf options.table table → (text : List ℕ) → IsRest input.left text
+  of_no_places : (table : Table) → Loaded options.language shelf options.table table → (text : List ℕ) → IsRest input.left text
       → (fault : Fault) → MayPlace (fault_of_recording options.style options.live text table) shelf options.places fault → MayDecode fault
-  of_no_places table loaded text rest fault may = of_table last options.table input shelf table text may.0 fault loaded rest may.1 (sym may.2)
+  of_no_places table loaded text rest fault may = of_table last options.language options.table input shelf table text may.0 fault loaded rest may.1 (sym may.2)
 
   pub decode_may : (output : Output) (fault : Fault) → Decodes options input shelf output fault
       → OrFailing (Unit {0}) (Unit {0}) input shelf output MayDecode fault
-  decode_may output fault (inl (inl no_table, unread, unwritten)) = refused_may last options.table input shelf output fault no_table
+  decode_may output fault (inl (inl no_table, unread, unwritten)) = refused_may last options.language options.table input shelf output fault no_table
   decode_may output fault (inl (inr no_places, unread, unwritten)) =
       let text = any_text input.left in
       let last_of = fault_of_recording options.style options.live text.0 no_places.0 in
@@ -92,5 +92,5 @@ module _ (options : DecodeOptions) (input : Input) (shelf : Files) where
 
 -- no decoding comes to wrong words
 pub decode_words : (options : DecodeOptions) (input : Input) (shelf : Files) (output : Output) → Decodes options input shelf output Words → ⊥
-decode_words options input shelf output (inl refused) = never_words shelf options.table options.places refused.0
+decode_words options input shelf output (inl refused) = never_words options.language shelf options.table options.places refused.0
 decode_words options input shelf output (inr heard) = heard.4

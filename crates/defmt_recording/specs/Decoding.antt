@@ -2,6 +2,7 @@
 use Rattle.std.specs.Prelude.{◌≡◌, ◌⊎◌, ◌<◌, ◌≤◌, ◌&&◌, ℕ, zero, suc, min, Bool, not, nat_lt, List, filter, length, Option, Some, None, Result, Ok, Err, if◌then◌else◌}
 use Rattle.std.specs.FinMap as map
 use Rattle.dl_io.specs.Outside.{HasFile, Lacks, Rose, last_count}
+use Rattle.defmt_grammar.specs.declared.language.Language.{Language}
 use Rattle.defmt_hooks.specs.declared.level.Level.{Level as AnyLevel}
 use Rattle.defmt_intern.specs.Catalog.{Catalog}
 use Rattle.defmt_intern.specs.declared.table.Table.{Table}
@@ -32,19 +33,19 @@ abbrev pub IsFile : Option (List ℕ → Option (List ℕ)) → List ℕ → Lis
 IsFile None name file = Unit {0}
 IsFile (Some files) name file = files name ≡ Some file
 
--- The file of this name names this table.
-pub record Loaded (files : Files) (name : List ℕ) (table : Table) : Type 0 where
+-- The file of this name names this table of this language.
+pub record Loaded (language : Language) (files : Files) (name : List ℕ) (table : Table) : Type 0 where
   pub file : List ℕ
   pub fetched : IsFile files.files name file
   pub within : length file ≤ table_limit
-  pub names : NamesTable file table
+  pub names : NamesTable language file table
 
 -- why a file gives no table
-abbrev pub RefusesFile : List ℕ → Fault → Type 0
-RefusesFile file Memory = Unit {0}
-RefusesFile file (Elf cause part place) = Refused file (record { cause = cause; part = part; place = place })
-RefusesFile file (Names cause symbol) = SymbolRefused file cause symbol
-RefusesFile file fault = ⊥
+abbrev pub RefusesFile : Language → List ℕ → Fault → Type 0
+RefusesFile language file Memory = Unit {0}
+RefusesFile language file (Elf cause part place) = Refused file (record { cause = cause; part = part; place = place })
+RefusesFile language file (Names cause symbol) = SymbolRefused language file cause symbol
+RefusesFile language file fault = ⊥
 
 -- why a name gives no file
 abbrev pub RefusesName : Files → List ℕ → Fault → Type 0
@@ -54,10 +55,10 @@ RefusesName files name Long = HasFile files.files name (λ file. table_limit < l
 RefusesName files name fault = ⊥
 
 -- Why a name gives no table: it gives no file, or its file gives none.
-abbrev pub RefusesTable : Files → List ℕ → Fault → Type 0
-RefusesTable files name fault =
+abbrev pub RefusesTable : Language → Files → List ℕ → Fault → Type 0
+RefusesTable language files name fault =
     RefusesName files name fault
-    ⊎ ((file : List ℕ) × IsFile files.files name file × (length file ≤ table_limit) × RefusesFile file fault)
+    ⊎ ((file : List ℕ) × IsFile files.files name file × (length file ≤ table_limit) × RefusesFile language file fault)
 
 -- ---- places
 
@@ -95,9 +96,9 @@ RefusesPlaces files None fault = ⊥
 RefusesPlaces files (Some name) fault = RefusesPlacesAt files name fault
 
 -- Why there is no table, or no places: the file of the places is asked for once the table is there.
-abbrev pub RefusesFiles : Files → List ℕ → Option (List ℕ) → Fault → Type 0
-RefusesFiles files name places fault =
-    RefusesTable files name fault ⊎ ((table : Table) × Loaded files name table × RefusesPlaces files places fault)
+abbrev pub RefusesFiles : Language → Files → List ℕ → Option (List ℕ) → Fault → Type 0
+RefusesFiles language files name places fault =
+    RefusesTable language files name fault ⊎ ((table : Table) × Loaded language files name table × RefusesPlaces files places fault)
 
 -- ---- what all events come to
 
@@ -143,8 +144,8 @@ Hears l live table input output fault = ⊥
 -- What stands at each fault: nothing was touched but the shelf, or table and places were loaded, and this became of the recording.
 abbrev pub Decodes : DecodeOptions → Input → Files → Output → Fault → Type 0
 Decodes options input files output fault =
-    (RefusesFiles files options.table options.places fault × IsUnread input × IsUnwritten output)
-    ⊎ ((table : Table) × (places : PlaceMap) × Loaded files options.table table × ArePlaces files options.places places
+    (RefusesFiles options.language files options.table options.places fault × IsUnread input × IsUnwritten output)
+    ⊎ ((table : Table) × (places : PlaceMap) × Loaded options.language files options.table table × ArePlaces files options.places places
     × Hears (look_by options.style table.entries places) options.live table input output fault)
 
 -- ---- what told inputs come to, where nothing fails and memory is there
@@ -163,11 +164,11 @@ ReadingComesTo last (Err (loads.Names cause symbol)) fault = fault ≡ Names cau
 ReadingComesTo last (Err loads.Memory) fault = ⊥
 
 -- the same with the table's file, if there is one
-abbrev pub LoadingComesTo : (Catalog → Fault) → Option (List ℕ) → Fault → Type 0
-LoadingComesTo last None fault = fault ≡ Shelf
-LoadingComesTo last (Some file) fault =
+abbrev pub LoadingComesTo : Language → (Catalog → Fault) → Option (List ℕ) → Fault → Type 0
+LoadingComesTo language last None fault = fault ≡ Shelf
+LoadingComesTo language last (Some file) fault =
     ((table_limit < length file) × (fault ≡ Long))
-    ⊎ ((length file ≤ table_limit) × ((read : Result Table LoadFault) × ReadsTable file read × ReadingComesTo last read fault))
+    ⊎ ((length file ≤ table_limit) × ((read : Result Table LoadFault) × ReadsTable language file read × ReadingComesTo last read fault))
 
 -- what is done last, by the places, where their file is read so
 abbrev pub fault_of_places : (PlaceMap → Fault) → Result PlaceMap Refusal → Fault
@@ -187,5 +188,5 @@ fault_of_named last (Some name) files = fault_of_file last (files name)
 -- a recording, by the options of `decode`
 abbrev pub DecodingComesTo : DecodeOptions → Inputs → Fault → Type 0
 DecodingComesTo options inputs fault =
-    LoadingComesTo (λ table. fault_of_named (fault_of_recording options.style options.live inputs.text table) options.places inputs.later)
+    LoadingComesTo options.language (λ table. fault_of_named (fault_of_recording options.style options.live inputs.text table) options.places inputs.later)
     (inputs.files options.table) fault

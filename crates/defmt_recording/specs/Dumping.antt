@@ -54,7 +54,7 @@ GivesNone options input fault = ⊥
 -- ---- what stands at each fault
 
 -- By a table and places: the source gave no bytes, and nothing was written, or it did, and this became of them as of a recording that
--- is at hand.
+-- is at hand. Of that the rest is what a fault left unheard; where all was heard there is none.
 abbrev pub Shows : DumpOptions → Look → Catalog → Input → Output → Fault → Type 0
 Shows options l table input output fault =
     (GivesNone options input fault × IsUnwritten output)
@@ -64,8 +64,8 @@ Shows options l table input output fault =
 -- Nothing was touched but the shelf, or table and places were loaded, and then this.
 abbrev pub Dumps : DumpOptions → Input → Files → Output → Fault → Type 0
 Dumps options input files output fault =
-    (RefusesFiles files options.table options.places fault × IsUnread input × IsUnwritten output)
-    ⊎ ((table : Table) × (places : PlaceMap) × Loaded files options.table table × ArePlaces files options.places places
+    (RefusesFiles options.language files options.table options.places fault × IsUnread input × IsUnwritten output)
+    ⊎ ((table : Table) × (places : PlaceMap) × Loaded options.language files options.table table × ArePlaces files options.places places
     × Shows options (look_by options.style table.entries places) table input output fault)
 
 -- ---- what told inputs come to, where nothing fails and memory is there
@@ -86,7 +86,7 @@ fault_of_image options image table places =
 -- an image, by the options of `dump`
 abbrev pub DumpingComesTo : DumpOptions → Inputs → Fault → Type 0
 DumpingComesTo options inputs fault =
-    LoadingComesTo (λ table. fault_of_named (fault_of_image options inputs.text table) options.places inputs.later)
+    LoadingComesTo options.language (λ table. fault_of_named (fault_of_image options inputs.text table) options.places inputs.later)
     (inputs.files options.table) fault
 
 -- ---- for private clauses

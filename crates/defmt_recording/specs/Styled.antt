@@ -17,9 +17,9 @@ use Rattle.defmt_hooks.specs.declared.level.Floor.TheVariants.{At}
 use Rattle.defmt_hooks.specs.declared.level.Level.{Level}
 use Rattle.defmt_hooks.specs.declared.rules.Rules.{Rules}
 use Rattle.defmt_intern.specs.Catalog.{Catalog}
+use Rattle.defmt_intern.specs.Entries as entries
 use Rattle.defmt_intern.specs.Stamp.{stamp_of}
 use Rattle.defmt_intern.specs.Table.{Map}
-use Rattle.defmt_intern.specs.contracts.entry.Entry.{the_row as entry_row}
 use Rattle.defmt_intern.specs.declared.entry.Entry.{Entry}
 use Rattle.defmt_listen.specs.Heard.{Reporting, Reports, lines_from, recording_limit}
 use Rattle.defmt_places.specs.Places.{Map as PlaceMap}
@@ -217,7 +217,7 @@ IsWhole style places = (style.form ≡ Plain) × (style.fail_on ≡ None) × (pl
 abbrev pub reel_code : Coded Reel
 reel_code =
     code_by (Style × (Map × (PlaceMap × (Option ℕ × (ℕ × ℕ)))))
-    (coded× style_row.coded (coded× (map.code coded_ℕ entry_row.coded) (coded× (map.code coded_ℕ (coded_list coded_ℕ))
+    (coded× style_row.coded (coded× entries.code (coded× (map.code coded_ℕ (coded_list coded_ℕ))
     (coded× (coded_option coded_ℕ) (coded× coded_ℕ coded_ℕ)))))
     (λ s. (s.look.style, (s.look.table, (s.look.places, (s.last, (s.failing, s.cuts))))))
     (λ p. reel (look_by p.0 p.1.0 p.1.1.0) p.1.1.1.0 p.1.1.1.1.0 p.1.1.1.1.1)

@@ -28,7 +28,8 @@ pub fn decode<S: Source, F: Shelf, K: Sink>(
     ensures shelf_count { F.faults shelf.old ≤ F.faults shelf.new }
     ensures files { F.files shelf.new ≡ F.files shelf.old }
 {
-    match load(alloc, options.table.as_str(), &options.places, shelf) {
+    let name = options.table.as_str();
+    match load(alloc, name, options.language, &options.places, shelf) {
         Ok((host, places)) => {
             print_events(alloc, &options.style, places, options.live, src, out, host)
         }

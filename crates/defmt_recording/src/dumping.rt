@@ -37,7 +37,8 @@ pub fn dump<S: Source, F: Shelf, K: Sink>(
     ensures shelf_count { F.faults shelf.old ≤ F.faults shelf.new }
     ensures files { F.files shelf.new ≡ F.files shelf.old }
 {
-    match load(alloc, options.table.as_str(), &options.places, shelf) {
+    let name = options.table.as_str();
+    match load(alloc, name, options.language, &options.places, shelf) {
         Ok((host, places)) => show(alloc, options, places, src, out, host),
         Err(fault) => fault,
     }

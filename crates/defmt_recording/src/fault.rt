@@ -35,10 +35,11 @@ pub enum Fault {
     Places { line: u32, cause: u8 },
     /// The shelf failed, or hasn't the file. Status 7.
     Shelf,
-    /// The script has more than 4,194,304 bytes, the table's or the places' file more than 67,108,864, or the recording or the image
-    /// more than 268,435,456. Status 8.
+    /// The script has more than 4,194,304 bytes, the table's or the places' file more than 67,108,864, or the image or, without
+    /// `--live`, the recording more than 268,435,456. Status 8.
     Long,
-    /// All was done, and so many events of the recording, or of the bytes of the image, are no lines. Status 9.
+    /// All was done, and so many events of the recording, or of the bytes of the image, are faults: no lines, and with `--live` no
+    /// front and no tail either. Status 9.
     Events { bad: u64 },
     /// The image is refused: the cause and its place, as `rtt_dump::dumped` gives them. Status 10.
     Control { cause: u8, place: u32 },

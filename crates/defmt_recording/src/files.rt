@@ -8,7 +8,7 @@ ghost use Rattle.defmt_places.specs.Places.{places_in};
 
 use crate::fault::Fault;
 use defmt_decode::Host;
-use defmt_grammar::Text;
+use defmt_grammar::{Language, Text};
 use defmt_intern::Table;
 use defmt_places::{Places, PlacesFault, read_places};
 use dl_io::{Bytes, ReadFault, Shelf, fetch_all};
@@ -17,24 +17,25 @@ use std::alloc::Global;
 
 const FILE_LIMIT: usize = 67_108_864;
 
-/// A host of the table that the file of this name names, and the places that another file tells, none where no file is named.
+/// A host of the table of this language that the file of this name names, and the places that another file tells, none where no file is named.
 pub fn load<F: Shelf>(
     alloc: Global,
     table: &str,
+    language: Language,
     places: &Option<Text>,
     shelf: &mut F,
 ) -> Result<(Host, Places), Fault>
-    ensures loaded { IfOk result (λ r. Loaded (files_of F.files F.faults shelf.old shelf.new)
+    ensures loaded { IfOk result (λ r. Loaded language (files_of F.files F.faults shelf.old shelf.new)
         table.now r.0.table) }
     ensures places { IfOk result (λ r. ArePlaces (files_of F.files F.faults shelf.old shelf.new)
         places.now r.1) }
     ensures stands { IfOk result (λ r. Stands r.0.framing []) }
-    ensures refused { IfErr result (λ fault. RefusesFiles
+    ensures refused { IfErr result (λ fault. RefusesFiles language
         (files_of F.files F.faults shelf.old shelf.new) table.now places.now fault) }
     ensures later { F.faults shelf.old ≤ F.faults shelf.new }
     ensures files { F.files shelf.new ≡ F.files shelf.old }
 {
-    let host = load_table(alloc, table, shelf)?;
+    let host = load_table(alloc, table, language, shelf)?;
     match load_places(alloc, places, shelf) {
         Ok(places) => Ok((host, places)),
         Err(fault) => Err(fault),
@@ -42,11 +43,16 @@ pub fn load<F: Shelf>(
 }
 
 // A host of the table that the file of this name names.
-fn load_table<F: Shelf>(alloc: Global, name: &str, shelf: &mut F) -> Result<Host, Fault>
-    ensures loaded { IfOk result (λ host. Loaded (files_of F.files F.faults shelf.old shelf.new)
-        name.now host.table) }
+fn load_table<F: Shelf>(
+    alloc: Global,
+    name: &str,
+    language: Language,
+    shelf: &mut F,
+) -> Result<Host, Fault>
+    ensures loaded { IfOk result (λ host. Loaded language
+        (files_of F.files F.faults shelf.old shelf.new) name.now host.table) }
     ensures stands { IfOk result (λ host. Stands host.framing []) }
-    ensures refused { IfErr result (λ fault. RefusesTable
+    ensures refused { IfErr result (λ fault. RefusesTable language
         (files_of F.files F.faults shelf.old shelf.new) name.now fault) }
     ensures later { F.faults shelf.old ≤ F.faults shelf.new }
     ensures files { F.files shelf.new ≡ F.files shelf.old }
@@ -55,7 +61,7 @@ fn load_table<F: Shelf>(alloc: Global, name: &str, shelf: &mut F) -> Result<Host
         Ok(file) => file,
         Err(fault) => return Err(fault),
     };
-    match host_of(alloc, file.as_slice()) {
+    match host_of(alloc, file.as_slice(), language) {
         Ok(host) => Ok(host),
         Err(fault) => Err(fault),
     }
@@ -123,22 +129,22 @@ fn fetch<F: Shelf>(alloc: Global, name: &str, shelf: &mut F) -> Result<Bytes, Fa
     }
 }
 
-fn host_of(alloc: Global, file: &[u8]) -> Result<Host, Fault>
+fn host_of(alloc: Global, file: &[u8], language: Language) -> Result<Host, Fault>
     requires { length file.now ≤ table_limit }
-    ensures names { IfOk result (λ host. NamesTable file.now host.table) }
+    ensures names { IfOk result (λ host. NamesTable language file.now host.table) }
     ensures stands { IfOk result (λ host. Stands host.framing []) }
-    ensures refused { IfErr result (λ fault. RefusesFile file.now fault) }
+    ensures refused { IfErr result (λ fault. RefusesFile language file.now fault) }
 {
-    let table = table_of(alloc, file)?;
+    let table = table_of(alloc, file, language)?;
     Ok(Host::new(alloc, table)?)
 }
 
-fn table_of(alloc: Global, file: &[u8]) -> Result<Table, Fault>
+fn table_of(alloc: Global, file: &[u8], language: Language) -> Result<Table, Fault>
     requires { length file.now ≤ table_limit }
-    ensures names { IfOk result (λ table. NamesTable file.now table) }
-    ensures refused { IfErr result (λ fault. RefusesFile file.now fault) }
+    ensures names { IfOk result (λ table. NamesTable language file.now table) }
+    ensures refused { IfErr result (λ fault. RefusesFile language file.now fault) }
 {
-    match read_table(alloc, file) {
+    match read_table(alloc, file, language) {
         Ok(table) => Ok(table),
         Err(LoadFault::Elf { cause, part, place }) => Err(Fault::Elf { cause, part, place }),
         Err(LoadFault::Names { cause, symbol }) => Err(Fault::Names { cause, symbol }),

@@ -3,6 +3,7 @@ use Rattle.std.proofs.Common.{◌≡◌, ◌==◌, ℕ, Bool, List, [], ◌∷�
 use Rattle.std.specs.Prelude.{Some, None, option_map}
 use Rattle.clap.specs.Words.{Text}
 use Rattle.clap.proofs.OnLiterals.{clap_on_literals}
+use Rattle.defmt_grammar.specs.declared.language.Language.TheVariants.{Base, Full}
 use Rattle.defmt_words.specs.declared.job.Job.{Job}
 use Rattle.defmt_words.specs.declared.job.Job.TheVariants.{Script, Decode, Dump}
 use Rattle.defmt_words.specs.declared.job.ScriptJob.TheVariants.{Run, Record, Terminals, Steer, Table, Print, Generate}
@@ -22,7 +23,7 @@ running group = Script (Run (record no_options { group = group }))
 
 -- the lines of a recording, and all of them
 abbrev decoding : Text → Job
-decoding file = Decode (record { table = file; places = None; live = false; style = plain_style })
+decoding file = Decode (record { table = file; language = Base; places = None; live = false; style = plain_style })
 
 -- the lines of a script in this style
 abbrev showing : Style → Job
@@ -157,12 +158,12 @@ module _ (name : Text) where
   unfolding clap_on_literals refusals rows
   no_table = refl
 
-  dumps : job (name ∷ codes "dump" ∷ codes "--table=t.elf" ∷ []) ≡ Some (Dump (record { table = codes "t.elf"; places = None; base = 536870912; up = 0; old = false; style = plain_style }))
+  dumps : job (name ∷ codes "dump" ∷ codes "--table=t.elf" ∷ []) ≡ Some (Dump (record { table = codes "t.elf"; language = Base; places = None; base = 536870912; up = 0; old = false; style = plain_style }))
   unfolding clap_on_literals refusals rows
   dumps = refl
 
   dumps_all : job (name ∷ codes "--old" ∷ codes "dump" ∷ codes "--table=t.elf" ∷ codes "--up=3" ∷ codes "--base=0x1fFf" ∷ [])
-      ≡ Some (Dump (record { table = codes "t.elf"; places = None; base = 8191; up = 3; old = true; style = plain_style }))
+      ≡ Some (Dump (record { table = codes "t.elf"; language = Base; places = None; base = 8191; up = 3; old = true; style = plain_style }))
   unfolding clap_on_literals refusals rows strip
   dumps_all = refl
 
@@ -219,13 +220,33 @@ module _ (name : Text) where
   fails_on_none = refl
 
   tells_places : job (name ∷ codes "decode" ∷ codes "--table=t.elf" ∷ codes "--live" ∷ codes "--places=p" ∷ [])
-      ≡ Some (Decode (record { table = codes "t.elf"; places = Some (codes "p"); live = true; style = plain_style }))
+      ≡ Some (Decode (record { table = codes "t.elf"; language = Base; places = Some (codes "p"); live = true; style = plain_style }))
   unfolding clap_on_literals refusals rows
   tells_places = refl
 
   stray_places : job (name ∷ codes "run" ∷ codes "--places=p" ∷ []) ≡ None
   unfolding clap_on_literals refusals rows
   stray_places = refl
+
+  reads_fully : job (name ∷ codes "decode" ∷ codes "--full" ∷ codes "--table=t.elf" ∷ []) ≡ Some (Decode (record { table = codes "t.elf"; language = Full; places = None; live = false; style = plain_style }))
+  unfolding clap_on_literals refusals rows
+  reads_fully = refl
+
+  dumps_fully : job (name ∷ codes "dump" ∷ codes "--table=t.elf" ∷ codes "--full" ∷ []) ≡ Some (Dump (record { table = codes "t.elf"; language = Full; places = None; base = 536870912; up = 0; old = false; style = plain_style }))
+  unfolding clap_on_literals refusals rows
+  dumps_fully = refl
+
+  full_twice : job (name ∷ codes "decode" ∷ codes "--full" ∷ codes "--table=t.elf" ∷ codes "--full" ∷ []) ≡ None
+  unfolding clap_on_literals refusals rows
+  full_twice = refl
+
+  full_value : job (name ∷ codes "decode" ∷ codes "--full=true" ∷ codes "--table=t.elf" ∷ []) ≡ None
+  unfolding clap_on_literals refusals rows
+  full_value = refl
+
+  stray_full : job (name ∷ codes "run" ∷ codes "--full" ∷ []) ≡ None
+  unfolding clap_on_literals refusals rows
+  stray_full = refl
 
   stray_live : job (name ∷ codes "dump" ∷ codes "--table=t.elf" ∷ codes "--live" ∷ []) ≡ None
   unfolding clap_on_literals refusals rows

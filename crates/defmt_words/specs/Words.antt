@@ -6,6 +6,8 @@ use Rattle.std.specs.Str.{bytes_eq}
 use Rattle.clap.specs.Words.{App, Row, Rule, Text, first_of, fault_of, matches_of, new_app, new_rule, with_rule, Kinds}
 use Rattle.clap.specs.Walk.{is_empty}
 use Rattle.clap.specs.declared.builder.ArgAction.TheVariants.{SetTrue}
+use Rattle.defmt_grammar.specs.declared.language.Language.{Language}
+use Rattle.defmt_grammar.specs.declared.language.Language.TheVariants as languages
 use Rattle.defmt_words.specs.declared.job.Job.{Job}
 use Rattle.defmt_words.specs.declared.job.Job.TheVariants.{Script, Decode, Dump}
 use Rattle.defmt_words.specs.declared.job.ScriptJob.TheVariants.{Run, Record, Terminals, Steer, Table, Print, Generate}
@@ -41,6 +43,7 @@ parameters =
     ∷ record { name = codes "fail-on"; kind = Value; taken = codes "run" ∷ codes "decode" ∷ codes "dump" ∷ []; needed = [] }
     ∷ record { name = codes "places"; kind = Value; taken = codes "decode" ∷ codes "dump" ∷ []; needed = [] }
     ∷ record { name = codes "live"; kind = Flag; taken = codes "decode" ∷ []; needed = [] }
+    ∷ record { name = codes "full"; kind = Flag; taken = codes "decode" ∷ codes "dump" ∷ []; needed = [] }
     ∷ []
 
 -- ---- the command line, as `clap` sees it: the command, which is required, and then the parameters
@@ -114,10 +117,15 @@ no_options = record { group = false; style = plain_style }
 abbrev pub run_by : List Row → Option Job
 run_by rows = option_map (λ style. Script (Run (record { group = is_set (codes "group") rows; style = style }))) (style_by rows)
 
+-- the language of the table
+abbrev pub language_by : List Row → Language
+language_by rows = if is_set (codes "full") rows then languages.Full else languages.Base
+
 abbrev pub decode_by : List Row → Option Job
 decode_by rows =
     option_and_then (λ table. option_map (λ style. Decode (record {
       table = table;
+      language = language_by rows;
       places = first_of (codes "places") rows;
       live = is_set (codes "live") rows;
       style = style;
@@ -135,6 +143,7 @@ abbrev pub dump_by : List Row → Option Job
 dump_by rows =
     option_and_then (λ table. option_and_then (λ base. option_and_then (λ up. option_map (λ style. Dump (record {
       table = table;
+      language = language_by rows;
       places = first_of (codes "places") rows;
       base = base;
       up = up;

@@ -6,17 +6,17 @@ ghost use Rattle.defmt_words.specs.View.{parameter_view};
 
 use crate::number::Count;
 use crate::style::Style;
-use defmt_grammar::Text;
+use defmt_grammar::{Language, Text};
 
 /// What the words ask for.
 #[derive(Drop)]
 pub enum Job {
     /// A command on a script.
     Script(ScriptJob),
-    /// `decode --table FILE [--places FILE] [--live]` with options of printing: the lines of a recording.
+    /// `decode --table FILE [--places FILE] [--live] [--full]` with options of printing: the lines of a recording.
     Decode(DecodeOptions),
-    /// `dump --table FILE [--places FILE] [--base 0xHEX] [--up N] [--old]` with options of printing: the lines of an up-buffer in an
-    /// image of memory.
+    /// `dump --table FILE [--places FILE] [--base 0xHEX] [--up N] [--old] [--full]` with options of printing: the lines of an up-buffer
+    /// in an image of memory.
     Dump(DumpOptions),
 }
 
@@ -65,9 +65,12 @@ impl RunOptions {
 pub struct DecodeOptions {
     /// `--table FILE`: the name of the file that holds the table.
     pub table: Text,
+    /// `--full`: the full language of the table, or else the base one.
+    pub language: Language,
     /// `--places FILE`: the name of the file that tells where in the sources each statement stands, or else none.
     pub places: Option<Text>,
-    /// `--live`: whether a device that runs is read, so that the recording may be of any length, and a front and a tail are no faults.
+    /// `--live`: whether a device that runs is read, so that the recording may have up to 2^64 - 2 bytes, and a front and a tail are no
+    /// faults.
     pub live: bool,
     /// What is asked of printing.
     pub style: Style,
@@ -78,6 +81,8 @@ pub struct DecodeOptions {
 pub struct DumpOptions {
     /// `--table FILE`: the name of the file that holds the table.
     pub table: Text,
+    /// `--full`: the full language of the table, or else the base one.
+    pub language: Language,
     /// `--places FILE`: the name of the file that tells where in the sources each statement stands, or else none.
     pub places: Option<Text>,
     /// `--base 0xHEX`: the address of the first byte of an image that isn't a core file, or else 0x20000000.
@@ -115,7 +120,7 @@ pub struct Parameter<'a> {
 }
 
 /// A row a parameter.
-pub fn parameters<'a>() -> [Parameter<'a>; 12]
+pub fn parameters<'a>() -> [Parameter<'a>; 13]
     ensures { map parameter_view result ≡ parameters }
 {
     [
@@ -189,6 +194,12 @@ pub fn parameters<'a>() -> [Parameter<'a>; 12]
             name: "live",
             kind: Kind::Flag,
             taken: &["decode"],
+            needed: &[],
+        },
+        Parameter {
+            name: "full",
+            kind: Kind::Flag,
+            taken: &["decode", "dump"],
             needed: &[],
         },
     ]

@@ -2,7 +2,7 @@
 ghost use Rattle.std.specs.Prelude.{◌≡◌, map, IfOk, string_bytes};
 ghost use Rattle.clap.specs.Words.{found_of, rows_of};
 ghost use Rattle.defmt_words.specs.View.{text_in};
-ghost use Rattle.defmt_words.specs.Words.{chosen, job, choice, base_in, decode_by, dump_by, generate_by, run_by, up_in};
+ghost use Rattle.defmt_words.specs.Words.{chosen, job, choice, base_in, decode_by, dump_by, generate_by, language_by, run_by, up_in};
 
 use crate::command_line::matches_of;
 use crate::job::{DecodeOptions, DumpOptions, Job, RunOptions, ScriptJob, parameters};
@@ -10,7 +10,7 @@ use crate::number::{Up, decimal_of, hexadecimal_of};
 use crate::parameters::{all_go, is_set, value_of};
 use crate::style::style_of;
 use clap::ArgMatches;
-use defmt_grammar::Text;
+use defmt_grammar::{Language, Text};
 use dl_io::Memory;
 use std::alloc::Global;
 
@@ -44,6 +44,17 @@ fn copy_of(alloc: Global, value: Option<&str>) -> Result<Option<Text>, Memory>
     }
 }
 
+// The language of the table.
+fn language_of(matches: &ArgMatches<'_>) -> Language
+    ensures { result ≡ language_by (rows_of (found_of matches.now)) }
+{
+    if is_set(matches, "full") {
+        Language::Full
+    } else {
+        Language::Base
+    }
+}
+
 fn decode_job(alloc: Global, matches: &ArgMatches<'_>) -> Result<Option<Job>, Memory>
     ensures { IfOk result (λ job. job ≡ decode_by (rows_of (found_of matches.now))) }
 {
@@ -54,10 +65,12 @@ fn decode_job(alloc: Global, matches: &ArgMatches<'_>) -> Result<Option<Job>, Me
         return Ok(None);
     };
     let table = text_of(alloc, name)?;
+    let language = language_of(matches);
     let places = copy_of(alloc, value_of(matches, "places"))?;
     let live = is_set(matches, "live");
     Ok(Some(Job::Decode(DecodeOptions {
         table,
+        language,
         places,
         live,
         style,
@@ -102,10 +115,12 @@ fn dump_job(alloc: Global, matches: &ArgMatches<'_>) -> Result<Option<Job>, Memo
         return Ok(None);
     };
     let table = text_of(alloc, name)?;
+    let language = language_of(matches);
     let places = copy_of(alloc, value_of(matches, "places"))?;
     let old = is_set(matches, "old");
     Ok(Some(Job::Dump(DumpOptions {
         table,
+        language,
         places,
         base,
         up,
@@ -156,7 +171,7 @@ fn chosen_of(alloc: Global, matches: &ArgMatches<'_>) -> Result<Option<Job>, Mem
 ///
 /// `clap` reads them as one simple command: a required positional `command`, an optional positional `number`, the options
 /// `--table`, `--places`, `--base`, `--up`, `--only` and `--fail-on` with one value each, and the flags `--group`, `--old`, `--live`,
-/// `--json` and `--color`. The variants of [`Job`] and [`ScriptJob`] say which go with which command, with those of [`Style`] where
+/// `--full`, `--json` and `--color`. The variants of [`Job`] and [`ScriptJob`] say which go with which command, with those of [`Style`] where
 /// they speak of options of printing: what stands there in brackets may be left out, what stands there without must be there, and
 /// nothing else may. N is decimal, without sign or leading zero: of `gen` from 1 to 4,096, of `--up` from 0 to 15. HEX is 1 to 8
 /// hexadecimal digits of either case. RULES is what `defmt_hooks::read_rules` reads, LEVEL one of `trace`, `debug`, `info`, `warn` and
