@@ -237,9 +237,9 @@ one_fault one (jobs.Script (Generate count)) inputs fault other a b = b ∙ sym 
 one_fault one (jobs.Script Steer) inputs fault other a b = steer_one one inputs.text fault other a b
 one_fault one (jobs.Script job) inputs fault other a b = run_one one inputs.text fault other a b
 one_fault one (jobs.Decode options) inputs fault other a b =
-    load_one (λ table. fault_of_named (fault_of_recording options.style options.live inputs.text table) options.places inputs.later) (inputs.files options.table) fault other a b
+    load_one options.language (λ table. fault_of_named (fault_of_recording options.style options.live inputs.text table) options.places inputs.later) (inputs.files options.table) fault other a b
 one_fault one (jobs.Dump options) inputs fault other a b =
-    load_one (λ table. fault_of_named (fault_of_image options inputs.text table) options.places inputs.later) (inputs.files options.table) fault other a b
+    load_one options.language (λ table. fault_of_named (fault_of_image options inputs.text table) options.places inputs.later) (inputs.files options.table) fault other a b
 
 pub must_come : OneReading → (job : Job) (input : Input) (shelf : Files) (output : Output) (fault wanted : Fault)
     → MustComeTo job input.left shelf.files wanted → OrFails job input shelf output (MayComeTo job input.left shelf.files) fault

@@ -1,4 +1,5 @@
 pub mod Deciding
+pub mod Gated
 pub mod RunMade
 pub mod SteeredMade
 pub mod Tables

@@ -1,6 +1,7 @@
 -- How much text the table of a script has.
 use Rattle.std.proofs.Common.{◌≡◌, ◌≤◌, ◌+◌, ◌^◌, ℕ, List, length, Ok, None, refl, arith}
-use Rattle.std.specs.FinMap as map
+use Rattle.defmt_grammar.specs.declared.language.Language.{Language}
+use Rattle.defmt_intern.specs.Entries as map
 use Rattle.defmt_intern.specs.Table.{Map}
 use Rattle.defmt_intern.specs.declared.entry.Entry.{Entry}
 use Rattle.defmt_intern.specs.declared.entry.Tag.{Tag}
@@ -15,7 +16,7 @@ no_other (Other name) known = absurd (known name refl)
 no_other tag known = refl
 
 -- the size that a written table may have counts the texts
-counts : size_of map.empty ≡ 0 → ((table : Map) (index : ℕ) (entry : Entry) → map.get table index ≡ None → size_of (map.insert table index entry) ≡ size_of table + entry_size entry)
+counts : ((language : Language) → size_of (map.empty_of language) ≡ 0) → ((table : Map) (index : ℕ) (entry : Entry) → map.get table index ≡ None → size_of (map.insert table index entry) ≡ size_of table + entry_size entry)
     → CountsTexts size_of
 counts empty insert = record {
   empty = empty;
@@ -28,6 +29,6 @@ abbrev Few : Type 0
 Few = (count : Map → ℕ) (text : List ℕ) (s : Script) → CountsTexts count → Reads text (Ok s) → count s.table ≤ length text + 2 ^ 20
 
 -- the table of a script that isn't longer than a script may be can be written
-pub small_table : size_of map.empty ≡ 0 → ((table : Map) (index : ℕ) (entry : Entry) → map.get table index ≡ None → size_of (map.insert table index entry) ≡ size_of table + entry_size entry)
+pub small_table : ((language : Language) → size_of (map.empty_of language) ≡ 0) → ((table : Map) (index : ℕ) (entry : Entry) → map.get table index ≡ None → size_of (map.insert table index entry) ≡ size_of table + entry_size entry)
     → Few → (text : List ℕ) (s : Script) → Reads text (Ok s) → length text ≤ 4194304 → size_of s.table ≤ 2 ^ 26
 small_table empty insert few text s reads short = omega (arith, few size_of text s (counts empty insert) reads, short)

@@ -1,5 +1,5 @@
 -- What a session tells of the run of a script.
-use Rattle.std.specs.Prelude.{◌≡◌, ◌<◌, ℕ, true, false, List, [], ◌++◌, length, Option, Some, None}
+use Rattle.std.specs.Prelude.{◌≡◌, ◌<◌, ℕ, true, false, List, [], ◌++◌, length, Option, Some, None, IfSome}
 use Rattle.defmt_decode.specs.declared.event.Event.{Event}
 use Rattle.defmt_decode.specs.Event.{events_of}
 use Rattle.defmt_frames.specs.Frames.{count}
@@ -21,6 +21,7 @@ use Rattle.rtt_down.specs.declared.turn.Turn.{Turn}
 use Rattle.rtt_ring.specs.Account.{Account, capped}
 use Rattle.rtt_ring.specs.declared.settled.RingKind.TheVariants.{Word}
 use Rattle.rtt_terminal.specs.Speech.{count_said}
+use Rattle.writer_threads.specs.Passing.{WasPassed, WasTold}
 
 -- The ring that the statements of a tape were logged to: the name of its split, how many looks its upper end made, and what was found
 -- released for each mark.
@@ -201,3 +202,15 @@ pub record Steered (s : Script) (account orders : Account) (told : Told) : Type 
   pub lines : told.events ≡ turn_events s told.turns
   pub gaps : PrintTurns s told.turns told.events
   pub untaped : (told.tape ≡ []) × (told.looks ≡ 0) × (told.logged ≡ no_ring) × IsUnspoken told
+
+-- What a gate was asked and told, by what it shows: of each statement that is told of, at the place where its writer logged it; and the
+-- totals of all that the reader took.
+pub record IsGated (passed : ℕ → ℕ → Type 0) (shown : ℕ → Type 0) (told : Told) : Type 0 where
+  pub asked : (writer : ℕ) → writer < 8 → WasPassed (passed writer) 0 (marks_of writer told.tape)
+  pub asked_turns : (writer : ℕ) → writer < 8 → WasPassed (passed writer) 0 (turns_of writer told.turns)
+  pub totals : IfSome told.settled (λ account. WasTold shown 0 (length account.got))
+
+-- the same of a run of the script by which these bytes were captured; for private clauses
+pub record GatesRun (passed : ℕ → ℕ → Type 0) (shown : ℕ → Type 0) (s : Script) (captured : List ℕ) : Type 0 where
+  pub asked : (writer : ℕ) → writer < 8 → WasPassed (passed writer) 0 (count s writer)
+  pub totals : WasTold shown 0 (length captured)

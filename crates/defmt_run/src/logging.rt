@@ -2,6 +2,7 @@
 ghost use Rattle.std.specs.Prelude.{◌≡◌, ◌≤◌, ◌+◌, ◌*◌, IfOk};
 ghost use Rattle.defmt_frames.specs.Frames.{pace_of};
 ghost use Rattle.defmt_run.specs.Making.{IsWordRun, IsWordSteered, IsWordTalk};
+ghost use Rattle.defmt_run.specs.Told.{GatesRun};
 
 use defmt_hooks::{Clock, Stamp};
 use defmt_print::stamps;
@@ -50,6 +51,8 @@ pub fn log<G: Gate + Sync, R: Threads + Wait + Sync>(
 ) -> Result<Run, Memory>
     ensures script { IfOk result (λ r. r.script ≡ script) }
     ensures run { IfOk result (λ r. IsWordRun r) }
+    ensures gate { IfOk result (λ r. GatesRun (G.passed gate.now) (G.told gate.now)
+        script r.captured.items) }
 {
     let stamp = stamp_of(&script);
     run_script::<WordRing, Counter, G, R>(rt, alloc, script, stamp, gate)
@@ -66,6 +69,8 @@ pub fn speak<G: Gate + Sync, R: Threads + Wait + Sync>(
     ensures script { IfOk result (λ r. r.0.script ≡ script) }
     ensures run { IfOk result (λ r. IsWordRun r.0) }
     ensures talk { IfOk result (λ r. IsWordTalk r.0 r.1) }
+    ensures gate { IfOk result (λ r. GatesRun (G.passed gate.now) (G.told gate.now)
+        script r.0.captured.items) }
 {
     let stamp = stamp_of(&script);
     run_terminals::<WordRing, Counter, G, R>(rt, alloc, script, stamp, gate)
@@ -81,6 +86,8 @@ pub fn steer<G: Gate + Sync, R: Threads + Wait + Sync>(
 ) -> Result<SteeredRun, Memory>
     ensures script { IfOk result (λ r. r.script ≡ script) }
     ensures run { IfOk result (λ r. IsWordSteered r) }
+    ensures gate { IfOk result (λ r. GatesRun (G.passed gate.now) (G.told gate.now)
+        script r.captured.items) }
 {
     let stamp = stamp_of(&script);
     run_steered::<WordRing, Counter, G, R>(rt, alloc, script, stamp, gate)

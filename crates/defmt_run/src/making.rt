@@ -3,7 +3,7 @@ ghost use Rattle.std.specs.Prelude.{◌≡◌, ◌≤◌, ◌^◌, IfOk, Ok};
 ghost use Rattle.elf_table.specs.Listed.{size_of};
 ghost use Rattle.defmt_recording.specs.declared.fault.Fault.TheVariants.{Fine};
 ghost use Rattle.defmt_run.specs.Making.{IsLogged, Makes};
-ghost use Rattle.defmt_run.specs.Told.{IsUntold, steered_of, told, told_of};
+ghost use Rattle.defmt_run.specs.Told.{IsGated, IsUntold, steered_of, told, told_of};
 ghost use Rattle.defmt_run.specs.declared.hearing.Heard.{Heard as HeardOf};
 
 use crate::hearing::{Heard, hear_run, hear_spoken, hear_steered};
@@ -47,8 +47,10 @@ pub fn make<G: Gate + Sync, R: Threads + Wait + Sync>(
     gate: &G,
 ) -> Result<Making, Memory>
     requires { size_of script.table ≤ 2 ^ 26 }
-    ensures { IfOk result (λ made. Makes job.now script (told made.outcome)
+    ensures makes { IfOk result (λ made. Makes job.now script (told made.outcome)
         made.output.items made.outcome.fault) }
+    ensures gate { IfOk result (λ made. IsGated (G.passed gate.now) (G.told gate.now)
+        (told made.outcome)) }
 {
     match job {
         ScriptJob::Terminals => making_by_speaking(rt, alloc, script, gate),
@@ -73,8 +75,10 @@ fn making_by_logging<G: Gate + Sync, R: Threads + Wait + Sync>(
     script: Script,
     gate: &G,
 ) -> Result<Making, Memory>
-    ensures { IsLogged job.now → IfOk result (λ made.
+    ensures makes { IsLogged job.now → IfOk result (λ made.
         Makes job.now script (told made.outcome) made.output.items made.outcome.fault) }
+    ensures gate { IfOk result (λ made. IsGated (G.passed gate.now) (G.told gate.now)
+        (told made.outcome)) }
 {
     let run = log(rt, alloc, script, gate)?;
     let heard = hear_run(alloc, job, &run);
@@ -88,8 +92,10 @@ fn making_by_speaking<G: Gate + Sync, R: Threads + Wait + Sync>(
     script: Script,
     gate: &G,
 ) -> Result<Making, Memory>
-    ensures { IfOk result (λ made. Makes ScriptJob.Terminals script (told made.outcome)
+    ensures makes { IfOk result (λ made. Makes ScriptJob.Terminals script (told made.outcome)
         made.output.items made.outcome.fault) }
+    ensures gate { IfOk result (λ made. IsGated (G.passed gate.now) (G.told gate.now)
+        (told made.outcome)) }
 {
     let (run, talk) = speak(rt, alloc, script, gate)?;
     let heard = hear_spoken(alloc, &run, &talk);
@@ -109,8 +115,10 @@ fn making_by_steering<G: Gate + Sync, R: Threads + Wait + Sync>(
     script: Script,
     gate: &G,
 ) -> Result<Making, Memory>
-    ensures { IfOk result (λ made. Makes ScriptJob.Steer script (told made.outcome)
+    ensures makes { IfOk result (λ made. Makes ScriptJob.Steer script (told made.outcome)
         made.output.items made.outcome.fault) }
+    ensures gate { IfOk result (λ made. IsGated (G.passed gate.now) (G.told gate.now)
+        (told made.outcome)) }
 {
     let run = steer(rt, alloc, script, gate)?;
     let heard = hear_steered(alloc, &run);

@@ -6,7 +6,7 @@ ghost use Rattle.defmt_lines.specs.Settings.{is_block};
 ghost use Rattle.defmt_listen.specs.Streams.{input_of, output_of};
 ghost use Rattle.defmt_run.specs.Running.{Comes, ComesNot, GaveWhole, IsSpelled, Made, Runs, Stops, StopsFor, Suits, TextComes, Withholds, Writes, script_limit};
 ghost use Rattle.defmt_recording.specs.Status.{status_of};
-ghost use Rattle.defmt_run.specs.Told.{told};
+ghost use Rattle.defmt_run.specs.Told.{IsGated, told};
 ghost use Rattle.defmt_script.specs.Reads.{Reads};
 ghost use Rattle.rtt_down.specs.Modes.{FirstMode};
 
@@ -41,6 +41,7 @@ pub fn script_outcome<S: Source, K: Sink, G: Gate + Sync, R: Threads + Wait + Sy
     ensures status { result.status ≡ status_of result.fault }
     ensures runs { Runs job.now (input_of S.left S.faults src.old src.new)
         (output_of K.held K.faults out.old out.new) result.fault (told result) }
+    ensures gate { IsGated (G.passed gate.now) (G.told gate.now) (told result) }
     ensures source_count { S.faults src.old ≤ S.faults src.new }
     ensures sink_count { K.faults out.old ≤ K.faults out.new }
 {
@@ -60,6 +61,8 @@ fn making_of<S: Source, G: Gate + Sync, R: Threads + Wait + Sync>(
 ) -> Result<Making, Fault>
     ensures made { IfOk result (λ made. Made job.now (input_of S.left S.faults src.old src.new)
         (told made.outcome) made.output.items made.outcome.fault) }
+    ensures gate { IfOk result (λ made. IsGated (G.passed gate.now) (G.told gate.now)
+        (told made.outcome)) }
     ensures comes_not { IfErr result (λ fault. ComesNot job.now
         (input_of S.left S.faults src.old src.new) fault) }
     ensures later { S.faults src.old ≤ S.faults src.new }

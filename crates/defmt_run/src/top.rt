@@ -4,7 +4,7 @@ ghost use Rattle.defmt_listen.specs.Streams.{input_of, output_of};
 ghost use Rattle.defmt_recording.specs.Calls.{files_of};
 ghost use Rattle.defmt_run.specs.Session.{Answers, MayComeTo, MustComeTo, OrFails};
 ghost use Rattle.defmt_recording.specs.Status.{status_of};
-ghost use Rattle.defmt_run.specs.Told.{told};
+ghost use Rattle.defmt_run.specs.Told.{IsGated, told};
 ghost use Rattle.defmt_recording.specs.declared.fault.Fault.{Fault as AnyFault};
 ghost use Rattle.defmt_words.specs.Words.{job as job_in};
 ghost use Rattle.defmt_words.specs.declared.job.Job.{Job as AnyJob};
@@ -38,13 +38,15 @@ use std::thread::Threads;
 /// counts of its tape in place of lines. With `--only RULES` `run`, `decode` and `dump` write no line that the rules
 /// don't show, as `defmt_decode::shows` says; with `--json` or `--color` they give the lines another form, and with `--fail-on LEVEL`
 /// they fail where a line of that level or a more severe one was written. `decode` and `dump` take `--places FILE`, which tells where in
-/// the sources each statement stands. With `--live`, for a device that runs, a recording of `decode` may be of `limit_of true` bytes,
-/// and what was cut at its front or its end is no fault. Nothing else depends on these, and what is told of a run has all events.
+/// the sources each statement stands, and `--full`, by which the table has the full language. With `--live`, for a device that runs, a
+/// recording of `decode` may be of `limit_of true` bytes, and what was cut at its front or its end is no fault. Nothing else depends on
+/// these, and what is told of a run has all events.
 ///
 /// `Fault` has the other answers. The order of these is words, shelf, length of the table's file, table, the same of the places,
 /// source, length of the input, script or image, sink, faults or failing lines; in `decode` the source, its length and the sink take
-/// turns. A run asks the gate before each statement and tells it of each take that took something; no clause of this call says so.
-/// The call may wait for the threads of a run and for the gate.
+/// turns. The gate is asked before each statement of a run is logged, and told the total of each take of the reader; that it was
+/// asked at each place is a clause, that it was asked before the statement isn't. The call may wait for the threads of a run and for
+/// the gate.
 pub fn session<S: Source, F: Shelf, K: Sink, G: Gate + Sync, R: Threads + Wait + Sync>(
     rt: &R,
     alloc: Global,
@@ -60,6 +62,9 @@ pub fn session<S: Source, F: Shelf, K: Sink, G: Gate + Sync, R: Threads + Wait +
     ensures answer { Answers (job_in (map string_bytes words.now))
         (input_of S.left S.faults src.old src.new) (files_of F.files F.faults shelf.old shelf.new)
         (output_of K.held K.faults out.old out.new) result.fault (told result) }
+
+    // What the gate was asked and told of the run.
+    ensures gate { IsGated (G.passed gate.now) (G.told gate.now) (told result) }
 
     // The fault is one that inputs as told come to, but for want of memory and faults of what the job
     // uses of the outside.
@@ -104,6 +109,7 @@ fn perform<S: Source, F: Shelf, K: Sink, G: Gate + Sync, R: Threads + Wait + Syn
     ensures answer { (job : Option AnyJob) → IfOk asked.now (λ read. read ≡ job) → Answers job
         (input_of S.left S.faults src.old src.new) (files_of F.files F.faults shelf.old shelf.new)
         (output_of K.held K.faults out.old out.new) result.fault (told result) }
+    ensures gate { IsGated (G.passed gate.now) (G.told gate.now) (told result) }
     ensures source_count { S.faults src.old ≤ S.faults src.new }
     ensures sink_count { K.faults out.old ≤ K.faults out.new }
     ensures shelf_count { F.faults shelf.old ≤ F.faults shelf.new }
@@ -129,6 +135,7 @@ fn work_on<S: Source, F: Shelf, K: Sink, G: Gate + Sync, R: Threads + Wait + Syn
     ensures answer { Answers (Some job.now)
         (input_of S.left S.faults src.old src.new) (files_of F.files F.faults shelf.old shelf.new)
         (output_of K.held K.faults out.old out.new) result.fault (told result) }
+    ensures gate { IsGated (G.passed gate.now) (G.told gate.now) (told result) }
     ensures source_count { S.faults src.old ≤ S.faults src.new }
     ensures sink_count { K.faults out.old ≤ K.faults out.new }
     ensures shelf_count { F.faults shelf.old ≤ F.faults shelf.new }

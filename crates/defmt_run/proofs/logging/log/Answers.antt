@@ -5,6 +5,7 @@ use Rattle.defmt_script.specs.Script.{Script}
 use Rattle.defmt_writers.specs.Runs.{IsRun}
 use Rattle.defmt_writers.specs.declared.script_run.Run.{Run}
 use Rattle.rtt_ring.specs.declared.settled.RingKind.TheVariants.{Word}
+use Rattle.defmt_run.proofs.Gated.{gates_so}
 use Rattle.defmt_run.proofs.logging.log.Goals as goal
 
 of_itself : {E : Type 0} (s : Script) (answer : Result Run E) → IfOk answer (λ (r : Run). r.script ≡ s) → IfOk answer (λ (r : Run). IsRun s r.tape r.settled r.captured.items r.rest.items r.looks)
@@ -17,3 +18,6 @@ run_script-requires-clause-fits g c κs within = inr refl
 
 pub returns-clause-run : goal.returns-clause-run
 returns-clause-run g c = of_itself c.args.script c.run_script.result c.run_script.ensures.script c.run_script.ensures.run c.run_script.ensures.ring c.run_script.ensures.taken
+
+pub returns-clause-gate : goal.returns-clause-gate
+returns-clause-gate g c = gates_so _ _ c.args.script (λ r. r.captured.items) c.run_script.result c.run_script.ensures.asked c.run_script.ensures.told

@@ -7,6 +7,7 @@ use Rattle.defmt_talk.specs.Talks.{IsTalk}
 use Rattle.defmt_writers.specs.declared.script_run.Run.{Run}
 use Rattle.defmt_talk.specs.declared.talk_run.Talk.{Talk}
 use Rattle.rtt_ring.specs.declared.settled.RingKind.TheVariants.{Word}
+use Rattle.defmt_run.proofs.Gated.{gates_so}
 use Rattle.defmt_run.proofs.logging.speak.Goals as goal
 
 run_of_itself : {E : Type 0} (s : Script) (answer : Result (Run × Talk) E) → IfOk answer (λ (r : Run × Talk). r.0.script ≡ s)
@@ -29,3 +30,6 @@ returns-clause-run g c = run_of_itself c.args.script c.run_terminals.result c.ru
 
 pub returns-clause-talk : goal.returns-clause-talk
 returns-clause-talk g c = talk_of_itself c.args.script c.run_terminals.result c.run_terminals.ensures.script c.run_terminals.ensures.talk c.run_terminals.ensures.rings c.run_terminals.ensures.texts_taken
+
+pub returns-clause-gate : goal.returns-clause-gate
+returns-clause-gate g c = gates_so _ _ c.args.script (λ r. r.0.captured.items) c.run_terminals.result c.run_terminals.ensures.asked c.run_terminals.ensures.told

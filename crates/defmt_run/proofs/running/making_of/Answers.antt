@@ -21,7 +21,7 @@ wanting Print input s came = took input s came
 wanting (Generate count) input s came = (refl, came.1)
 
 pub returns-in-Ok-clause-made : goal.returns-in-Ok-clause-made
-returns-in-Ok-clause-made g c = record { script = c.in_ok-script.script; comes = c.in_ok-script.ensures.comes; makes = c.in-Ok.ensures }
+returns-in-Ok-clause-made g c = record { script = c.in_ok-script.script; comes = c.in_ok-script.ensures.comes; makes = c.in-Ok.ensures.makes }
 
 pub returns-in-Err-clause-comes_not : goal.returns-in-Err-clause-comes_not
 returns-in-Err-clause-comes_not g c = wanting _ _ _ c.in_ok-script.ensures.comes

@@ -4,7 +4,8 @@ use Rattle.defmt_recording.proofs.ToldInputs.{keeps}
 use Rattle.defmt_run.proofs.Deciding.{ran, ran_not}
 use Rattle.defmt_recording.specs.Calls.{IsUnwritten}
 use Rattle.defmt_run.specs.Running.{Made, Runs}
-use Rattle.defmt_run.specs.Told.{Told, told}
+use Rattle.defmt_run.proofs.Gated.{untold_gated}
+use Rattle.defmt_run.specs.Told.{IsGated, Told, told}
 use Rattle.defmt_recording.specs.declared.fault.Fault.{Fault}
 use Rattle.defmt_run.proofs.running.script_outcome.Goals as goal
 
@@ -23,3 +24,10 @@ returns-in-Err-clause-runs g c =
     let unwritten : IsUnwritten output = record { held = keeps (g.K.Sink.held c.args.out.now); faults = refl } in
     subst (λ (f : Fault). Runs c.args.job.now input output f (told c.silent.result)) (sym c.silent.ensures.fault)
     (ran_not c.args.job.now input output c.in-Err.fault (told c.silent.result) c.in-Err.ensures.comes_not unwritten c.silent.ensures.untold)
+
+pub returns-in-Ok-clause-gate : goal.returns-in-Ok-clause-gate
+returns-in-Ok-clause-gate g c =
+    subst (λ (t : Told). IsGated (g.G.Gate.passed c.args.gate.now) (g.G.Gate.told c.args.gate.now) t) (sym c.outcome_of_writing.ensures.same) c.in-Ok.ensures.gate
+
+pub returns-in-Err-clause-gate : goal.returns-in-Err-clause-gate
+returns-in-Err-clause-gate g c = untold_gated _ _ _ c.silent.ensures.untold

@@ -4,6 +4,7 @@ use Rattle.defmt_listen.specs.Streams.{Input, Output, input_of, output_of}
 use Rattle.defmt_recording.specs.Calls.{Files, files_of}
 use Rattle.defmt_recording.specs.Decoding.{Decodes}
 use Rattle.defmt_recording.specs.Dumping.{Dumps}
+use Rattle.defmt_run.proofs.Gated.{untold_gated}
 use Rattle.defmt_run.specs.Session.{Answers}
 use Rattle.defmt_run.specs.Told.{told}
 use Rattle.defmt_recording.specs.declared.fault.Fault.{Fault}
@@ -37,3 +38,9 @@ returns-in-Dump-clause-answer g c =
       subst (λ (f : Fault). Dumps c.in-Dump.options input shelf output f) (sym c.silent-in-Dump.ensures.fault) c.dump-fault.ensures.dumps,
       c.silent-in-Dump.ensures.untold,
     )
+
+pub returns-in-Decode-clause-gate : goal.returns-in-Decode-clause-gate
+returns-in-Decode-clause-gate g c = untold_gated _ _ _ c.silent.ensures.untold
+
+pub returns-in-Dump-clause-gate : goal.returns-in-Dump-clause-gate
+returns-in-Dump-clause-gate g c = untold_gated _ _ _ c.silent-in-Dump.ensures.untold
