@@ -1,4 +1,5 @@
 //! Recordings that are decoded. A row is the words and the digits of the recording, and the status and the lines.
+use crate::full::FULL;
 use crate::rows::{Kind, each_block};
 use crate::sessions::{Stage, add_table, put_session, set_stage, written_of};
 use defmt_run::OpenGate;
@@ -126,7 +127,7 @@ fn put_file(alloc: Global, name: &str, text: &str, shelf: &mut MemShelf) -> Resu
     Ok(shelf.put(name, file)?)
 }
 
-// Puts the tables of `HI` and `HI_AT` on the shelf, places, and files that are no table and no places.
+// Puts the tables of `HI`, `HI_AT` and `FULL` on the shelf, places, and files that are no table and no places.
 pub(crate) fn add_files<R: Threads + Wait + Sync>(
     rt: &R,
     alloc: Global,
@@ -134,6 +135,7 @@ pub(crate) fn add_files<R: Threads + Wait + Sync>(
 ) -> Result<(), Fail> {
     add_table(rt, alloc, "hi.elf", HI, shelf)?;
     add_table(rt, alloc, "hi-at.elf", HI_AT, shelf)?;
+    add_table(rt, alloc, "full.elf", FULL, shelf)?;
     put_file(alloc, "hi.places", PLACES, shelf)?;
     put_file(alloc, "no.places", TWICE, shelf)?;
     put_file(alloc, "no.elf", "hello", shelf)

@@ -13,6 +13,8 @@ mod dump;
 #[cfg(test)]
 mod forms;
 #[cfg(test)]
+mod full;
+#[cfg(test)]
 mod gates;
 #[cfg(test)]
 mod limits;

@@ -1,6 +1,6 @@
 //! What words ask for. A row is the words, which single spaces part, and the job.
 use crate::rows::{Kind, each_line};
-use defmt_grammar::Text;
+use defmt_grammar::{Language, Text};
 use defmt_words::{DecodeOptions, DumpOptions, Form, Job, RunOptions, ScriptJob, Style, job_of};
 use std::alloc::Global;
 use std::test::Fail;
@@ -33,7 +33,9 @@ defmtl run --fail-on=error --only off --json = run by rules in JSON failing on e
 defmtl decode --live --table t.elf = decode live by t.elf
 defmtl decode --table t.elf --places p = decode by t.elf with places of p
 defmtl --places=p decode --only off --table=t.elf = decode by t.elf with places of p by rules
-defmtl dump --places p --json --table t.elf --fail-on warn = what waits in 0 from 20000000 by t.elf with places of p in JSON failing on warn";
+defmtl dump --places p --json --table t.elf --fail-on warn = what waits in 0 from 20000000 by t.elf with places of p in JSON failing on warn
+defmtl decode --full --table t.elf = decode by t.elf in full
+defmtl dump --table t.elf --full --places p = what waits in 0 from 20000000 by t.elf in full with places of p";
 
 const NO_JOBS: &str = "\
 defmtl frob = nothing
@@ -91,7 +93,11 @@ defmtl decode --table t.elf --places = nothing
 defmtl decode --table t.elf --places p --places p = nothing
 defmtl run --live = nothing
 defmtl dump --table t.elf --live = nothing
-defmtl decode --table t.elf --live=1 = nothing";
+defmtl decode --table t.elf --live=1 = nothing
+defmtl run --full = nothing
+defmtl table --full = nothing
+defmtl decode --full --table t.elf --full = nothing
+defmtl dump --table t.elf --full=1 = nothing";
 
 fn put_style(style: &Style, out: &mut String) {
     if style.only.is_some() {
@@ -138,9 +144,13 @@ fn put_script_job(job: &ScriptJob, out: &mut String) {
     }
 }
 
-fn put_files(table: &str, places: &Option<Text>, out: &mut String) {
+fn put_files(table: &str, language: Language, places: &Option<Text>, out: &mut String) {
     put(out, " by ");
     put(out, table);
+    match language {
+        Language::Base => {}
+        Language::Full => put(out, " in full"),
+    }
     if let Some(places) = places {
         put(out, " with places of ");
         put(out, places.as_str());
@@ -156,7 +166,12 @@ fn put_decode(options: &DecodeOptions, out: &mut String) {
             "decode"
         },
     );
-    put_files(options.table.as_str(), &options.places, out);
+    put_files(
+        options.table.as_str(),
+        options.language,
+        &options.places,
+        out,
+    );
     put_style(&options.style, out);
 }
 
@@ -171,7 +186,12 @@ fn put_dump(options: &DumpOptions, out: &mut String) {
     put_number(out, u64::from(options.up));
     put(out, " from ");
     put_hexadecimal(out, u64::from(options.base));
-    put_files(options.table.as_str(), &options.places, out);
+    put_files(
+        options.table.as_str(),
+        options.language,
+        &options.places,
+        out,
+    );
     put_style(&options.style, out);
 }
 
@@ -199,6 +219,6 @@ pub(crate) fn put_words(alloc: Global, row: &str, out: &mut String) -> Result<()
 
 #[test]
 fn words_ask_for_their_job_and_others_for_nothing(rt: HostRuntime) -> Result<(), Fail> {
-    each_line(&rt, rt.alloc(), JOBS, 27, &Kind::Job)?;
-    each_line(&rt, rt.alloc(), NO_JOBS, 56, &Kind::Job)
+    each_line(&rt, rt.alloc(), JOBS, 29, &Kind::Job)?;
+    each_line(&rt, rt.alloc(), NO_JOBS, 60, &Kind::Job)
 }
