@@ -45,7 +45,7 @@ words_of() {
 {
     if [ $# -gt 0 ]; then scripts=("${@/%/.sh}"); else
         cd "$top/tests" || exit 2
-        scripts=(real-elf.sh firmware.sh device*.sh live.sh parallel.sh guide.sh explain.sh threads.sh brackets.sh failing-calls.sh refused-memory.sh damage.sh fuzz.sh launcher.sh clauses.sh pages.sh places.sh swap.sh looking.sh)
+        scripts=(real-elf.sh rust-firmware.sh firmware.sh device*.sh live.sh parallel.sh guide.sh explain.sh threads.sh brackets.sh failing-calls.sh refused-memory.sh damage.sh fuzz.sh launcher.sh clauses.sh pages.sh places.sh swap.sh looking.sh)
         cd "$top" || exit 2
     fi
     for it in "${scripts[@]}"; do
