@@ -100,6 +100,9 @@ gcc -std=c11 $host $host_link -DDEFMTL_NO_STAMP "$tests/floats.c" "$device/defmt
 # the index 1; 3fc00000, c000000000000000 and 3fe0000000000000 with their lowest bytes first
 printf ' 00 01 c0 3f 4e c0 3f e0 3f 3f 7e 00' > due
 same "floats are sent as their bits" due got
+./one > frames && "$program" decode --full --table one < frames > got
+echo 'INFO  1.5 -2.0 0.5' > due
+same "floats are read with --full" due got
 
 # ---- random statements against `record`
 
