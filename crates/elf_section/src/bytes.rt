@@ -3,16 +3,16 @@
 ghost use Rattle.std.specs.Prelude.{◌≡◌};
 ghost use Rattle.elf_section.specs.Bytes.{gap, IsBehind, IsUnquoted};
 
+use memchr::memchr;
+
 /// How many bytes stand before the first zero, or before the end.
 pub fn gap(bytes: &[u8]) -> usize
     ensures { result ≡ gap bytes.now }
 {
-    for (i, b) in bytes.iter().enumerate() {
-        if *b == 0 {
-            return i;
-        }
+    match memchr(0, bytes) {
+        Some(at) => at,
+        None => bytes.len(),
     }
-    bytes.len()
 }
 
 /// What stands behind a front, where the text begins with it.
