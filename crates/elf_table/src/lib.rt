@@ -5,6 +5,7 @@
 #![tactic(auto)]
 
 mod fault;
+mod members;
 mod names;
 mod reading;
 mod writing;

@@ -12,11 +12,11 @@ ghost use Rattle.elf_table.specs.Said.{unread};
 ghost use Rattle.elf_table.specs.declared.fault.LoadFault.TheVariants.{Elf as OfElf, Names as OfNames};
 
 use crate::fault::{Cause, LoadFault, StepFault};
-use crate::names::{AT_ONCE, entry_of, guesses_of};
+use crate::names::entry_of;
 use defmt_grammar::{Language, Text};
 use defmt_intern::{Entry, NameFault, Profile, Table, TableFault, Tag};
 use elf_section::{ElfFault, Symbol, read_listing};
-use serde_json::Value;
+use json::Scratch;
 use std::alloc::Global;
 
 // What stands for a name that can't be read. Takes no memory.
@@ -31,16 +31,16 @@ fn unread(alloc: Global) -> Entry
     }
 }
 
-// The entry that a name says in a language. The guess is what it may say.
+// The entry that a name says in a language.
 fn said(
     alloc: Global,
+    scratch: &mut Scratch,
     language: Language,
     name: &[u8],
-    guess: Option<Value>,
 ) -> Result<Entry, StepFault>
     ensures { Reads language name.now result }
 {
-    match entry_of(alloc, name, guess) {
+    match entry_of(alloc, scratch, name) {
         Ok(entry) => Ok(entry),
         Err(NameFault::Memory) => Err(StepFault::Memory),
         Err(_) => match language {
@@ -50,17 +50,17 @@ fn said(
     }
 }
 
-// Puts the entry that a symbol names into the table. The guess is what its name may say.
+// Puts the entry that a symbol names into the table.
 fn put_symbol(
     alloc: Global,
+    scratch: &mut Scratch,
     table: &mut Table,
     symbol: &Symbol,
-    guess: Option<Value>,
 ) -> Result<(), StepFault>
     ensures steps { Steps table.old.entries (plain symbol.now) result table.new.entries }
     ensures profile { table.new.profile ≡ table.old.profile }
 {
-    let entry = said(alloc, table.language(), symbol.name.as_slice(), guess)?;
+    let entry = said(alloc, scratch, table.language(), symbol.name.as_slice())?;
     if symbol.value > 65535 {
         return Err(StepFault::Refused {
             cause: Cause::Index,
@@ -87,15 +87,9 @@ fn table_of(
 {
     let mut table = Table::of_language(alloc, language);
     table.set_profile(profile);
-    let mut guesses = Vec::new(alloc).into_iter();
+    let mut scratch = Scratch::new(alloc);
     for (p, symbol) in symbols.iter().enumerate() {
-        if p % AT_ONCE == 0 {
-            let Ok(next) = guesses_of(alloc, &symbols[p..]) else {
-                return Err(LoadFault::Memory);
-            };
-            guesses = next.into_iter();
-        }
-        match put_symbol(alloc, &mut table, symbol, guesses.next()) {
+        match put_symbol(alloc, &mut scratch, &mut table, symbol) {
             Ok(()) => {}
             Err(StepFault::Refused { cause }) => {
                 return Err(LoadFault::Names {

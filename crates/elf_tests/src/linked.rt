@@ -64,7 +64,19 @@ cause 8 Nothing 0
 65521 0 _defmt_profile_ = 3
 3 1 {"package":"app","data":"hello","disambiguator":"7"}
 =
-cause 9 Nothing 0"#;
+cause 9 Nothing 0
+
+65521 0 _defmt_encoding_ = rzcobs
+3 1 {"package":"app","tag":"defmt_warn","data":"first","disambiguator":"7","crate_name":"app"}
+3 2 { "data" : "a\"b\u0041", "tag": "defmt_info", "tag": "defmt_error", "package": "\u00e9", "disambiguator": "8" }
+3 4 {"data":"d","disambiguator":"1","package":"p","tag":"defmt_write"}
+=
+3 entries; 1 defmt_warn app 7 first; 2 defmt_error é 8 a"bA; 4 defmt_write p 1 d
+
+65521 0 _defmt_encoding_ = rzcobs
+3 1 {"data":"d","disambiguator":"1","package":"p","tag":"defmt_write"}}
+=
+cause 3 symbol 0"#;
 
 fn push_linked(linked: &mut Linked, lines: &str) -> Result<(), Fail> {
     linked.begin(FRONT)?;
@@ -104,7 +116,7 @@ pub fn put_answer_to_symbols(
 
 #[test]
 fn linked_files_of_both_classes_name_their_table(rt: HostRuntime) -> Result<(), Fail> {
-    each_block(rt.alloc(), LINKED, 9, &Kind::AnswerToSymbols)
+    each_block(rt.alloc(), LINKED, 11, &Kind::AnswerToSymbols)
 }
 
 // The same in the full language, where a name that can't be read, as one that a linker cut at an `@`, refuses nothing.

@@ -12,7 +12,7 @@ loop-p-init c = (rw (c.set_profile.ensures.entries, c.of_language-table.ensures.
 pub loop-p-preserved : goal.loop-p-preserved
 loop-p-preserved c =
     let there : At (plain_all c.args.symbols.now) c.loop-p.p (plain c.index-symbols-p.result) = symbol_at c.args.symbols.now c.loop-p.p c.index-symbols-p.result (slice_get_read c.args.symbols.now (length c.args.symbols.now) c.loop-p.p c.index-symbols-p.result refl (omega arith) c.index-symbols-p.is) in (
-      made_more c.args.language (plain_all c.args.symbols.now) c.loop-p.p c.loop-p.table.entries c.loop-p.invariant.0 (plain c.index-symbols-p.result) there c.put_symbol.new.table.entries c.in-Ok-put_symbol.ensures.steps,
+      made_more c.args.language (plain_all c.args.symbols.now) c.loop-p.p c.loop-p.table.entries c.loop-p.invariant.0 (plain c.index-symbols-p.result) there c.put_symbol.new.table.entries c.in-Ok.ensures.steps,
       c.put_symbol.ensures.profile ∙ c.loop-p.invariant.1,
     )
 
