@@ -1,9 +1,11 @@
 -- Numbers of some bytes.
-use Rattle.std.proofs.Common.{◌≡◌, ◌<◌, ◌≤◌, ◌^◌, ◌+◌, ◌*◌, ◌/◌, ◌%◌, ℕ, zero, suc, Bool, true, false, nat_le, List, [], ◌∷◌, ◌++◌, length, get_or, take, drop, Ok, Err, refl, sym, ap, ◌∙◌, subst, arith, lit<, lit≤, length-append, pow-add}
-use Rattle.std.proofs.Math.ListN.{set}
+use Rattle.std.proofs.Common.{◌≡◌, ◌<◌, ◌≤◌, ◌^◌, ◌+◌, ◌*◌, ◌/◌, ◌%◌, ℕ, zero, suc, Bool, true, false, nat_le, List, [], ◌∷◌, ◌++◌, length, get_or, take, drop, Ok, Err, refl, sym, ap, ◌∙◌, subst, arith, lit<, lit≤, length-append, pow-add, mod-lt}
+use Rattle.std.proofs.Math.ListN.{set, drop_of_length-le}
 use Rattle.std.proofs.Math.Nat.{pow-le-pow_right, pow-suc, pow-succ', mul-le-mul_right, div-div-eq-div-mul, div-one}
+use Rattle.std.proofs.Math.Arith.{mod-mul}
+use Rattle.std.proofs.lemmas.Nat.{div-mul-add, mod-mul-add}
 use Rattle.std.proofs.lemmas.Bool.{le-leb, leb-true, leb-false, lt-leb}
-use Rattle.std.proofs.lemmas.List.{take_all, take_more_set, drop_at, take-append-drop, length-take-le}
+use Rattle.std.proofs.lemmas.List.{append-nil, take_all, take_more_set, drop_at, take-append-drop, length-take-le}
 use Rattle.std.proofs.Math.Seq.{take-append_seam, drop-append_seam}
 use Rattle.std.specs.Str.{is_utf8, IsUtf8}
 use Rattle.std.proofs.lemmas.Str.{IsUtf8-from_is_utf8, is_utf8-from_IsUtf8}
@@ -49,6 +51,29 @@ little_snoc : (k n : ℕ) → little_bytes (suc k) n ≡ little_bytes k n ++ n /
 little_snoc k n =
     let place : 0 + k ≡ k = omega arith in
     low_snoc 0 k n ∙ ap (λ m. bytes_low_first 0 k n ++ byte_at m n ∷ []) place ∙ ap (λ m. bytes_low_first 0 k n ++ m ∷ []) (byte_is k n)
+
+-- the lowest bytes of a number are those of its lowest part
+pub little_mod : (k n : ℕ) → little_bytes k (n % 256 ^ k) ≡ little_bytes k n
+little_mod zero n = refl
+little_mod (suc k) n =
+    let q : ℕ = 256 ^ k in
+    let high : ℕ = n / 256 % q in
+    let low : n % 256 < 256 = mod-lt n (omega arith) in
+    let parts : n % 256 ^ suc k ≡ high * 256 + n % 256 = ap (λ (m : ℕ). n % m) (pow-suc 256 k) ∙ mod-mul n {m = q} {c = 256} (some k) (omega arith) in
+    ap (little_bytes (suc k)) parts ∙ little_more k (high * 256 + n % 256)
+    ∙ ap (λ (m : ℕ). m ∷ little_bytes k ((high * 256 + n % 256) / 256)) (mod-mul-add high 256 (n % 256) low)
+    ∙ ap (λ (m : ℕ). n % 256 ∷ little_bytes k m) (div-mul-add high 256 (n % 256) low)
+    ∙ ap (λ (bs : List ℕ). n % 256 ∷ bs) (little_mod k (n / 256)) ∙ sym (little_more k n)
+
+-- bytes of which there are as many as a number's lowest are these, where they were written in front
+pub written_once : (k : ℕ) (old new : List ℕ) (n : ℕ) → length old ≡ k → new ≡ little_bytes k (n % 256 ^ k) ++ drop k old → new ≡ little_bytes (length old) n
+written_once k old new n size is =
+    is ∙ ap (λ (bs : List ℕ). little_bytes k (n % 256 ^ k) ++ bs) (drop_of_length-le old (omega (arith, size))) ∙ append-nil (little_bytes k (n % 256 ^ k)) ∙ little_mod k n ∙ ap (λ (m : ℕ). little_bytes m n) (sym size)
+
+pub written_one : (old : List ℕ) (n : ℕ) → length old ≡ 1 → set old 0 (n % 256) ≡ little_bytes (length old) n
+written_one [] n size = absurd (omega (arith, size))
+written_one (x ∷ []) n size = refl
+written_one (x ∷ (y ∷ ys)) n size = absurd (omega (arith, size))
 
 -- the lowest bytes that a loop has written, and what is left of the number
 pub record Written (bytes : List ℕ) (i n left : ℕ) : Type 0 where

@@ -3,14 +3,16 @@ ghost use Rattle.std.specs.Prelude.{◌≤◌, ◌++◌, ◌/◌, ◌^◌, ◌�
 ghost use Rattle.byteorder.specs.Endian.{little_bytes};
 ghost use Rattle.defmt_encode.specs.Carry.{text_end, text_bytes, length_bytes, window_width, window_first, variant_byte, count_bytes, index_bytes, node_slots, bytes_val, bytes_vals, bytes_elems, bytes_nodes};
 ghost use Rattle.defmt_encode.specs.Out.{Puts};
+ghost use Rattle.defmt_values.specs.Plain.{elems_len};
+ghost use Rattle.defmt_values.specs.Scan.{index_or};
 ghost use Rattle.defmt_values.specs.View.{plain};
 
-use crate::put::{Long, TEXT_END, put, put_bytes, put_number};
+use crate::put::{Long, TEXT_END, put, put_chunk, put_number};
 use crate::slots::node_slots;
 use crate::widths::{float_width, int_width, shifted, uint_width, window_first};
 use defmt_grammar::{Kind, Slot};
 use defmt_intern::Table;
-use defmt_values::{Args, Item, Items, Node, Nodes, Value, cut};
+use defmt_values::{Args, Item, Items, Node, Nodes, Seq, Value, cut};
 
 /// Puts the bytes of a text behind the first `at` of a message, their number in four bytes in front. The buffer has at least 2,000 bytes, of
 /// which `at` are put. Answers how many are put then, or `Long` where these would be more than 2,000: then some of the first are put, or
@@ -20,7 +22,7 @@ pub fn put_text(out: &mut [u8], at: usize, bytes: &[u8]) -> Result<usize, Long>
     ensures { Puts out.old out.new at result (little_bytes 4 (length bytes.now) ++ bytes.now) }
 {
     let at = put_number(out, at, bytes.len() as u128, 4)?;
-    put_bytes(out, at, bytes)
+    put_chunk(out, at, bytes)
 }
 
 /// Puts bytes behind the first `at` of a message, their number in four bytes in front where the slot isn't a byte array's. The buffer has at least 2,000 bytes, of
@@ -32,7 +34,7 @@ pub fn put_slice(out: &mut [u8], at: usize, slot: Slot, bytes: &[u8]) -> Result<
 {
     match slot {
         Slot::One(Kind::Bytes) => put_text(out, at, bytes),
-        _ => put_bytes(out, at, bytes),
+        _ => put_chunk(out, at, bytes),
     }
 }
 
@@ -41,7 +43,7 @@ fn put_ended(out: &mut [u8], at: usize, bytes: &[u8]) -> Result<usize, Long>
     requires { (2000 ≤ length out.old) × (at ≤ 2000) }
     ensures { Puts out.old out.new at result (bytes.now ++ text_end ∷ []) }
 {
-    let at = put_bytes(out, at, bytes)?;
+    let at = put_chunk(out, at, bytes)?;
     put(out, at, TEXT_END)
 }
 
@@ -143,15 +145,9 @@ pub fn put_value(
         Value::Bytes(bytes) => put_slice(out, at, slot, bytes.as_slice()),
         Value::Bits(n) => put_window(out, at, slot, *n),
         Value::Format(node) => put_node(table, node, out, at),
-        Value::Seq(seq) => {
-            let at = put_list_head(out, at, slot, seq.items.len(), seq.index)?;
-            put_items(table, seq.index.unwrap_or(0), &seq.items, out, at)
-        }
+        Value::Seq(seq) => put_seq(table, slot, seq, out, at),
         Value::Float(bits) => put_number(out, at, u128::from(*bits), float_width(slot)),
-        Value::Sequence(nodes) => {
-            let at = put_nodes(table, nodes, out, at)?;
-            put_number(out, at, 0, 2)
-        }
+        Value::Sequence(nodes) => put_sequence(table, nodes, out, at),
     }
 }
 
@@ -227,8 +223,22 @@ fn put_items(
     Ok(end)
 }
 
+// A list: its head and its elements. Few statements have values inside values, so these are put by a call.
+#[cycle(put)]
+#[inline(never)]
+fn put_seq(table: &Table, slot: Slot, seq: &Seq, out: &mut [u8], at: usize) -> Result<usize, Long>
+    requires { (2000 ≤ length out.old) × (at ≤ 2000) }
+    ensures { Puts out.old out.new at result
+        ((count_bytes slot (elems_len seq.now.items) ++ index_bytes seq.now.index)
+        ++ bytes_elems table.now.entries (index_or seq.now.index) seq.now.items) }
+{
+    let at = put_list_head(out, at, slot, seq.items.len(), seq.index)?;
+    put_items(table, seq.index.unwrap_or(0), &seq.items, out, at)
+}
+
 // A Format value: its index, its variant where it has one, and its arguments.
 #[cycle(put)]
+#[inline(never)]
 fn put_node(table: &Table, node: &Node, out: &mut [u8], at: usize) -> Result<usize, Long>
     requires { (2000 ≤ length out.old) × (at ≤ 2000) }
     ensures { Puts out.old out.new at result
@@ -258,4 +268,16 @@ fn put_nodes(table: &Table, nodes: &Nodes, out: &mut [u8], at: usize) -> Result<
         rest = more;
     }
     Ok(end)
+}
+
+// A sequence: its elements and the index that ends it.
+#[cycle(put)]
+#[inline(never)]
+fn put_sequence(table: &Table, nodes: &Nodes, out: &mut [u8], at: usize) -> Result<usize, Long>
+    requires { (2000 ≤ length out.old) × (at ≤ 2000) }
+    ensures { Puts out.old out.new at result
+        (bytes_nodes table.now.entries nodes.now ++ little_bytes 2 0) }
+{
+    let at = put_nodes(table, nodes, out, at)?;
+    put_number(out, at, 0, 2)
 }

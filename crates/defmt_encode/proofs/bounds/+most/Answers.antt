@@ -27,9 +27,9 @@ most_bytes-returns-in-Bytes t c = λ few. rw c.in-Bytes.is (bytes_most c.in-Byte
 
 pub most_bytes-returns-in-Format : goal.most_bytes-returns-in-Format
 most_bytes-returns-in-Format t c = λ few.
-    let within : c.most_of.result + 3 ≤ c.saturating_add-in-Format.result = omega (arith, few) in
-    let low : c.most_of.result ≤ 2000 = omega (arith, few, within) in
-    rw c.in-Format.is (format_most c.in-Format.node.index c.in-Format.node.variant c.in-Format.node.args c.most_of.result c.saturating_add-in-Format.result within (c.most_of.ensures low))
+    let within : c.most_inside.result + 3 ≤ c.saturating_add-in-Format.result = omega (arith, few) in
+    let low : c.most_inside.result ≤ 2000 = omega (arith, few, within) in
+    rw c.in-Format.is (format_most c.in-Format.node.index c.in-Format.node.variant c.in-Format.node.args c.most_inside.result c.saturating_add-in-Format.result within (c.most_inside.ensures low))
 
 pub most_bytes-returns-in-Seq : goal.most_bytes-returns-in-Seq
 most_bytes-returns-in-Seq t c = λ few.
@@ -64,11 +64,11 @@ pub most_of_each-each-preserved : goal.most_of_each-each-preserved
 most_of_each-each-preserved t c = record {
   smaller = elems_smaller c.each.rest.now c.in-Some.more.now c.in-Some.item.now c.in-Some.ensures _ c.each.invariant.smaller;
   above = λ few.
-      let sum : c.saturating_add-most.result ≡ c.each.most + c.most_of.result + 1 = omega (arith, few) in
+      let sum : c.saturating_add-most.result ≡ c.each.most + c.most_inside.result + 1 = omega (arith, few) in
       let low : c.each.most ≤ 2000 = omega (arith, few) in
-      let one : HaveAtMost c.in-Some.item.now.args c.most_of.result = c.most_of.ensures (omega (arith, few)) in
+      let one : HaveAtMost c.in-Some.item.now.args c.most_inside.result = c.most_inside.ensures (omega (arith, few)) in
       subst (λ (k : ℕ). AboveEach c.args.items.now (elems_of c.in-Some.more.now) k) (sym sum)
-      (each_more c.args.items.now c.each.rest.now c.in-Some.more.now c.in-Some.item.now c.each.most c.most_of.result c.in-Some.ensures one (c.each.invariant.above low));
+      (each_more c.args.items.now c.each.rest.now c.in-Some.more.now c.in-Some.item.now c.each.most c.most_inside.result c.in-Some.ensures one (c.each.invariant.above low));
 }
 
 pub most_of_each-returns : goal.most_of_each-returns
@@ -78,11 +78,11 @@ pub most_of_nodes-each-preserved : goal.most_of_nodes-each-preserved
 most_of_nodes-each-preserved t c = record {
   smaller = nodes_smaller c.each.rest.now c.in-Some.more.now c.in-Some.node.now c.in-Some.ensures _ c.each.invariant.smaller;
   above = λ few.
-      let sum : c.saturating_add-most.result ≡ c.each.most + c.most_of.result + 3 = omega (arith, few) in
+      let sum : c.saturating_add-most.result ≡ c.each.most + c.most_inside.result + 3 = omega (arith, few) in
       let low : c.each.most ≤ 2000 = omega (arith, few) in
-      let one : HaveAtMost c.in-Some.node.now.args c.most_of.result = c.most_of.ensures (omega (arith, few)) in
+      let one : HaveAtMost c.in-Some.node.now.args c.most_inside.result = c.most_inside.ensures (omega (arith, few)) in
       subst (λ (k : ℕ). AboveNodes c.args.nodes.now (nodes_of c.in-Some.more.now) k) (sym sum)
-      (each_node_more c.args.nodes.now c.each.rest.now c.in-Some.more.now c.in-Some.node.now c.each.most c.most_of.result c.in-Some.ensures one (c.each.invariant.above low));
+      (each_node_more c.args.nodes.now c.each.rest.now c.in-Some.more.now c.in-Some.node.now c.each.most c.most_inside.result c.in-Some.ensures one (c.each.invariant.above low));
 }
 
 pub most_of_nodes-returns : goal.most_of_nodes-returns

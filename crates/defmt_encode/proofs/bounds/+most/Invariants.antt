@@ -5,16 +5,19 @@ use Rattle.defmt_encode.proofs.Most.{Above, AboveEach, AboveNodes}
 use Rattle.defmt_encode.proofs.bounds.+most.Given as goal
 
 abbrev pub decreases-most_bytes : goal.decreases-most_bytes
-decreases-most_bytes l = 2 * val_size (plain l.value.now)
+decreases-most_bytes l = 3 * val_size (plain l.value.now)
 
 abbrev pub decreases-most_of : goal.decreases-most_of
-decreases-most_of l = 2 * vals_size l.args.now + 1
+decreases-most_of l = 3 * vals_size l.args.now + 1
+
+abbrev pub decreases-most_inside : goal.decreases-most_inside
+decreases-most_inside l = 3 * vals_size l.args.now + 2
 
 abbrev pub decreases-most_of_each : goal.decreases-most_of_each
-decreases-most_of_each l = 2 * elems_size l.items.now + 1
+decreases-most_of_each l = 3 * elems_size l.items.now + 1
 
 abbrev pub decreases-most_of_nodes : goal.decreases-most_of_nodes
-decreases-most_of_nodes l = 2 * nodes_size l.nodes.now + 1
+decreases-most_of_nodes l = 3 * nodes_size l.nodes.now + 1
 
 abbrev pub invariant-most_of-each : goal.invariant-most_of-each
 invariant-most_of-each l = record {

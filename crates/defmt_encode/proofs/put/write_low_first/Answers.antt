@@ -1,13 +1,15 @@
-use Rattle.std.proofs.Common.{refl, sym, arith}
-use Rattle.std.proofs.Math.Nat.{div-one}
-use Rattle.defmt_encode.proofs.Numbers.{written_more, written_all}
+use Rattle.std.proofs.Common.{arith}
+use Rattle.defmt_encode.proofs.Numbers.{written_one, written_once}
 use Rattle.defmt_encode.proofs.put.write_low_first.Goals as goal
 
-pub loop-byte-init : goal.loop-byte-init
-loop-byte-init c = record { done = refl; left_is = sym (div-one c.args.n) }
+pub returns-in-1 : goal.returns-in-1
+returns-in-1 c = written_one c.args.bytes.now c.args.n (omega arith)
 
-pub loop-byte-preserved : goal.loop-byte-preserved
-loop-byte-preserved c = written_more _ _ c.args.n _ (omega arith) c.loop-byte.invariant
+pub returns-in-2 : goal.returns-in-2
+returns-in-2 c = written_once 2 c.args.bytes.now c.write_u16.new.buf c.args.n (omega arith) c.write_u16.ensures
 
-pub returns : goal.returns
-returns c = written_all _ _ c.args.n _ _ (omega arith) (omega arith) c.loop-byte.invariant
+pub returns-in-4 : goal.returns-in-4
+returns-in-4 c = written_once 4 c.args.bytes.now c.write_u32.new.buf c.args.n (omega arith) c.write_u32.ensures
+
+pub returns-in-8 : goal.returns-in-8
+returns-in-8 c = written_once 8 c.args.bytes.now c.write_u64.new.buf c.args.n (omega arith) c.write_u64.ensures

@@ -118,31 +118,23 @@ put_nodes-returns t c =
     puts.done_all c.args.out.now c.each.out c.args.at c.each.end c.each.invariant.done _ _ c.each.invariant.wrote c.each.invariant.joins
     (puts.nodes_none c.args.table.now.entries c.each.rest.now c.in_default.ensures)
 
-pub put_value-returns-in_err-at-in-Sequence : goal.put_value-returns-in_err-at-in-Sequence
-unfolding bytes_val
-put_value-returns-in_err-at-in-Sequence t c =
-    let p = err_from_is_err_and c.from_residual-in_err-at-in-Sequence.result c.from_residual-in_err-at-in-Sequence.ensures.1 in
-    rw (p.1, c.in-Sequence.is)
-    (refused_more c.args.out.now c.put_nodes.new.out c.args.at (bytes_nodes c.args.table.now.entries c.in-Sequence.nodes) (little_bytes 2 0) c.in_err-at-in-Sequence.ensures)
-
-pub put_value-returns-in_ok-at-in-Sequence : goal.put_value-returns-in_ok-at-in-Sequence
-unfolding bytes_val
-put_value-returns-in_ok-at-in-Sequence t c =
-    rw c.in-Sequence.is
-    (chain c.args.out.now c.put_nodes.new.out c.put_number-in-Sequence.new.out c.args.at c.in_ok-at-in-Sequence.at c.put_number-in-Sequence.result (bytes_nodes c.args.table.now.entries c.in-Sequence.nodes) (little_bytes 2 0) c.in_ok-at-in-Sequence.ensures c.put_number-in-Sequence.ensures.puts)
-
-pub put_value-returns-in_err-at-in-Seq : goal.put_value-returns-in_err-at-in-Seq
-unfolding bytes_val
-put_value-returns-in_err-at-in-Seq t c =
+pub put_sequence-returns-in_err-at : goal.put_sequence-returns-in_err-at
+put_sequence-returns-in_err-at t c =
     let p = err_from_is_err_and c.from_residual.result c.from_residual.ensures.1 in
-    let head = rw c.len.ensures at c.in_err-at-in-Seq.ensures in
-    rw (p.1, c.in-Seq.is)
-    (refused_more c.args.out.now c.put_list_head.new.out c.args.at (count_bytes c.args.slot (elems_len c.in-Seq.seq.items) ++ index_bytes c.in-Seq.seq.index) (bytes_elems c.args.table.now.entries (index_or c.in-Seq.seq.index) c.in-Seq.seq.items) head)
+    rw p.1 (refused_more c.args.out.now c.put_nodes.new.out c.args.at (bytes_nodes c.args.table.now.entries c.args.nodes.now) (little_bytes 2 0) c.in_err-at.ensures)
 
-pub put_value-returns-in_ok-at-in-Seq : goal.put_value-returns-in_ok-at-in-Seq
-unfolding bytes_val
-put_value-returns-in_ok-at-in-Seq t c =
-    let head = rw c.len.ensures at c.in_ok-at-in-Seq.ensures in
-    let items = rw (c.unwrap_or.ensures, index_is c.in-Seq.seq.index) at c.put_items.ensures in
-    rw c.in-Seq.is
-    (chain c.args.out.now c.put_list_head.new.out c.put_items.new.out c.args.at c.in_ok-at-in-Seq.at c.put_items.result (count_bytes c.args.slot (elems_len c.in-Seq.seq.items) ++ index_bytes c.in-Seq.seq.index) (bytes_elems c.args.table.now.entries (index_or c.in-Seq.seq.index) c.in-Seq.seq.items) head items)
+pub put_sequence-returns : goal.put_sequence-returns
+put_sequence-returns t c = chain c.args.out.now c.put_nodes.new.out c.put_number.new.out c.args.at c.in_ok-at.at c.put_number.result (bytes_nodes c.args.table.now.entries c.args.nodes.now) (little_bytes 2 0) c.in_ok-at.ensures c.put_number.ensures.puts
+
+pub put_seq-returns-in_err-at : goal.put_seq-returns-in_err-at
+put_seq-returns-in_err-at t c =
+    let p = err_from_is_err_and c.from_residual.result c.from_residual.ensures.1 in
+    let head = rw c.len.ensures at c.in_err-at.ensures in
+    rw p.1
+    (refused_more c.args.out.now c.put_list_head.new.out c.args.at (count_bytes c.args.slot (elems_len c.args.seq.now.items) ++ index_bytes c.args.seq.now.index) (bytes_elems c.args.table.now.entries (index_or c.args.seq.now.index) c.args.seq.now.items) head)
+
+pub put_seq-returns : goal.put_seq-returns
+put_seq-returns t c =
+    let head = rw c.len.ensures at c.in_ok-at.ensures in
+    let items = rw (c.unwrap_or.ensures, index_is c.args.seq.now.index) at c.put_items.ensures in
+    chain c.args.out.now c.put_list_head.new.out c.put_items.new.out c.args.at c.in_ok-at.at c.put_items.result (count_bytes c.args.slot (elems_len c.args.seq.now.items) ++ index_bytes c.args.seq.now.index) (bytes_elems c.args.table.now.entries (index_or c.args.seq.now.index) c.args.seq.now.items) head items

@@ -6,19 +6,22 @@ use Rattle.defmt_encode.specs.Out.{Wrote}
 use Rattle.defmt_encode.proofs.values.+put.Given as goal
 
 abbrev pub decreases-put_value : goal.decreases-put_value
-decreases-put_value l = 4 * val_size (plain l.value.now)
+decreases-put_value l = 4 * val_size (plain l.value.now) + 1
 
 abbrev pub decreases-put_args : goal.decreases-put_args
-decreases-put_args l = 4 * vals_size l.args.now + 1
+decreases-put_args l = 4 * vals_size l.args.now + 2
 
 abbrev pub decreases-put_items : goal.decreases-put_items
 decreases-put_items l = 4 * elems_size l.items.now + 1
 
+abbrev pub decreases-put_seq : goal.decreases-put_seq
+decreases-put_seq l = 4 * elems_size l.seq.now.items + 2
+
 abbrev pub decreases-put_item : goal.decreases-put_item
-decreases-put_item l = 4 * vals_size l.item.now.args + 2
+decreases-put_item l = 4 * vals_size l.item.now.args + 3
 
 abbrev pub decreases-put_node : goal.decreases-put_node
-decreases-put_node l = 4 * vals_size l.node.now.args + 2
+decreases-put_node l = 4 * vals_size l.node.now.args + 3
 
 abbrev pub decreases-put_nodes : goal.decreases-put_nodes
 decreases-put_nodes l = 4 * nodes_size l.nodes.now + 1
@@ -58,3 +61,6 @@ invariant-put_nodes-each l = record {
 
 abbrev pub decreases-put_nodes-each : goal.decreases-put_nodes-each
 decreases-put_nodes-each l = length l.rest
+
+abbrev pub decreases-put_sequence : goal.decreases-put_sequence
+decreases-put_sequence l = 4 * nodes_size l.nodes.now + 2

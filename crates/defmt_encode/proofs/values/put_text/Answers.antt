@@ -10,4 +10,4 @@ returns-in_err-at c =
     rw p.1 (refused_more c.args.out.now c.put_number.new.out c.args.at (little_bytes 4 (length c.args.bytes.now)) c.args.bytes.now c.in_err-at.ensures.puts)
 
 pub returns : goal.returns
-returns c = chain c.args.out.now c.put_number.new.out c.put_bytes.new.out c.args.at c.in_ok-at.at c.put_bytes.result (little_bytes 4 (length c.args.bytes.now)) c.args.bytes.now c.in_ok-at.ensures.puts c.put_bytes.ensures.puts
+returns c = chain c.args.out.now c.put_number.new.out c.put_chunk.new.out c.args.at c.in_ok-at.at c.put_chunk.result (little_bytes 4 (length c.args.bytes.now)) c.args.bytes.now c.in_ok-at.ensures.puts c.put_chunk.ensures
