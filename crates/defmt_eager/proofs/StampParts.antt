@@ -12,6 +12,18 @@ use Rattle.defmt_hints.specs.Printed.{printed_uint}
 use Rattle.defmt_intern.specs.Table.{Map}
 use Rattle.defmt_values.specs.Plain.{Vals}
 
+-- no hint acts round a stamp
+pub own_acts : (hint : Hint) → hint ≡ acting hints.Plain hint
+own_acts hints.Plain = refl
+own_acts hints.Debug = refl
+own_acts (hints.Radix base alt width) = refl
+own_acts hints.Ascii = refl
+own_acts hints.Micros = refl
+own_acts hints.Millis = refl
+own_acts (hints.Iso unit) = refl
+own_acts (hints.Clock unit) = refl
+own_acts (hints.Pad width) = refl
+
 -- what stands for the number of a stamp
 pub stamp_param : (t : Map) (n position : ℕ) (kind : Kind) (hint : Hint) → position ≡ 0 → printed_uint n (acting hints.Plain hint) ≡ param_text hints.Plain (shows t (stamp_args (Some n))) position kind hint
 unfolding show_val shows

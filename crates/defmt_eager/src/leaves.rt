@@ -88,6 +88,7 @@ fn put_float_sized(out: &mut [u8], at: usize, bits: u64, size: FloatSize) -> Opt
 }
 
 // Writes a float in the size of its kind.
+#[inline(never)]
 pub(crate) fn put_float_of_kind(out: &mut [u8], at: usize, bits: u64, kind: Kind) -> Option<usize>
     requires { at ≤ length out.old }
     ensures { Writes result out.old at out.new (float_text kind bits) }

@@ -35,12 +35,13 @@ fn put_stamp_piece(piece: &Piece, stamp: Option<u64>, out: &mut [u8], at: usize)
             if param.position != 0 {
                 return Some(at);
             }
-            put_uint(out, at, number, acting(Hint::Plain, param.hint))
+            put_uint(out, at, number, param.hint)
         }
     }
 }
 
 // Writes the text of these pieces.
+#[inline(always)]
 fn put_stamp_pieces(
     table: &Table,
     pieces: &[Piece],
@@ -63,6 +64,7 @@ fn put_stamp_pieces(
 }
 
 // Writes the text of a stamp and a space, where the table has a timestamp's entry. `None` too where that text is too long.
+#[inline(always)]
 pub(crate) fn put_stamp(
     table: &Table,
     stamp: Option<u64>,

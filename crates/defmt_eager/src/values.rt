@@ -11,7 +11,7 @@ use crate::pieces::{acting, comma, interned_text, node_pieces};
 use defmt_grammar::{Hint, Kind, Param, Piece};
 use defmt_hints::{put, put_bool, put_bytes, put_str, put_wide_uint};
 use defmt_intern::Table;
-use defmt_values::{Args, Item, Items, Nodes, Value, cut};
+use defmt_values::{Args, Item, Items, Node, Nodes, Value, cut};
 
 // Writes the text of a value where a parameter of this kind stands, under the hint that acts on it.
 #[cycle(show)]
@@ -36,10 +36,7 @@ fn put_value(
         Value::Str(text) => put_str(out, at, text.as_str(), text_hint(kind, hint)),
         Value::Istr(index) => put_str(out, at, interned_text(table, *index), hint),
         Value::Bytes(bytes) => put_bytes(out, at, bytes.as_slice(), hint),
-        Value::Format(node) => {
-            let pieces = node_pieces(table, node.index, node.variant);
-            put_pieces(table, out, at, hint, pieces, &node.args)
-        }
+        Value::Format(node) => put_node(table, out, at, hint, node),
         Value::Seq(seq) => put_list(table, out, at, hint, seq.index.unwrap_or(0), &seq.items),
         Value::Float(bits) => put_float_of_kind(out, at, *bits, kind),
         Value::Sequence(nodes) => put_nodes(table, out, at, hint, nodes),
@@ -112,6 +109,19 @@ pub(crate) fn put_pieces(
     Some(place)
 }
 
+// Writes the text of a Format value. Few statements have values inside values, so these are written by a call.
+#[cycle(show)]
+#[inline(never)]
+fn put_node(table: &Table, out: &mut [u8], at: usize, hint: Hint, node: &Node) -> Option<usize>
+    requires { at ≤ length out.old }
+    ensures { Puts result out.old at out.new
+        (pieces_text hint (node_pieces table.now.entries node.now.index node.now.variant)
+        (shows table.now.entries node.now.args)) }
+{
+    let pieces = node_pieces(table, node.index, node.variant);
+    put_pieces(table, out, at, hint, pieces, &node.args)
+}
+
 // Writes an element of a list, behind a comma where it isn't the first.
 #[cycle(show)]
 fn put_item(
@@ -161,6 +171,7 @@ fn put_items(
 
 // Writes a list between its brackets.
 #[cycle(show)]
+#[inline(never)]
 fn put_list(
     table: &Table,
     out: &mut [u8],
@@ -180,6 +191,7 @@ fn put_list(
 
 // Writes the elements of a sequence, one behind the other.
 #[cycle(show)]
+#[inline(never)]
 fn put_nodes(table: &Table, out: &mut [u8], at: usize, hint: Hint, nodes: &Nodes) -> Option<usize>
     requires { at ≤ length out.old }
     ensures { Puts result out.old at out.new (show_nodes table.now.entries hint nodes.now) }
@@ -187,8 +199,7 @@ fn put_nodes(table: &Table, out: &mut [u8], at: usize, hint: Hint, nodes: &Nodes
     let mut place = at;
     let mut rest = nodes.as_slice();
     'each: while let Some((node, more)) = cut(rest) {
-        let pieces = node_pieces(table, node.index, node.variant);
-        let end = put_pieces(table, out, place, hint, pieces, &node.args)?;
+        let end = put_node(table, out, place, hint, node)?;
         place = end;
         rest = more;
     }

@@ -3,7 +3,7 @@ ghost use Rattle.std.specs.Prelude.{◌≡◌, ◌≤◌, ◌+◌, ◌*◌, nat_
 ghost use Rattle.std.specs.Bool.{OnTrue};
 ghost use Rattle.defmt_eager.specs.Answers.{most_bytes};
 ghost use Rattle.defmt_eager.specs.Line.{printed_limit};
-ghost use Rattle.defmt_eager.specs.Show.{eager_text, interned_text, piece_text, pieces_text, show_elems, show_nodes, show_val, shows};
+ghost use Rattle.defmt_eager.specs.Show.{acting, eager_text, interned_text, node_pieces, piece_text, pieces_text, show_elems, show_nodes, show_val, shows};
 ghost use Rattle.defmt_grammar.specs.declared.hint.Hint.{Hint as AnyHint};
 ghost use Rattle.defmt_grammar.specs.declared.kind.Kind.{Kind as AnyKind};
 ghost use Rattle.defmt_hints.specs.Printed.{list_text, printed_bytes, printed_str};
@@ -15,7 +15,7 @@ use crate::eager::{EagerFault, PRINTED_LIMIT, text_of};
 use crate::pieces::{acting, interned_text, node_pieces, own_pieces};
 use defmt_grammar::{Hint, Piece};
 use defmt_intern::Table;
-use defmt_values::{Args, Items, Nodes, Statement, Value, cut};
+use defmt_values::{Args, Items, Node, Nodes, Statement, Value, cut};
 use dl_io::Memory;
 use std::alloc::Global;
 
@@ -33,12 +33,12 @@ pub(crate) fn most_bytes(hint: Hint) -> usize
 // The same under any hint.
 const NUMBER_MOST: usize = 555;
 
-// No fewer bytes than a number, a truth value or a character has under a hint, the same for each of them.
+// No fewer bytes than a number, a truth value or a character has under the hint that acts on it, the same for each of them.
 #[inline(always)]
-fn number_bound(hint: Hint) -> usize
-    ensures { most_bytes hint ≤ result }
+fn number_bound(outer: Hint, own: Hint) -> usize
+    ensures { most_bytes (acting outer own) ≤ result }
 {
-    let _most = most_bytes(hint);
+    let _most = most_bytes(acting(outer, own));
     NUMBER_MOST
 }
 
@@ -58,6 +58,7 @@ fn bytes_bound(bytes: &[u8], hint: Hint) -> usize
 }
 
 // No fewer bytes than an interned string has, under any hint.
+#[inline(never)]
 fn interned_bound(table: &Table, index: u16) -> usize
     ensures { (hint : AnyHint) → result ≤ printed_limit
         → length (printed_str (interned_text (look table.now.entries index)) hint) ≤ result }
@@ -65,33 +66,37 @@ fn interned_bound(table: &Table, index: u16) -> usize
     bytes_of(interned_text(table, index).len(), 2)
 }
 
-// No fewer bytes than the text of a value has, which isn't printed.
+// No fewer bytes than the text of a value has, which isn't printed, under the hint that acts on its parameter.
 #[cycle(bound)]
+#[inline(always)]
 #[tactic(auto, unfolding(crate::specs::Show::show_val), using(crate::proofs::Bounds::leaves))]
-fn value_bound(table: &Table, hint: Hint, value: &Value) -> usize
+fn value_bound(table: &Table, outer: Hint, own: Hint, value: &Value) -> usize
     ensures { (kind : AnyKind) → result ≤ printed_limit
-        → length (show_val table.now.entries (plain value.now) kind hint) ≤ result }
+        → length (show_val table.now.entries (plain value.now) kind (acting outer own)) ≤ result }
 {
     match value {
         Value::Uint(n) | Value::Bits(n) => {
             let _number = *n;
-            number_bound(hint)
+            number_bound(outer, own)
         }
-        Value::Int(_) | Value::Bool(_) | Value::Char(_) | Value::Float(_) => number_bound(hint),
+        Value::Int(_) | Value::Bool(_) | Value::Char(_) | Value::Float(_) => {
+            number_bound(outer, own)
+        }
         Value::Str(text) => bytes_of(text.len(), 2),
-        Value::Bytes(bytes) => bytes_bound(bytes.as_slice(), hint),
+        Value::Bytes(bytes) => bytes_bound(bytes.as_slice(), acting(outer, own)),
         Value::Istr(index) => interned_bound(table, *index),
-        Value::Format(node) => {
-            let pieces = node_pieces(table, node.index, node.variant);
-            pieces_bound(table, hint, pieces, &node.args)
+        Value::Format(node) => node_bound(table, acting(outer, own), node),
+        Value::Seq(seq) => {
+            let index = seq.index.unwrap_or(0);
+            list_bound(table, acting(outer, own), index, &seq.items)
         }
-        Value::Seq(seq) => list_bound(table, hint, seq.index.unwrap_or(0), &seq.items),
-        Value::Sequence(nodes) => nodes_bound(table, hint, nodes),
+        Value::Sequence(nodes) => nodes_bound(table, acting(outer, own), nodes),
     }
 }
 
 // No fewer bytes than the text of a piece has.
 #[cycle(bound)]
+#[inline(always)]
 fn piece_bound(table: &Table, outer: Hint, piece: &Piece, args: &Args) -> usize
     ensures { result ≤ printed_limit
         → length (piece_text outer piece.now (shows table.now.entries args.now)) ≤ result }
@@ -100,16 +105,14 @@ fn piece_bound(table: &Table, outer: Hint, piece: &Piece, args: &Args) -> usize
         Piece::Literal(text) => text.len(),
         Piece::Param(param) => match args.get(param.position) {
             None => 0,
-            Some(value) => {
-                let hint = acting(outer, param.hint);
-                value_bound(table, hint, value)
-            }
+            Some(value) => value_bound(table, outer, param.hint, value),
         },
     }
 }
 
 // The same of pieces one after another.
 #[cycle(bound)]
+#[inline(always)]
 fn pieces_bound(table: &Table, outer: Hint, pieces: &[Piece], args: &Args) -> usize
     ensures { result ≤ printed_limit
         → length (pieces_text outer pieces.now (shows table.now.entries args.now)) ≤ result }
@@ -123,8 +126,21 @@ fn pieces_bound(table: &Table, outer: Hint, pieces: &[Piece], args: &Args) -> us
     most
 }
 
+// The same of a Format value. Few statements have values inside values, so these are bounded by a call.
+#[cycle(bound)]
+#[inline(never)]
+fn node_bound(table: &Table, hint: Hint, node: &Node) -> usize
+    ensures { result ≤ printed_limit
+        → length (pieces_text hint (node_pieces table.now.entries node.now.index node.now.variant)
+        (shows table.now.entries node.now.args)) ≤ result }
+{
+    let pieces = node_pieces(table, node.index, node.variant);
+    pieces_bound(table, hint, pieces, &node.args)
+}
+
 // The same of a list, with its brackets and two bytes around each element.
 #[cycle(bound)]
+#[inline(never)]
 fn list_bound(table: &Table, hint: Hint, index: u16, items: &Items) -> usize
     ensures { result ≤ printed_limit
         → length (list_text (show_elems table.now.entries index hint items.now)) ≤ result }
@@ -142,6 +158,7 @@ fn list_bound(table: &Table, hint: Hint, index: u16, items: &Items) -> usize
 
 // The same of a sequence.
 #[cycle(bound)]
+#[inline(never)]
 fn nodes_bound(table: &Table, hint: Hint, nodes: &Nodes) -> usize
     ensures { result ≤ printed_limit
         → length (show_nodes table.now.entries hint nodes.now) ≤ result }
@@ -149,8 +166,7 @@ fn nodes_bound(table: &Table, hint: Hint, nodes: &Nodes) -> usize
     let mut rest = nodes.as_slice();
     let mut most = 0usize;
     'each: while let Some((node, more)) = cut(rest) {
-        let pieces = node_pieces(table, node.index, node.variant);
-        most = most.saturating_add(pieces_bound(table, hint, pieces, &node.args));
+        most = most.saturating_add(node_bound(table, hint, node));
         rest = more;
     }
     most

@@ -46,7 +46,7 @@ put_value-returns-in-Bytes t c = rw c.in-Bytes.is (parts.puts_of c.put_bytes.res
 
 pub put_value-returns-in-Format : goal.put_value-returns-in-Format
 unfolding show_val
-put_value-returns-in-Format t c = rw c.in-Format.is (rw c.node_pieces-pieces.ensures at c.put_pieces.ensures)
+put_value-returns-in-Format t c = rw c.in-Format.is c.put_node.ensures
 
 pub put_value-returns-in-Seq : goal.put_value-returns-in-Seq
 unfolding show_val
@@ -61,6 +61,9 @@ put_value-returns-in-Float t c = rw c.in-Float.is (parts.puts_of c.put_float_of_
 pub put_value-returns-in-Sequence : goal.put_value-returns-in-Sequence
 unfolding show_val
 put_value-returns-in-Sequence t c = rw c.in-Sequence.is c.put_nodes.ensures
+
+pub put_node-returns : goal.put_node-returns
+put_node-returns t c = rw c.node_pieces-pieces.ensures at c.put_pieces.ensures
 
 pub put_param-returns-in-None : goal.put_param-returns-in-None
 put_param-returns-in-None t c =
@@ -144,14 +147,14 @@ put_nodes-each-preserved t c = record {
   smaller = appends.nodes_smaller c.each.rest.now c.in-Some.more.now c.in-Some.node.now _ c.in-Some.ensures c.each.invariant.smaller;
   pending = parts.pending_step (pieces_text c.args.hint (node_pieces c.args.table.now.entries c.in-Some.node.now.index c.in-Some.node.now.variant) (shows c.args.table.now.entries c.in-Some.node.now.args))
       (show_nodes c.args.table.now.entries c.args.hint (nodes_of c.in-Some.more.now))
-      (appends.nodes_step c.args.table.now.entries c.args.hint c.each.rest.now c.in-Some.more.now c.in-Some.node.now c.in-Some.ensures) c.each.invariant.pending (rw c.node_pieces-pieces.ensures at c.in_ok-end.ensures);
+      (appends.nodes_step c.args.table.now.entries c.args.hint c.each.rest.now c.in-Some.more.now c.in-Some.node.now c.in-Some.ensures) c.each.invariant.pending c.in_ok-end.ensures;
 }
 
 pub put_nodes-returns-in_err-end : goal.put_nodes-returns-in_err-end
 put_nodes-returns-in_err-end t c =
     rw c.from_residual.ensures (parts.pending_full (pieces_text c.args.hint (node_pieces c.args.table.now.entries c.in-Some.node.now.index c.in-Some.node.now.variant) (shows c.args.table.now.entries c.in-Some.node.now.args))
     (show_nodes c.args.table.now.entries c.args.hint (nodes_of c.in-Some.more.now))
-    (appends.nodes_step c.args.table.now.entries c.args.hint c.each.rest.now c.in-Some.more.now c.in-Some.node.now c.in-Some.ensures) c.each.invariant.pending (rw c.node_pieces-pieces.ensures at c.in_err-end.ensures))
+    (appends.nodes_step c.args.table.now.entries c.args.hint c.each.rest.now c.in-Some.more.now c.in-Some.node.now c.in-Some.ensures) c.each.invariant.pending c.in_err-end.ensures)
 
 pub put_nodes-returns : goal.put_nodes-returns
 put_nodes-returns t c =

@@ -8,25 +8,28 @@ use Rattle.defmt_eager.proofs.Parts.{Pending}
 use Rattle.defmt_eager.proofs.values.+show.Given as goal
 
 abbrev pub decreases-put_value : goal.decreases-put_value
-decreases-put_value l = 4 * val_size (plain l.value.now)
+decreases-put_value l = 6 * val_size (plain l.value.now) + 1
 
 abbrev pub decreases-put_param : goal.decreases-put_param
-decreases-put_param l = 4 * vals_size l.args.now + 1
+decreases-put_param l = 6 * vals_size l.args.now + 2
 
 abbrev pub decreases-put_piece : goal.decreases-put_piece
-decreases-put_piece l = 4 * vals_size l.args.now + 2
+decreases-put_piece l = 6 * vals_size l.args.now + 3
 
 abbrev pub decreases-put_pieces : goal.decreases-put_pieces
-decreases-put_pieces l = 4 * vals_size l.args.now + 3
+decreases-put_pieces l = 6 * vals_size l.args.now + 4
+
+abbrev pub decreases-put_node : goal.decreases-put_node
+decreases-put_node l = 6 * vals_size l.node.now.args + 5
 
 abbrev pub decreases-put_item : goal.decreases-put_item
-decreases-put_item l = 4 * vals_size l.item.now.args + 4
+decreases-put_item l = 6 * vals_size l.item.now.args + 5
 
 abbrev pub decreases-put_items : goal.decreases-put_items
-decreases-put_items l = 4 * elems_size l.items.now + 1
+decreases-put_items l = 6 * elems_size l.items.now + 1
 
 abbrev pub decreases-put_list : goal.decreases-put_list
-decreases-put_list l = 4 * elems_size l.items.now + 2
+decreases-put_list l = 6 * elems_size l.items.now + 2
 
 abbrev pub invariant-put_pieces-each : goal.invariant-put_pieces-each
 invariant-put_pieces-each l = Pending l.fn.out l.at (pieces_text l.outer l.pieces (shows l.table.entries l.args)) l.out l.place (pieces_text l.outer l.rest (shows l.table.entries l.args))
@@ -44,7 +47,7 @@ abbrev pub decreases-put_items-each : goal.decreases-put_items-each
 decreases-put_items-each l = length l.rest
 
 abbrev pub decreases-put_nodes : goal.decreases-put_nodes
-decreases-put_nodes l = 4 * nodes_size l.nodes.now + 1
+decreases-put_nodes l = 6 * nodes_size l.nodes.now + 1
 
 abbrev pub invariant-put_nodes-each : goal.invariant-put_nodes-each
 invariant-put_nodes-each l = record {

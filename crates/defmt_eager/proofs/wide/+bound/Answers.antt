@@ -1,7 +1,7 @@
 use Rattle.std.proofs.Common.{◌≡◌, ◌≤◌, ◌+◌, arith, ap, false, length}
 use Rattle.defmt_values.specs.View.{plain}
 use Rattle.defmt_eager.specs.Line.{printed_limit}
-use Rattle.defmt_eager.specs.Show.{shows, show_val, show_elems, text_hint}
+use Rattle.defmt_eager.specs.Show.{acting, shows, show_val, show_elems, text_hint}
 use Rattle.defmt_eager.proofs.Appends.{pieces_none, elems_none, elems_smaller, nodes_none, nodes_smaller, size_get}
 use Rattle.defmt_eager.proofs.Bounds.{str_most}
 use Rattle.defmt_eager.proofs.PieceBounds.{none_taken, some_bound, piece_more, elem_more, node_more, list_few, index_is}
@@ -9,27 +9,27 @@ use Rattle.defmt_eager.proofs.wide.+bound.Goals as goal
 
 pub value_bound-returns-in-Str : goal.value_bound-returns-in-Str
 unfolding show_val
-value_bound-returns-in-Str t c = λ kind few. rw c.in-Str.is (omega (arith, c.bytes_of.ensures few, str_most c.in-Str.text (text_hint kind c.args.hint)))
+value_bound-returns-in-Str t c = λ kind few. rw c.in-Str.is (omega (arith, c.bytes_of.ensures few, str_most c.in-Str.text (text_hint kind (acting c.args.outer c.args.own))))
 
 pub value_bound-returns-in-Bytes : goal.value_bound-returns-in-Bytes
 unfolding show_val
-value_bound-returns-in-Bytes t c = λ kind few. rw c.in-Bytes.is ((rw c.as_slice.ensures at c.bytes_bound.ensures) few)
+value_bound-returns-in-Bytes t c = λ kind few. rw c.in-Bytes.is ((rw (c.as_slice.ensures, c.acting.ensures) at c.bytes_bound.ensures) few)
 
 pub value_bound-returns-in-Istr : goal.value_bound-returns-in-Istr
 unfolding show_val
-value_bound-returns-in-Istr t c = λ kind few. rw c.in-Istr.is (c.interned_bound.ensures c.args.hint few)
+value_bound-returns-in-Istr t c = λ kind few. rw c.in-Istr.is (c.interned_bound.ensures (acting c.args.outer c.args.own) few)
 
 pub value_bound-returns-in-Format : goal.value_bound-returns-in-Format
 unfolding show_val
-value_bound-returns-in-Format t c = λ kind few. rw c.in-Format.is ((rw c.node_pieces-pieces.ensures at c.pieces_bound.ensures) few)
+value_bound-returns-in-Format t c = λ kind few. rw c.in-Format.is ((rw c.acting-in-Format.ensures at c.node_bound.ensures) few)
 
 pub value_bound-returns-in-Seq : goal.value_bound-returns-in-Seq
 unfolding show_val
-value_bound-returns-in-Seq t c = λ kind few. rw c.in-Seq.is ((rw (c.unwrap_or.ensures, index_is c.in-Seq.seq.index) at c.list_bound.ensures) few)
+value_bound-returns-in-Seq t c = λ kind few. rw c.in-Seq.is ((rw (c.acting-in-Seq.ensures, c.unwrap_or-index.ensures, index_is c.in-Seq.seq.index) at c.list_bound.ensures) few)
 
 pub value_bound-returns-in-Sequence : goal.value_bound-returns-in-Sequence
 unfolding show_val
-value_bound-returns-in-Sequence t c = λ kind few. rw c.in-Sequence.is (c.nodes_bound.ensures few)
+value_bound-returns-in-Sequence t c = λ kind few. rw c.in-Sequence.is ((rw c.acting-in-Sequence.ensures at c.nodes_bound.ensures) few)
 
 pub piece_bound-returns-in-None : goal.piece_bound-returns-in-None
 piece_bound-returns-in-None t c = λ few.
@@ -41,7 +41,7 @@ piece_bound-value_bound-requires t c = omega (arith, c.decreases, size_get c.arg
 pub piece_bound-returns-in-Some : goal.piece_bound-returns-in-Some
 piece_bound-returns-in-Some t c = λ few.
     rw c.in-Param.is (some_bound c.args.table.now.entries c.args.outer c.args.args.now c.in-Param.param.position c.in-Param.param.kind c.in-Param.param.hint (plain c.in-Some.value.now) c.value_bound.result c.in-Some.ensures
-    (rw (← c.acting-hint.ensures) (c.value_bound.ensures c.in-Param.param.kind few)))
+    (c.value_bound.ensures c.in-Param.param.kind few))
 
 pub pieces_bound-each-preserved : goal.pieces_bound-each-preserved
 pieces_bound-each-preserved t c = λ few.
@@ -53,6 +53,9 @@ pieces_bound-each-preserved t c = λ few.
 pub pieces_bound-returns : goal.pieces_bound-returns
 pieces_bound-returns t c = λ few.
     omega (arith, c.each.invariant few 0 (omega (arith, ap length (pieces_none c.args.outer c.each.rest.now (shows c.args.table.now.entries c.args.args.now) c.in_default.ensures))))
+
+pub node_bound-returns : goal.node_bound-returns
+node_bound-returns t c = λ few. (rw c.node_pieces-pieces.ensures at c.pieces_bound.ensures) few
 
 pub list_bound-each-preserved : goal.list_bound-each-preserved
 list_bound-each-preserved t c = record {
@@ -73,10 +76,10 @@ pub nodes_bound-each-preserved : goal.nodes_bound-each-preserved
 nodes_bound-each-preserved t c = record {
   smaller = nodes_smaller c.each.rest.now c.in-Some.more.now c.in-Some.node.now _ c.in-Some.ensures c.each.invariant.smaller;
   above = λ few.
-      let sum : c.saturating_add-most.result ≡ c.each.most + c.pieces_bound.result + 0 = omega (arith, few) in
+      let sum : c.saturating_add-most.result ≡ c.each.most + c.node_bound.result + 0 = omega (arith, few) in
       let low : c.each.most ≤ printed_limit = omega (arith, few) in
-      let one : c.pieces_bound.result ≤ printed_limit = omega (arith, few) in
-      node_more c.args.table.now.entries c.args.hint c.args.nodes.now c.each.rest.now c.in-Some.more.now c.in-Some.node.now c.each.most c.pieces_bound.result c.saturating_add-most.result c.in-Some.ensures ((rw c.node_pieces-pieces.ensures at c.pieces_bound.ensures) one) sum (c.each.invariant.above low);
+      let one : c.node_bound.result ≤ printed_limit = omega (arith, few) in
+      node_more c.args.table.now.entries c.args.hint c.args.nodes.now c.each.rest.now c.in-Some.more.now c.in-Some.node.now c.each.most c.node_bound.result c.saturating_add-most.result c.in-Some.ensures (c.node_bound.ensures one) sum (c.each.invariant.above low);
 }
 
 pub nodes_bound-returns : goal.nodes_bound-returns

@@ -7,13 +7,16 @@ use Rattle.defmt_eager.proofs.PieceBounds.{elems_joined}
 use Rattle.defmt_eager.proofs.wide.+bound.Given as goal
 
 abbrev pub decreases-value_bound : goal.decreases-value_bound
-decreases-value_bound l = 4 * val_size (plain l.value.now)
+decreases-value_bound l = 4 * val_size (plain l.value.now) + 1
 
 abbrev pub decreases-piece_bound : goal.decreases-piece_bound
-decreases-piece_bound l = 4 * vals_size l.args.now + 1
+decreases-piece_bound l = 4 * vals_size l.args.now + 2
 
 abbrev pub decreases-pieces_bound : goal.decreases-pieces_bound
-decreases-pieces_bound l = 4 * vals_size l.args.now + 2
+decreases-pieces_bound l = 4 * vals_size l.args.now + 3
+
+abbrev pub decreases-node_bound : goal.decreases-node_bound
+decreases-node_bound l = 4 * vals_size l.node.now.args + 4
 
 abbrev pub decreases-list_bound : goal.decreases-list_bound
 decreases-list_bound l = 4 * elems_size l.items.now + 1
