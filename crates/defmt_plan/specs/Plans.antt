@@ -9,7 +9,7 @@ use Rattle.defmt_intern.specs.declared.entry.Entry.{Entry}
 use Rattle.defmt_intern.specs.declared.parsed.Parsed.TheVariants.{One}
 use Rattle.defmt_values.specs.Entries.{look, is_logged}
 use Rattle.defmt_eager.specs.Line.{level_text, stamp_space}
-use Rattle.defmt_plan.specs.Steps.{AreSteps}
+use Rattle.defmt_plan.specs.Steps.{AreSteps, number_step}
 use Rattle.defmt_plan.specs.declared.plan.Plan.{Plan}
 use Rattle.defmt_plan.specs.declared.plan.StampPlan.{StampPlan}
 use Rattle.defmt_plan.specs.declared.plan.StampPlan.TheVariants as stamps
@@ -85,5 +85,6 @@ pub record AreStampSteps (t : Map) (steps : List Step) : Type 0 where
 -- that there is no stamp, or the pieces of the stamp; of one that isn't usual nothing is said
 abbrev pub SaysStamp : Map → StampPlan → Type 0
 SaysStamp t stamps.Missing = stamp_of t ≡ None
+SaysStamp t (stamps.Number size hint) = AreStampSteps t (number_step size hint ∷ [])
 SaysStamp t (stamps.Steps steps) = AreStampSteps t steps.items
 SaysStamp t stamps.Unusual = Unit {0}

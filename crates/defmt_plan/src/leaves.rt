@@ -76,6 +76,7 @@ fn pass_str(hint: Hint, bytes: &[u8], before: Progress, out: &mut [u8]) -> Optio
 }
 
 // A signed number.
+#[inline(always)]
 fn pass_int(
     size: IntSize,
     hint: Hint,

@@ -11,6 +11,7 @@
 #![tactic(auto)]
 
 mod bits;
+mod ends;
 mod forms;
 mod inside;
 mod leaves;

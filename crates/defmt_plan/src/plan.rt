@@ -3,12 +3,14 @@
 ghost use Rattle.std.specs.Prelude.{◌≡◌, ◌++◌, codes, IfSome, IfOk};
 ghost use Rattle.defmt_eager.specs.Line.{level_text};
 ghost use Rattle.defmt_intern.specs.Stamp.{stamp_of};
-ghost use Rattle.defmt_plan.specs.Plans.{AreStepsOf, ArePlansIn, HasFront, IsPlanIn, Leads, SaysStamp, level_size, space_if};
+ghost use Rattle.defmt_intern.specs.Table.{Map};
+ghost use Rattle.defmt_plan.specs.Plans.{AreStampSteps, AreStepsOf, ArePlansIn, HasFront, IsPlanIn, Leads, SaysStamp, level_size, space_if};
 
 use crate::numbers::Indexed;
+use crate::run::lone_number;
 use crate::steps::{Step, are_nested, steps_of};
 use defmt_eager::level_text;
-use defmt_grammar::{Memory, Piece, Text};
+use defmt_grammar::{Hint, IntSize, Memory, Piece, Text};
 use defmt_intern::{Parsed, Table, Tag};
 use defmt_values::{is_logged, look_up};
 use std::alloc::Global;
@@ -38,6 +40,8 @@ impl Indexed for Plan {
 pub(crate) enum StampPlan {
     /// The table has none.
     Missing,
+    /// An unsigned number alone, as most are.
+    Number(IntSize, Hint),
     Steps(Vec<Step>),
     /// It isn't usual.
     Unusual,
@@ -57,6 +61,16 @@ fn steps_at(alloc: Global, table: &Table, index: u16) -> Result<Option<Vec<Step>
     }
 }
 
+// The plan of a stamp with these steps.
+fn stamp_of_steps(steps: Vec<Step>) -> StampPlan
+    ensures { (t : Map) → AreStampSteps t steps.items → SaysStamp t result }
+{
+    match lone_number(&steps) {
+        Some((size, hint)) => StampPlan::Number(size, hint),
+        None => StampPlan::Steps(steps),
+    }
+}
+
 // The plan of a table's stamp.
 pub(crate) fn stamp_plan(alloc: Global, table: &Table) -> Result<StampPlan, Memory>
     ensures { IfOk result (λ plan. SaysStamp table.now.entries plan) }
@@ -65,7 +79,7 @@ pub(crate) fn stamp_plan(alloc: Global, table: &Table) -> Result<StampPlan, Memo
         return Ok(StampPlan::Missing);
     };
     match steps_at(alloc, table, index)? {
-        Some(steps) => Ok(StampPlan::Steps(steps)),
+        Some(steps) => Ok(stamp_of_steps(steps)),
         None => Ok(StampPlan::Unusual),
     }
 }

@@ -11,18 +11,18 @@ ghost use Rattle.defmt_plan.specs.Plans.{IsPlanIn};
 ghost use Rattle.defmt_plan.specs.Steps.{AreSteps};
 ghost use Rattle.defmt_plan.specs.Told.{Fronts, PassesArguments, StampPasses, Tells, parts_of};
 
+use crate::ends::put_short;
 use crate::forms::{Forms, forms_of};
 use crate::inside::pass_steps;
-use crate::leaves::Progress;
+use crate::leaves::{Progress, pass_uint};
 use crate::message::{Origin, Parts, read_head};
 use crate::numbers::numbers_of;
 use crate::plan::{Plan, StampPlan, plans_of, stamp_plan};
 use crate::reach::Reach;
-use crate::run::run;
+use crate::run::{run, run_all};
 use defmt_eager::PRINTED_LIMIT;
 use defmt_encode::is_padding;
 use defmt_grammar::{Hint, Memory as OutOfMemory, Text};
-use defmt_hints::put;
 use defmt_intern::Table;
 use dl_io::Memory;
 use std::alloc::Global;
@@ -34,7 +34,8 @@ const LEVELS: u8 = 16;
 /// A table, and a plan of each of its strings that is of a level, of println or of Format values, and usual. Contracts see it as its
 /// table.
 ///
-/// A string is usual where it uses the positions in order, and each once, unless for bit fields of one number.
+/// A string is usual where it uses the positions in order, and each once, unless for bit fields of one number, and has neither an
+/// interned text nor a sequence.
 #[derive(Drop)]
 pub struct PlannedTable {
     table: Table,
@@ -69,7 +70,7 @@ fn put_front(front: &Option<Text>, out: &mut [u8], stamped: usize, at: usize) ->
     ensures { Fronts front.now result out.old stamped at out.new }
 {
     match front {
-        Some(front) => put(out, stamped, front.as_str().as_bytes()),
+        Some(front) => put_short(out, stamped, front.as_str().as_bytes()),
         None => Some(at),
     }
 }
@@ -183,12 +184,14 @@ impl PlannedTable {
         requires written { at ≤ length out.old }
         ensures { StampPasses result self.now.entries bytes.now from out.old at out.new }
     {
+        let before = Progress {
+            read: from,
+            written: at,
+        };
         match &self.stamp {
-            StampPlan::Missing => Some(Progress {
-                read: from,
-                written: at,
-            }),
-            StampPlan::Steps(steps) => run(steps, bytes, from, out, at),
+            StampPlan::Missing => Some(before),
+            StampPlan::Number(size, hint) => pass_uint(*size, *hint, bytes, before, out),
+            StampPlan::Steps(steps) => run_all(steps, bytes, from, out, at),
             StampPlan::Unusual => None,
         }
     }

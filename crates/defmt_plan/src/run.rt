@@ -9,10 +9,10 @@ ghost use Rattle.defmt_plan.specs.Steps.{AreSteps, number_step};
 ghost use Rattle.defmt_plan.specs.Told.{PassesArguments};
 
 use crate::bits::pass_field;
+use crate::ends::put_short;
 use crate::leaves::{Progress, pass_uint, pass_value};
 use crate::steps::Step;
 use defmt_grammar::{Hint, IntSize, Kind};
-use defmt_hints::put_text;
 
 // One step, under no hint, where no value stands inside another. It is apart from the steps inside values for its speed.
 fn stride(step: &Step, bytes: &[u8], before: Progress, out: &mut [u8]) -> Option<Progress>
@@ -23,7 +23,7 @@ fn stride(step: &Step, bytes: &[u8], before: Progress, out: &mut [u8]) -> Option
 {
     match step {
         Step::Text(text) => {
-            let written = put_text(out, before.written, text.as_str().as_bytes())?;
+            let written = put_short(out, before.written, text.as_str().as_bytes())?;
             Some(Progress {
                 read: before.read,
                 written,
@@ -37,7 +37,7 @@ fn stride(step: &Step, bytes: &[u8], before: Progress, out: &mut [u8]) -> Option
 
 // The size and the hint of an unsigned number that is the only step.
 #[inline(always)]
-fn lone_number(steps: &[Step]) -> Option<(IntSize, Hint)>
+pub(crate) fn lone_number(steps: &[Step]) -> Option<(IntSize, Hint)>
     ensures { IfSome result (λ number. steps.now ≡ number_step number.0 number.1 ∷ []) }
 {
     let Some((first, rest)) = steps.split_first() else {
@@ -57,7 +57,13 @@ fn lone_number(steps: &[Step]) -> Option<(IntSize, Hint)>
 
 // Steps, one after another.
 #[inline(never)]
-fn run_all(steps: &[Step], bytes: &[u8], from: usize, out: &mut [u8], at: usize) -> Option<Progress>
+pub(crate) fn run_all(
+    steps: &[Step],
+    bytes: &[u8],
+    from: usize,
+    out: &mut [u8],
+    at: usize,
+) -> Option<Progress>
     requires read { from ≤ length bytes.now }
     requires written { at ≤ length out.old }
     ensures { (t : Map) (all pieces : List AnyPiece) → AreSteps all pieces steps.now

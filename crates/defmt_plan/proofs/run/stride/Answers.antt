@@ -4,7 +4,7 @@ use Rattle.defmt_plan.proofs.run.stride.Goals as goal
 
 pub returns-in_ok-written-in-Text : goal.returns-in_ok-written-in-Text
 returns-in_ok-written-in-Text c = λ t.
-    rw c.in-Text.is (stride_text t c.in-Text.text c.args.bytes.now c.args.before c.args.out.now c.put_text.new.out c.in_ok-written-in-Text.written (placed c.as_str.ensures.utf8 (rw (c.as_bytes.ensures.value, c.as_str.ensures.text) at c.in_ok-written-in-Text.ensures)))
+    rw c.in-Text.is (stride_text t c.in-Text.text c.args.bytes.now c.args.before c.args.out.now c.put_short.new.out c.in_ok-written-in-Text.written (placed c.as_str.ensures.utf8 (rw (c.as_bytes.ensures.value, c.as_str.ensures.text) at c.in_ok-written-in-Text.ensures)))
 
 pub returns-in-Value : goal.returns-in-Value
 returns-in-Value c = λ t. rw c.in-Value.is (stride_value t c.in-Value.kind c.in-Value.hint c.args.bytes.now c.args.before c.args.out.now c.pass_value.new.out c.pass_value.result (c.pass_value.ensures t))
