@@ -1,5 +1,6 @@
 pub mod Cutting
 pub mod Telling
+pub mod Between
 pub mod Truncating
 pub mod Standing
 pub mod FrameCodes

@@ -1,5 +1,5 @@
 -- What a framer keeps, and for which stream it stands.
-use Rattle.std.specs.Prelude.{◌≡◌, ℕ, ◌+◌, ◌-◌, List, [], ◌∷◌, ◌++◌, Bool, true, false, ◌||◌, nat_lt, length, take, Option, Some, None, option_to_list, if◌then◌else◌}
+use Rattle.std.specs.Prelude.{◌≡◌, ℕ, ◌+◌, ◌-◌, ◌==◌, List, [], ◌∷◌, ◌++◌, Bool, true, false, ◌||◌, ◌&&◌, nat_lt, length, take, Option, Some, None, option_to_list, if◌then◌else◌}
 use Rattle.defmt_framing.specs.Cut.{has_zero, tail, since_zero}
 use Rattle.defmt_framing.specs.Told.{Tells, told_size, begun}
 
@@ -17,6 +17,10 @@ pub record Stands (framer : Framing) (stream : List ℕ) : Type 0 where
   pub zeros : framer.zeros ≡ has_zero stream
   pub since : framer.since ≡ told_size (length (since_zero stream))
   pub kept : framer.kept ≡ (if has_zero stream then take 65537 (tail stream) else [])
+
+-- a zero was heard, and nothing behind it
+abbrev pub is_between : Framing → Bool
+is_between framer = framer.zeros && framer.since == 0
 
 -- What is told comes by the last byte that was taken, a zero, and nothing comes before it.
 abbrev pub ComesLast : {E : Type 0} → Tells E → List ℕ → List ℕ → Option E → Type 0

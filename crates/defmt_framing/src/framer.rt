@@ -1,6 +1,6 @@
 //! A stream that is fed in parts, cut at its zeros.
 ghost use Rattle.std.specs.Prelude.{◌≡◌, ◌≢◌, ◌+◌, ◌-◌, ◌^◌, ◌≤◌, ◌<◌, ◌++◌, ◌∷◌, [], List, ℕ, length, take, drop, replicate, IfOk, MatchOption, OnOk, OnErr, option_to_list, slice_index, true, false};
-ghost use Rattle.defmt_framing.specs.Cut.{has_zero};
+ghost use Rattle.defmt_framing.specs.Cut.{has_zero, tail};
 ghost use Rattle.defmt_framing.specs.Told.{Tells, events, begun, of_piece};
 
 use crate::places::{until_zero, zeros_in_front};
@@ -33,7 +33,8 @@ impl Model for Framer {
 }
 
 impl Framer {
-    ghost use Rattle.defmt_framing.specs.Framing.{Stands, Hears, GoesOn};
+    ghost use Rattle.defmt_framing.specs.Calls.{HeardAs};
+    ghost use Rattle.defmt_framing.specs.Framing.{Stands, Hears, GoesOn, is_between};
     ghost use Rattle.defmt_framing.specs.Wholes.{HasNoWhole, IsWhole};
 
     /// A framer that has heard nothing. Takes no memory.
@@ -113,6 +114,34 @@ impl Framer {
         let (taken, _) = bytes.split_at(start + size + 1);
         self.heard = self.heard.saturating_add(taken.len() as u64);
         self.zeros = true;
+    }
+
+    /// Begins anew, as one that has heard a zero alone. Takes no memory.
+    pub fn begin(&mut self)
+        ensures { Stands self.new (0 ∷ []) }
+    {
+        self.heard = 1;
+        self.zeros = true;
+        self.since = 0;
+        self.kept.clear();
+    }
+
+    /// Whether the last byte that was heard is a zero. Takes no memory.
+    pub fn is_between(&self) -> bool
+        ensures is { result ≡ is_between self.now }
+        ensures ended { result ≡ true → (stream : List ℕ) → Stands self.now stream → tail stream ≡ [] }
+    {
+        self.zeros && self.since == 0
+    }
+
+    /// Takes so many bytes that end with a zero, where the last byte before them is one too. What they tell is known elsewhere.
+    pub fn pass_pieces<E>(&mut self, size: usize)
+        requires { is_between self.old ≡ true }
+        ensures { (tells : Tells E) (stream bytes : List ℕ) → Stands self.old stream
+            → length bytes ≡ size → tail (0 ∷ bytes) ≡ []
+            → HeardAs tells self.new stream bytes (begun tells (0 ∷ bytes)) }
+    {
+        self.heard = self.heard.saturating_add(size as u64);
     }
 
     /// What the end of the stream tells beyond what was answered: something of the front where no
