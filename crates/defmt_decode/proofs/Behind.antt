@@ -1,5 +1,5 @@
 -- A part of a buffer that is written, and what stands in front of it and behind.
-use Rattle.std.proofs.Common.{◌≡◌, ◌≤◌, ℕ, List, ◌++◌, length, length-append, take, drop, Option, Some, None, Result, Ok, Err, refl, sym, ap, subst, ◌∙◌, arith, IfOk, IfSome}
+use Rattle.std.proofs.Common.{◌≡◌, ◌≤◌, ◌+◌, ◌-◌, ℕ, List, ◌++◌, length, length-append, take, drop, Option, Some, None, Result, Ok, Err, refl, sym, ap, subst, ◌∙◌, arith, IfOk, IfSome}
 use Rattle.std.proofs.lemmas.List.{length-take, take-append-le}
 use Rattle.std.specs.Str.{IsUtf8}
 use lib.Seq.{drop_at, take_at, length-take-le}
@@ -54,3 +54,11 @@ module _ (xs mid : List ℕ) (at count : ℕ) (le : at ≤ length xs) where
   pub line_put : (r : Option (Origin × ℕ)) (event : Event) → IfSome r (λ line. IsNotice mid event (notices.Line line.0 line.1)) → IfSome r (λ line. IsNotice (drop at (put_mid at count xs mid)) event (notices.Line line.0 line.1))
   line_put None event h = tt
   line_put (Some line) event h = notice_there event (notices.Line line.0 line.1) h
+
+-- a piece, as it is cut out of bytes
+pub cut_piece : (bytes : List ℕ) (start size : ℕ) → take (start + size - start) (drop start bytes) ≡ take size (drop start bytes)
+cut_piece bytes start size = ap (λ (n : ℕ). take n (drop start bytes)) (let e : start + size - start ≡ size = omega arith in e)
+
+-- a buffer that keeps its front is as long as that
+pub long_kept : (old new : List ℕ) (at : ℕ) → at ≤ length old → take at new ≡ take at old → at ≤ length new
+long_kept old new at le e = omega (arith, le, ap length e, length-take at new, length-take at old)

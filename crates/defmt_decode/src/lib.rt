@@ -23,7 +23,7 @@ mod reader;
 mod room;
 mod screen;
 
-pub use defmt_plan::{Origin, Parts};
+pub use defmt_plan::{Origin, Parts, PlannedTable};
 pub use event::{Event, Events};
 pub use host::Host;
 pub use laws::{

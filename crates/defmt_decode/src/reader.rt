@@ -1,6 +1,6 @@
 //! What a piece tells.
 
-ghost use Rattle.std.specs.Prelude.{◌≡◌, ◌≤◌, ◌+◌, None, Some, false, List, ℕ, length, take, drop, IfOk, OnErr};
+ghost use Rattle.std.specs.Prelude.{◌≡◌, ◌≤◌, ◌+◌, None, Some, false, List, ℕ, length, take, drop, IfOk, IfSome, OnErr};
 ghost use Rattle.std.specs.Str.{IsUtf8};
 ghost use Rattle.defmt_decode.specs.Event.{IsNotice, IsPrinted, line_with, of_heard, tells};
 ghost use Rattle.defmt_decode.specs.Refusal.{refusal_number, refused};
@@ -10,6 +10,7 @@ ghost use Rattle.defmt_framing.specs.Framing.{Hears, Stands};
 ghost use Rattle.defmt_framing.specs.Notices.{HasText, told_by};
 ghost use Rattle.defmt_framing.specs.Told.{Tells};
 ghost use Rattle.defmt_framing.specs.Wholes.{IsWhole};
+ghost use Rattle.defmt_framing.specs.declared.notice.Notice.TheVariants as notices;
 
 use crate::event::Event;
 use crate::notices::{line_behind, notice_behind, notice_in_front, origin_of};
@@ -56,15 +57,15 @@ impl Refusal {
 // is written by a plan; both grow as the pieces need them. What is heard in them is kept, so that its lists needn't be made
 // anew for each.
 #[derive(Drop)]
-pub(crate) struct Reader {
+pub(crate) struct Reader<'t> {
     alloc: Global,
-    table: PlannedTable,
+    table: &'t PlannedTable,
     buffer: Vec<u8>,
     line: Vec<u8>,
     heard: Heard,
 }
 
-impl Model for Reader {
+impl<'t> Model for Reader<'t> {
     ghost use Rattle.defmt_intern.specs.declared.table.Table.{Table as AnyTable};
     ghost use Rattle.defmt_intern.specs.contracts.table.Table.{the_row};
 
@@ -72,20 +73,20 @@ impl Model for Reader {
 
     ghost coded = { the_row.coded };
 
-    ghost view = { λ r. r.table };
+    ghost view = { λ r. r.table.now };
 }
 
-impl Reader {
-    pub(crate) fn new(alloc: Global, table: Table) -> Result<Self, Memory>
-        ensures { IfOk result (λ reader. reader ≡ table) }
+impl<'t> Reader<'t> {
+    pub(crate) fn new(alloc: Global, table: &'t PlannedTable) -> Self
+        ensures { result ≡ table.now }
     {
-        Ok(Reader {
+        Reader {
             alloc,
-            table: PlannedTable::new(alloc, table)?,
+            table,
             buffer: Vec::new(alloc),
             line: Vec::new(alloc),
             heard: Heard::new(alloc),
-        })
+        }
     }
 
     pub(crate) fn table(&self) -> &Table
@@ -94,10 +95,38 @@ impl Reader {
         self.table.table()
     }
 
-    // Hears a piece without a zero, which bytes have whole. The text of a line may stand behind a place of the buffer, and what
-    // stands in front of that stays. The way of a line by a plan is one of its own, since it is the usual one.
+    // The line of a piece without a zero, where a plan writes it behind a place of the buffer. What stands in front of the place
+    // stays.
     #[tactic(auto, unfolding(crate::specs::Event::tells))]
     #[inline(always)]
+    pub(crate) fn line(
+        &mut self,
+        piece: &[u8],
+        text: &mut Vec<u8>,
+        at: usize,
+    ) -> Option<(Origin, usize)>
+        requires place { at ≤ length text.old.items }
+        requires short { length piece.now ≤ 65536 }
+        requires none { has_zero piece.now ≡ false }
+        ensures line { IfSome result (λ line. IsNotice (drop at text.new.items)
+            ((tells self.old).piece piece.now) (notices.Line line.0 line.1)) }
+        ensures front { take at text.new.items ≡ take at text.old.items }
+        ensures same { self.new ≡ self.old }
+    {
+        if make_room(&mut self.buffer, 7 * piece.len()).is_err() {
+            return None;
+        }
+        let begin = decode_zeroless_piece(piece, &mut self.buffer)?;
+        let code = &self.buffer[begin..];
+        let Ok(end) = room_behind(text, at) else {
+            return None;
+        };
+        line_behind(self.table, code, piece.len() as u32, text, at, end)
+    }
+
+    // Hears a piece without a zero, which bytes have whole, whatever it tells. The text of a line may stand behind a place of the
+    // buffer, and what stands in front of that stays.
+    #[tactic(auto, unfolding(crate::specs::Event::tells))]
     pub(crate) fn hear(
         &mut self,
         framer: &mut Framer,
@@ -131,10 +160,6 @@ impl Reader {
         let code = &self.buffer[begin..];
         let end = room_behind(text, at)?;
         let whole = piece.len() as u32;
-        if let Some((origin, count)) = line_behind(&self.table, code, whole, text, at, end) {
-            framer.pass_piece::<Event>(bytes, start, size);
-            return Ok((start + size + 1, Notice::Line(origin, count)));
-        }
         let table = self.table.table();
         let notice = notice_behind(
             self.alloc,
@@ -152,7 +177,7 @@ impl Reader {
 }
 
 #[tactic(auto, unfolding(crate::specs::Event::tells))]
-impl Teller for Reader {
+impl<'t> Teller for Reader<'t> {
     type Told = Event;
 
     ghost tells = { λ t. tells t };
@@ -166,7 +191,7 @@ impl Teller for Reader {
                 let line = self.line.as_mut_slice();
                 let notice = notice_in_front(
                     self.alloc,
-                    &self.table,
+                    self.table,
                     bytes,
                     piece.len() as u32,
                     line,

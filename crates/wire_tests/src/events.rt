@@ -2,7 +2,7 @@
 use crate::rows::Kind;
 use crate::runs::{bytes_of, put_count};
 use crate::strings::{end_line, script_of, table_of};
-use defmt_decode::{Event, Host};
+use defmt_decode::{Event, Host, PlannedTable};
 use defmt_grammar::Text;
 use defmt_intern::Table;
 use std::alloc::Global;
@@ -179,7 +179,8 @@ fn put_end(out: &mut String, start: usize, event: Option<Event>) -> Result<(), F
 // The events of a stream.
 fn put_stream(alloc: Global, table: &Table, bytes: &[u8], out: &mut String) -> Result<(), Fail> {
     let start = out.len();
-    let mut host = Host::new(alloc, table.copy()?)?;
+    let planned = PlannedTable::new(alloc, table.copy()?)?;
+    let mut host = Host::new(alloc, &planned);
     put_all(&mut host, bytes, start, out)?;
     put_end(out, start, host.finish())
 }
@@ -266,7 +267,8 @@ fn put_calls(alloc: Global, host: &mut Host, stream: &str, out: &mut String) -> 
 }
 
 fn put_calls_by(alloc: Global, table: &Table, stream: &str, out: &mut String) -> Result<(), Fail> {
-    let mut host = Host::new(alloc, table.copy()?)?;
+    let planned = PlannedTable::new(alloc, table.copy()?)?;
+    let mut host = Host::new(alloc, &planned);
     put_calls(alloc, &mut host, stream, out)?;
     let start = out.len();
     put_end(out, start, host.finish())

@@ -2,7 +2,7 @@
 use crate::rows::Kind;
 use crate::runs::bytes_of;
 use crate::strings::{end_line, table_of};
-use defmt_decode::{Event, Host, Parts};
+use defmt_decode::{Event, Host, Parts, PlannedTable};
 use defmt_framing::Notice;
 use defmt_intern::Table;
 use std::alloc::Global;
@@ -84,9 +84,10 @@ fn put_heard(alloc: Global, host: &mut Host, bytes: &[u8], out: &mut String) -> 
 
 fn put_frame(alloc: Global, table: &Table, bytes: &[u8], out: &mut String) -> Result<(), Fail> {
     put_str(out, "fed ")?;
-    put_fed(&mut Host::new(alloc, table.copy()?)?, bytes, out)?;
+    let planned = PlannedTable::new(alloc, table.copy()?)?;
+    put_fed(&mut Host::new(alloc, &planned), bytes, out)?;
     put_str(out, " heard ")?;
-    put_heard(alloc, &mut Host::new(alloc, table.copy()?)?, bytes, out)
+    put_heard(alloc, &mut Host::new(alloc, &planned), bytes, out)
 }
 
 fn put_frames(alloc: Global, table: &Table, rows: &str, out: &mut String) -> Result<(), Fail> {

@@ -5,7 +5,7 @@ ghost use Rattle.defmt_hooks.specs.Kept.{keeps};
 
 use crate::rows::Kind;
 use crate::strings::table_of;
-use defmt_decode::{Event, Events, Host, Parts, Screen};
+use defmt_decode::{Event, Events, Parts, Screen};
 use defmt_grammar::Text;
 use defmt_hooks::{Hook, Judge, Level, Rules, Watch, keeps, read_rules};
 use defmt_intern::Table;
@@ -74,10 +74,10 @@ fn put_shown(rules: &Rules, table: &Table, told: &[Event], out: &mut String) -> 
 }
 
 pub fn put_shown_of(alloc: Global, text: &str, out: &mut String) -> Result<(), Fail> {
-    let host = Host::new(alloc, table_of(alloc, STRINGS)?)?;
+    let table = table_of(alloc, STRINGS)?;
     let events = events_of(alloc)?;
     match read_rules(alloc, text) {
-        Ok(rules) => put_shown(&rules, host.table(), events.as_slice(), out),
+        Ok(rules) => put_shown(&rules, &table, events.as_slice(), out),
         Err(_) => put_str(out, "no rules"),
     }
 }
