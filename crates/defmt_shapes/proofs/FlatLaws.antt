@@ -78,7 +78,7 @@ numbers_there lang text inside after rest i a b =
 
 -- ---- a bracket and what it encloses, passed over at once
 
-opened : (lang : Language) (first b c : Bracket) (text : List ℕ) (bs : List Bracket) (place : Place) (rest after : List ℕ) → InBrackets lang first text b bs place rest → IsStep lang b place rest (goes_on (Open c) after) → InBrackets lang first text c (b ∷ bs) Before after
+pub opened : (lang : Language) (first b c : Bracket) (text : List ℕ) (bs : List Bracket) (place : Place) (rest after : List ℕ) → InBrackets lang first text b bs place rest → IsStep lang b place rest (goes_on (Open c) after) → InBrackets lang first text c (b ∷ bs) Before after
 opened lang first b c text bs place rest after h s = record {
   sound = step_sound lang first b text bs place rest (Open c, after) s h.sound;
   complete = λ inside end k. step_left lang b bs place rest end (Open c, after) (h.complete inside end k) s;

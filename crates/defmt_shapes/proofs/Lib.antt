@@ -19,6 +19,7 @@ mod OneLead
 pub mod OneLaws
 pub mod FlatLaws
 pub mod ValueLaws
+pub mod SomeLaws
 pub mod OrderLaws
 pub mod MeaningLaws
 pub mod BareLaws

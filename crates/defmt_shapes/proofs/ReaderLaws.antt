@@ -54,7 +54,7 @@ go_open lang first b c text below place rest after h s =
       complete = λ inside end k. step_left lang b (reverse below) place rest end (Open c, after) (h.complete inside end k) s;
     })
 
-out_of : (lang : Language) (first b d : Bracket) (text : List ℕ) (bs : List Bracket) (place : Place) (rest after : List ℕ) → InBrackets lang first text b (d ∷ bs) place rest → IsStep lang b place rest (goes_on Close after) → InBrackets lang first text d bs After after
+pub out_of : (lang : Language) (first b d : Bracket) (text : List ℕ) (bs : List Bracket) (place : Place) (rest after : List ℕ) → InBrackets lang first text b (d ∷ bs) place rest → IsStep lang b place rest (goes_on Close after) → InBrackets lang first text d bs After after
 out_of lang first b d text bs place rest after h s = record {
   sound = step_sound lang first b text (d ∷ bs) place rest (Close, after) s h.sound;
   complete = λ inside end k.

@@ -1,6 +1,6 @@
 //! Laws of what texts spell.
 
-ghost use Rattle.std.specs.Prelude.{◌≡◌, List, [], ℕ, Option};
+ghost use Rattle.std.specs.Prelude.{◌≡◌, ◌⊎◌, List, [], ℕ, Option};
 ghost use Rattle.defmt_grammar.specs.Cut.{skip_spaces};
 ghost use Rattle.defmt_grammar.specs.declared.language.Language.{Language};
 ghost use Rattle.defmt_shapes.specs.Shape.{Shape, Shapes, Items, no_shapes, shape, no_items, item, SpellsShape, SpellsShapes, SpellsItems, HeadShape};
@@ -24,6 +24,13 @@ pub fn one_head()
     ensures { (language : Language) (text rest tail : List ℕ) (s t : Shape)
         → HeadShape language text s rest
         → HeadShape language text t tail → SameHead s t rest tail }
+{}
+
+/// A text begins with a value, or with none.
+pub fn some_head()
+    ensures { (language : Language) (text : List ℕ)
+        → ((s : Shape) × (rest : List ℕ) × HeadShape language text s rest)
+        ⊎ ((s : Shape) (rest : List ℕ) → HeadShape language text s rest → ⊥) }
 {}
 
 /// Values are spelled one by one: behind the spaces stands the first, and what follows it spells the

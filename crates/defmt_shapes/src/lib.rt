@@ -18,7 +18,7 @@ mod scan;
 mod spelling;
 
 pub use calls::last_call;
-pub use laws::{element_by_element, one_head, one_shape, value_by_value};
+pub use laws::{element_by_element, one_head, one_shape, some_head, value_by_value};
 pub use meaning::{bytes_of, unescape};
 pub use number::Number;
 pub use parts::{is_name, skip_spaces};

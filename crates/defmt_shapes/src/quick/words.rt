@@ -31,11 +31,15 @@ fn word(text: &str) -> Option<(bool, &str)>
         (λ p. text.now ≡ flag_word p.0 ++ p.1.now) }
     ensures utf8 { IfSome result (λ p. IsUtf8 p.1.now) }
 {
-    if let Some(rest) = text.strip_prefix("true") {
-        return Some((true, rest));
-    }
-    match text.strip_prefix("false") {
-        Some(rest) => Some((false, rest)),
-        None => None,
+    match text.as_bytes() {
+        [b't', b'r', b'u', b'e', ..] => {
+            let (_, rest) = text.split_at(4);
+            Some((true, rest))
+        }
+        [b'f', b'a', b'l', b's', b'e', ..] => {
+            let (_, rest) = text.split_at(5);
+            Some((false, rest))
+        }
+        _ => None,
     }
 }
