@@ -19,6 +19,7 @@ mod FloatDigits
 mod FloatParts
 mod FloatReads
 mod FloatBacks
+mod SomeLaws
 mod Wholes
 mod Writable
 mod Written

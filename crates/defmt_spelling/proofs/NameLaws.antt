@@ -11,10 +11,11 @@ use Rattle.std.specs.Ordering.{ordering_reverse}
 use Rattle.std.specs.Str.{bytes_eq}
 use Rattle.std.proofs.lemmas.Bool.{and_parts, cases_Bool, cond-true, cond-false, eqb-true}
 use Rattle.std.proofs.lemmas.Bool.Decides.{nat_tests}
-use Rattle.std.proofs.lemmas.List.Elements.{All-head, All-tail}
+use Rattle.std.proofs.lemmas.List.Elements.{All-head, All-tail, All-weaker}
 use Rattle.std.proofs.lemmas.Map.Text.{is_eq-slice_cmp}
-use Rattle.std.proofs.lemmas.Option.{same_Some}
-use Rattle.defmt_spelling.specs.Names.{NameMap, Kept, pairs, names_of, first_named, name_of, comes_before}
+use Rattle.std.proofs.lemmas.Option.{none-some, same_Some}
+use Rattle.defmt_spelling.specs.declared.near.Near.{Near}
+use Rattle.defmt_spelling.specs.Names.{NameMap, AreNear, IsNear, Kept, pairs, names_of, first_named, name_of, comes_before}
 
 abbrev Pairs : Type 0
 Pairs = List (List ℕ × ℕ)
@@ -240,3 +241,25 @@ least_is es names index same unique =
     (λ name n. named_of (map.entries names) name index (sym (get-entries names name) ∙ sym (there name) ∙ named_there es es index name unique n))
     (λ name n. named_of (pairs es) name index (find_pairs name es ∙ there name ∙ get-entries names name ∙ named_found (map.entries names) name index up n))
     (found_least (pairs es) index)))
+
+-- ---- names at their places
+
+inserted_here : (names : NameMap) (k : List ℕ) (v : ℕ) → map.get (map.insert names k v) k ≡ Some v
+inserted_here names k v = get-insert nat_list_cmp_total names k v k ∙ ap (λ (o : Ordering). cond {A = Option ℕ} (is_eq o) (Some v) (map.get names k)) (itself k)
+
+-- a new name changes none of the others
+still_near : (names : NameMap) (k : List ℕ) (v : ℕ) → map.get names k ≡ None → (o : Option Near) → IsNear names o → IsNear (map.insert names k v) o
+still_near names k v absent None h = tt
+still_near names k v absent (Some n) h =
+    let name : List ℕ = string_bytes n.name in
+    elim (cases_Bool (is_eq (order name k))) [
+      | inl e ↦ absurd (none-some n.index (sym absent ∙ ap (map.get names) (sym (same_name name k e)) ∙ h))
+      | inr e ↦ get-insert nat_list_cmp_total names k v name ∙ ap (λ (b : Bool). cond {A = Option ℕ} b (Some v) (map.get names name)) e ∙ h
+    ]
+
+-- a new name is kept beside the others
+pub near_put : (names : NameMap) (k : List ℕ) (v : ℕ) (one : Near) (old new : List (Option Near)) → string_bytes one.name ≡ k → one.index ≡ v → map.get names k ≡ None → AreNear names old
+    → ((m : NameMap) → IsNear m (Some one) → AreNear m old → AreNear m new) → AreNear (map.insert names k v) new
+near_put names k v one old new e i absent h keeps =
+    let here : map.get (map.insert names k v) (string_bytes one.name) ≡ Some one.index = ap (map.get (map.insert names k v)) e ∙ inserted_here names k v ∙ ap (λ (n : ℕ). Some n) (sym i) in
+    keeps (map.insert names k v) here (All-weaker (IsNear names) (IsNear (map.insert names k v)) (still_near names k v absent) old h)

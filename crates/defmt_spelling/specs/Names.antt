@@ -1,9 +1,10 @@
 -- Names of entries: a finite map from names to indexes.
-use Rattle.std.specs.Prelude.{◌==◌, ℕ, Bool, true, List, [], ◌∷◌, Option, Some, None, String, string_bytes, if◌then◌else◌}
+use Rattle.std.specs.Prelude.{◌≡◌, ◌==◌, ℕ, All, Bool, true, List, [], ◌∷◌, Option, Some, None, String, string_bytes, if◌then◌else◌}
 use Rattle.std.specs.Ordering.{is_lt, nat_cmp}
 use Rattle.std.specs.Cmp.Lexicographic.{slice_cmp}
 use Rattle.std.specs.FinMap as map
 use Rattle.std.specs.declared.alloc.Global.{Global}
+use Rattle.defmt_spelling.specs.declared.near.Near.{Near}
 
 -- a name is the list of its bytes, and names have the order of their bytes
 abbrev pub NameMap : Type 0
@@ -30,6 +31,14 @@ abbrev pub name_of : NameMap → ℕ → Option (List ℕ)
 name_of names index = first_named (map.entries names) index
 
 -- ---- for private clauses
+
+-- the map has this name, with this index
+abbrev pub IsNear : NameMap → Option Near → Type 0
+IsNear names None = Unit {0}
+IsNear names (Some near) = map.get names (string_bytes near.name) ≡ Some near.index
+
+abbrev pub AreNear : NameMap → List (Option Near) → Type 0
+AreNear names near = All (IsNear names) near
 
 -- the name is less than the least so far
 abbrev pub comes_before : List ℕ → Option (List ℕ) → Bool

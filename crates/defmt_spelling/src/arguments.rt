@@ -58,3 +58,9 @@ pub fn one_reading()
         → ReadsArguments names table index text a → ReadsArguments names table index text b
         → a ≡ b }
 {}
+
+/// Each text reads as a list of values, or has a first cause for which it spells none.
+pub fn some_reading()
+    ensures { (names : NameMap) (table : AnyTable) (index : ℕ) (text : List ℕ)
+        → (read : Result Vals ℕ) × ReadsArguments names table index text read }
+{}

@@ -10,6 +10,7 @@ mod forms;
 mod leaves;
 mod marks;
 mod names;
+mod near;
 mod nested;
 mod numbers;
 mod printing;
@@ -17,7 +18,7 @@ mod quick;
 mod reading;
 mod sequences;
 
-pub use arguments::{one_reading, read_args};
+pub use arguments::{one_reading, read_args, some_reading};
 pub use fault::ArgFault;
 pub use names::Names;
 pub use printing::{print_args, reads_back};

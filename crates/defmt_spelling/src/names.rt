@@ -4,6 +4,7 @@ ghost use Rattle.std.specs.Option.{option_copied};
 ghost use Rattle.std.specs.FinMap as map;
 ghost use Rattle.defmt_spelling.specs.Names.{comes_before, name_of};
 
+use crate::near::{Near, keep_near, near_index};
 use dl_io::Memory;
 use std::alloc::Global;
 use std::collections::HashMap;
@@ -13,25 +14,32 @@ use std::marker::Model;
 pub struct Names {
     alloc: Global,
     names: HashMap<String, u16>,
+    near: Vec<Option<Near>>,
 }
 
 // By hand: a derived drop is proved again in each crate that drops such a value.
 impl Drop for Names {
     fn drop(self) {
-        let Names { alloc: _, names: _ } = self;
+        let Names {
+            alloc: _,
+            names: _,
+            near: _,
+        } = self;
     }
 }
 
 impl Model for Names {
     ghost use Rattle.std.specs.FinMap as map;
     ghost use Rattle.std.specs.Coded.{coded_list, coded_ℕ};
-    ghost use Rattle.defmt_spelling.specs.Names.{NameMap, names_of};
+    ghost use Rattle.defmt_spelling.specs.Names.{NameMap, AreNear, names_of};
 
     ghost Value = { NameMap };
 
     ghost coded = { map.code (coded_list coded_ℕ) coded_ℕ };
 
     ghost view = { λ n. names_of n.names.entries };
+
+    ghost invariant = { λ n. AreNear (names_of n.names.entries) n.near.items };
 }
 
 // Whether a name is less than the least so far.
@@ -52,6 +60,7 @@ impl Names {
         Names {
             alloc,
             names: HashMap::new(alloc),
+            near: Vec::new(alloc),
         }
     }
 
@@ -61,15 +70,28 @@ impl Names {
         ensures err { OnErr result (self.new ≡ self.old) }
     {
         let key = String::from_str(self.alloc, name)?;
-        self.names.insert(key, index)?;
+        let near = Near {
+            name: String::from_str(self.alloc, name)?,
+            index,
+        };
+        let known = self.names.insert(key, index)?.is_some();
+        if known {
+            self.near = Vec::new(self.alloc);
+        } else {
+            keep_near(&mut self.near, near);
+        }
         Ok(())
     }
 
     /// The index of a name, `None` exactly where the name isn't in the map. Takes no memory.
+    #[inline(always)]
     pub fn get(&self, name: &str) -> Option<u16>
         ensures { result ≡ map.get self.now name.now }
     {
-        self.names.get(name).copied()
+        match near_index(&self.near, name) {
+            Some(index) => Some(index),
+            None => self.names.get(name).copied(),
+        }
     }
 
     /// The name of an index, and of several the least in the order of bytes. `None` exactly where no name has the
