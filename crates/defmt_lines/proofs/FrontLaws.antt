@@ -1,10 +1,10 @@
 -- What stands in front of most statements.
 use Rattle.std.proofs.Common.{◌≡◌, ◌<◌, ◌≤◌, ◌+◌, ◌++◌, ℕ, zero, suc, List, [], ◌∷◌, length, get_or, drop, Option, Some, refl, ap, ◌∙◌, arith}
-use Rattle.std.specs.Prelude.{codes}
+use Rattle.std.specs.Prelude.{codes, unwrap_or}
 use Rattle.std.specs.Fmt.{decimal}
 use Rattle.std.proofs.lemmas.Fmt.{decimal_digit}
 use Rattle.defmt_grammar.specs.Cut.{cut}
-use Rattle.defmt_lines.specs.Line.{Line, act, act_of, field_and_rest, line_by_word}
+use Rattle.defmt_lines.specs.Line.{Line, act, other, act_of, field_and_rest, line_by_word, line_of_text}
 use Rattle.defmt_lines.specs.Number.{is_digits, within, writer_of}
 use Rattle.defmt_lines.specs.declared.form.Form.TheVariants as forms
 
@@ -40,6 +40,6 @@ pub front_is : (behind : Text) (n : ℕ) → n < 8 → codes "w " ++ (decimal n 
 front_is behind n lt = ap (λ (digits : Text). codes "w " ++ (digits ++ (codes " " ++ behind))) (decimal_digit n (omega (arith, lt)))
 
 pub statement_said : (text behind field rest : Text) (n : ℕ) → text ≡ codes "w " ++ (decimal n ++ (codes " " ++ behind)) → n < 8 → field ≡ (field_and_rest behind).0 → rest ≡ (field_and_rest behind).1
-    → (let o : Option Line = Some (act forms.Statement (Some n) field rest) in o ≡ line_by_word text)
+    → act forms.Statement (Some n) field rest ≡ line_of_text text
 unfolding said
-statement_said text behind field rest n is lt f r = rw (is ∙ front_is behind n lt, f, r) (by_digit n behind lt)
+statement_said text behind field rest n is lt f r = rw (is ∙ front_is behind n lt, f, r) (ap (λ (o : Option Line). unwrap_or o other) (by_digit n behind lt))

@@ -9,6 +9,8 @@ mod NumberLaws
 mod Numbers
 pub mod OrderLaws
 pub mod SettingLaws
+mod SomeKinds
+mod SomeForms
 mod Verdicts
 mod Spaces
 mod TextCuts

@@ -1,6 +1,7 @@
 -- Verdicts on texts.
-use Rattle.std.proofs.Common.{◌≡◌, ◌<◌, ◌≤◌, ◌++◌, ◌⊎◌, inl, inr, ℕ, List, [], ◌∷◌, length, Option, Some, None, Result, sym, ◌∙◌, ap, subst, arith}
+use Rattle.std.proofs.Common.{◌≡◌, ◌<◌, ◌≤◌, ◌++◌, ◌⊎◌, inl, inr, ℕ, List, [], ◌∷◌, length, Option, Some, None, Result, refl, sym, ◌∙◌, ap, subst, arith}
 use Rattle.std.specs.Result.{result_err}
+use Rattle.std.proofs.lemmas.Bool.{cases_lt}
 use Rattle.defmt_grammar.specs.Grammar.{Spells, HasFault, SameFault}
 use Rattle.defmt_grammar.specs.Fault.{cause_number}
 use Rattle.defmt_grammar.specs.declared.fault.Cause.{Cause}
@@ -12,6 +13,7 @@ use Rattle.defmt_intern.specs.Body.{HasNoBar, variants}
 use Rattle.defmt_intern.specs.declared.entry.Tag.{Tag}
 use Rattle.defmt_intern.specs.declared.entry.Tag.TheVariants as tags
 use Rattle.defmt_intern.proofs.BodyLaws.{variants_alone, variants_one, variants_more}
+use Rattle.defmt_lines.proofs.SomeForms.{some_answer}
 use Rattle.defmt_lines.specs.Verdict.{Judges, JudgesBody, JudgesForms, JudgesVariants}
 
 -- a text spells at most one list of pieces, or has one fault and spells nothing
@@ -104,3 +106,40 @@ stops language rest text variant after number behind e bare refused =
 
 pub ends : (language : Language) (rest text : List ℕ) (v : Option ℕ) → IsBehind language rest text → HasNoBar rest → JudgesForms language (rest ∷ []) v → JudgesForms language (variants text) v
 ends language rest text v behind bare j = behind.then v (subst (λ (ts : List (List ℕ)). JudgesForms language ts v) (sym (variants_one rest bare)) j)
+
+-- ---- each text has a verdict
+
+module _ (language : Language) where
+  some_forms : (texts : List (List ℕ)) → (v : Option ℕ) × JudgesForms language texts v
+  some_forms [] = (None, refl)
+  some_forms (text ∷ more) = elim (some_answer text (strict_of language)) [
+    | inl s ↦ (let m = some_forms more in (m.0, inl (s.0, s.1, m.1)))
+    | inr f ↦ (Some (cause_number f.0), inr (cause_number f.0, f.1, (f.0, f.2, refl), refl))
+  ]
+
+  some_variants : (texts : List (List ℕ)) → (v : Option ℕ) × JudgesVariants language texts v
+  some_variants texts = elim (cases_lt 255 (length texts)) [
+    | inl many ↦ (Some 0, inl (many, refl))
+    | inr few ↦ (let f = some_forms texts in (f.0, inr (few, f.1)))
+  ]
+
+  some_body : (tag : Tag) (text : List ℕ) → (v : Option ℕ) × JudgesBody language tag text v
+  some_body tags.Interned text = (None, refl)
+  some_body tags.Prim text = some_variants (variants text)
+  some_body tags.Derived text = some_variants (variants text)
+  some_body tags.Write text = some_variants (variants text)
+  some_body tags.Trace text = some_forms (text ∷ [])
+  some_body tags.Debug text = some_forms (text ∷ [])
+  some_body tags.Info text = some_forms (text ∷ [])
+  some_body tags.Warn text = some_forms (text ∷ [])
+  some_body tags.Error text = some_forms (text ∷ [])
+  some_body tags.Println text = some_forms (text ∷ [])
+  some_body tags.Timestamp text = some_forms (text ∷ [])
+  some_body (tags.Other name) text = some_forms (text ∷ [])
+
+  pub some_verdict : (tag : Tag) (text : List ℕ) → (v : Option ℕ) × Judges language tag text v
+  unfolding Judges
+  some_verdict tag text = elim (cases_lt 4096 (length text)) [
+    | inl long ↦ (Some 0, inl (long, refl))
+    | inr short ↦ (let b = some_body tag text in (b.0, inr (short, b.1)))
+  ]

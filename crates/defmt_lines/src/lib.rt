@@ -22,4 +22,4 @@ pub use form::Form;
 pub use line::{one_line, read_line, read_text_line};
 pub use orders::Orders;
 pub use settings::{RingMode, Settings, one_setting};
-pub use verdict::{judge, one_verdict, parse_text};
+pub use verdict::{judge, one_verdict, parse_text, some_verdict};

@@ -12,6 +12,7 @@ use crate::number::writer_of;
 use defmt_intern::Tag;
 
 /// What a line says.
+#[inline(never)]
 pub fn read_line(line: &[u8]) -> Line<'_>
     ensures { Says line.now (line_view result) }
 {
@@ -41,8 +42,27 @@ fn line_of(line: &[u8]) -> Line<'_>
     line_of_text(text)
 }
 
-// The same of a text.
+// The same of a text. Most lines are statements of a writer of one digit.
 fn line_of_text(text: &str) -> Line<'_>
+    ensures { line_view result ≡ line_of_text text.now }
+{
+    let Some((writer, behind)) = statement_front(text) else {
+        return any_line_of_text(text);
+    };
+    let (field, rest) = field_and_rest(behind);
+    Line::Act(
+        Form::Statement,
+        ActionLine {
+            writer: Some(writer),
+            field,
+            rest,
+        },
+    )
+}
+
+// The same of any text.
+#[inline(never)]
+fn any_line_of_text(text: &str) -> Line<'_>
     ensures { line_view result ≡ line_of_text text.now }
 {
     if is_blank(text.as_bytes()) {
@@ -73,7 +93,7 @@ fn is_blank(line: &[u8]) -> bool
     }
 }
 
-// The writer of a statement, where it is one digit from 0 to 7, and what follows it. Most lines begin so.
+// The writer of a statement, where it is one digit from 0 to 7, and what follows it.
 fn statement_front(text: &str) -> Option<(u8, &str)>
     ensures text { IfSome result (λ p.
         text.now ≡ codes "w " ++ (decimal p.0 ++ (codes " " ++ p.1.now))) }
@@ -91,26 +111,8 @@ fn statement_front(text: &str) -> Option<(u8, &str)>
 }
 
 // A line by its first word.
-fn line_by_word(text: &str) -> Option<Line<'_>>
-    ensures { option_map line_view result ≡ line_by_word text.now }
-{
-    let Some((writer, behind)) = statement_front(text) else {
-        return any_line_by_word(text);
-    };
-    let (field, rest) = field_and_rest(behind);
-    Some(Line::Act(
-        Form::Statement,
-        ActionLine {
-            writer: Some(writer),
-            field,
-            rest,
-        },
-    ))
-}
-
-// The same of any line.
 #[tactic(auto, unfolding(crate::specs::Line::line_by_word))]
-fn any_line_by_word(text: &str) -> Option<Line<'_>>
+fn line_by_word(text: &str) -> Option<Line<'_>>
     ensures { option_map line_view result ≡ line_by_word text.now }
 {
     let (word, rest) = cut(text)?;

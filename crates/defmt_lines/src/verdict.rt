@@ -1,9 +1,13 @@
 //! Whether a text may stand in an `s` line, and what it stands for there.
 
-ghost use Rattle.std.specs.Prelude.{◌≡◌, ◌<◌, ◌^◌, ◌∷◌, [], ℕ, List, Option, Some, length, IfOk};
+ghost use Rattle.std.specs.Prelude.{◌≡◌, ◌⊎◌, ◌<◌, ◌^◌, ◌∷◌, [], ℕ, List, Option, Some, length, IfOk};
 ghost use Rattle.std.specs.Result.{result_err};
+ghost use Rattle.defmt_grammar.specs.Grammar.{HasFault, Spells};
 ghost use Rattle.defmt_grammar.specs.Language.{lenient_of};
+ghost use Rattle.defmt_grammar.specs.declared.fault.Cause.{Cause as AnyCause};
+ghost use Rattle.defmt_grammar.specs.declared.fault.Mode.{Mode as AnyMode};
 ghost use Rattle.defmt_grammar.specs.declared.language.Language.{Language as AnyLanguage};
+ghost use Rattle.defmt_grammar.specs.declared.piece.Piece.{Piece as AnyPiece};
 ghost use Rattle.defmt_intern.specs.Body.{body_in, cut_body, forms_of, one_body, variants};
 ghost use Rattle.defmt_intern.specs.Pieces.{pieces_of};
 ghost use Rattle.defmt_intern.specs.declared.entry.Tag.{Tag as AnyTag};
@@ -62,6 +66,15 @@ pub fn one_verdict()
 {
     one_answer();
 }
+
+/// Each text has a verdict, since it spells pieces or has a fault, in each mode.
+pub fn some_verdict()
+    ensures verdict { (language : AnyLanguage) (tag : AnyTag) (text : List ℕ)
+        → (verdict : Option ℕ) × Judges language tag text verdict }
+    ensures answer { (text : List ℕ) (mode : AnyMode)
+        → ((pieces : List AnyPiece) × Spells text mode pieces)
+        ⊎ ((cause : AnyCause) × (at : ℕ) × HasFault text mode cause at) }
+{}
 
 // The pieces that a text spells strictly, or the number of its fault.
 fn parse_form(alloc: Global, language: Language, text: &str) -> Result<Result<Pieces, u8>, Memory>
