@@ -2,6 +2,7 @@ mod Behind
 pub mod Counts
 mod LawfulLaws
 mod ReadingLaws
+mod SomeReadings
 mod Settled
 pub mod Stamps
 mod Steadiness

@@ -170,6 +170,7 @@ impl Reading {
     }
 
     // Takes a text for a terminal: the field is the terminal's digit, and the rest is the text.
+    #[inline(never)]
     fn take_text(&mut self, line: ActionLine<'_>) -> Result<(), LineFault>
         ensures { TakesLine self.old
             (act SayForm line.entry.writer line.entry.field.now line.entry.rest.now)

@@ -23,4 +23,4 @@ pub use laws::{
 pub use rtt_terminal::WRITERS;
 pub use script::{Script, Statements};
 pub use step::Step;
-pub use top::{one_reading, read};
+pub use top::{one_reading, read, some_reading};

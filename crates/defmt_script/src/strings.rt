@@ -43,6 +43,7 @@ impl Reading {
         Ok(())
     }
 
+    #[inline(never)]
     pub(crate) fn take_string(&mut self, line: EntryLine<'_>) -> Result<(), LineFault>
         ensures { TakesLine self.old
             (entry line.entry.name.now line.entry.tag line.entry.text.now) result self.new }

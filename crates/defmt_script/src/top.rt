@@ -8,7 +8,9 @@ ghost use Rattle.defmt_script.specs.Script.{Refusal, Script as Read};
 use crate::fault::{LineFault, ScriptFault};
 use crate::reading::Reading;
 use crate::script::Script;
-use defmt_lines::{next_line, next_text_line, one_verdict, read_line, read_text_line};
+use defmt_lines::{
+    next_line, next_text_line, one_verdict, read_line, read_text_line, some_verdict,
+};
 use std::alloc::Global;
 use std::str;
 
@@ -35,6 +37,14 @@ pub fn one_reading()
 {
     one_verdict();
     defmt_spelling::one_reading();
+}
+
+/// Each text reads as a script, or is refused at a line.
+pub fn some_reading()
+    ensures { (text : List ℕ) → (reading : Result Read Refusal) × Reads text reading }
+{
+    some_verdict();
+    defmt_spelling::some_reading();
 }
 
 // What is answered for a line that isn't taken.

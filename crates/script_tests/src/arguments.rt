@@ -171,7 +171,24 @@ args <@word>
 =
 2
 none
-<@a>";
+<@a>
+
+name axz 1
+name ayz 2
+get axz
+get ayz
+name axz 3
+get axz
+get ayz
+get az
+get z
+=
+1
+2
+3
+2
+none
+none";
 
 // Strings with their names.
 #[derive(Drop)]
@@ -305,5 +322,5 @@ fn each_kind_has_its_spelling_and_its_causes(rt: HostRuntime) -> Result<(), Fail
 #[test]
 fn strings_are_found_by_their_names_and_the_least_is_written(rt: HostRuntime) -> Result<(), Fail> {
     each_block(rt.alloc(), BY_SCRIPTS, 4, &Kind::WrittenByScript)?;
-    each_block(rt.alloc(), BY_LINES, 2, &Kind::AnswersOf)
+    each_block(rt.alloc(), BY_LINES, 3, &Kind::AnswersOf)
 }
