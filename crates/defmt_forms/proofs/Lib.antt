@@ -1,4 +1,6 @@
+pub mod Blocks
 mod Controls
 mod Lines
 pub mod Literals
 pub mod Runs
+pub mod Templates

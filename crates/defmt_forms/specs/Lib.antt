@@ -2,3 +2,4 @@ pub mod Names
 pub mod Json
 pub mod Terminal
 pub mod Tamed
+pub mod Template

@@ -6,6 +6,14 @@ use Rattle.defmt_forms.specs.Terminal.{is_control, is_upper_control, tame}
 abbrev pub is_bare : ℕ → Bool
 is_bare byte = not (nat_lt byte 32) && (not (byte == 34) && not (byte == 92))
 
+-- a character of ASCII and no control character
+abbrev pub is_printable : ℕ → Bool
+is_printable byte = nat_le 32 byte && nat_lt byte 127
+
+-- a byte from the space on that is no control character and begins none of two bytes
+abbrev pub is_quiet : ℕ → Bool
+is_quiet byte = not (nat_lt byte 32) && (not (byte == 127) && not (byte == 194))
+
 -- a byte that is no control character and begins none of two bytes
 abbrev pub is_plain : ℕ → Bool
 is_plain byte = not (is_control byte) && not (byte == 194)

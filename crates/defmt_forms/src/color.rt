@@ -37,7 +37,8 @@ fn add_stamp(stamp: Option<&[u8]>, out: &mut Bytes) -> Result<(), Memory>
     out.push(b' ')
 }
 
-fn add_level(level: Option<Level>, out: &mut Bytes) -> Result<(), Memory>
+/// Appends the name of a level in its color, and the spaces behind it.
+pub(crate) fn add_level(level: Option<Level>, out: &mut Bytes) -> Result<(), Memory>
     ensures { OnOk result (out.new.items ≡ out.old.items ++ level_part level) }
 {
     match level {
@@ -59,7 +60,8 @@ fn level_text(level: Level) -> &'static [u8]
     }
 }
 
-fn add_place(place: Option<&str>, out: &mut Bytes) -> Result<(), Memory>
+/// Appends the place of a line, where it has one.
+pub(crate) fn add_place(place: Option<&str>, out: &mut Bytes) -> Result<(), Memory>
     ensures { OnOk result (out.new.items
         ≡ out.old.items ++ place_part (option_map tame (option_copied place.entry))) }
 {

@@ -8,13 +8,18 @@
 #![tactic(auto)]
 
 mod color;
+mod looks;
+mod making;
 mod names;
 mod objects;
 mod plain;
 mod quoted;
 mod tame;
+mod template;
 
 pub use color::{add_alarm, add_color_line, add_warning};
+pub use looks::{is_bare_text, is_quiet_text};
+pub use making::{color_template, json_template, plain_template};
 pub use names::level_name;
 pub use objects::{
     add_json_fault, add_json_front, add_json_gap, add_json_line, add_json_loss, add_json_tail,
@@ -23,3 +28,4 @@ pub use objects::{
 pub use plain::add_plain_line;
 pub use quoted::add_quoted;
 pub use tame::{add_tame, tame_has_no_controls};
+pub use template::Template;

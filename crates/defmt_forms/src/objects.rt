@@ -65,8 +65,9 @@ fn add_stamp(stamp: Option<&[u8]>, out: &mut Bytes) -> Result<(), Memory>
     }
 }
 
+/// Appends the member of a level, where there is one.
 #[tactic(auto, unfolding(json::specs::Print::escape_byte))]
-fn add_level(level: Option<Level>, out: &mut Bytes) -> Result<(), Memory>
+pub(crate) fn add_level(level: Option<Level>, out: &mut Bytes) -> Result<(), Memory>
     ensures { OnOk result (out.new.items ≡ out.old.items
         ++ optional_member (codes "level") (option_map level_name level)) }
 {
@@ -90,8 +91,9 @@ fn level_member(level: Level) -> &'static [u8]
     }
 }
 
+/// Appends the member of a place, where there is one.
 #[tactic(auto, unfolding(json::specs::Print::escape_byte))]
-fn add_place(place: Option<&str>, out: &mut Bytes) -> Result<(), Memory>
+pub(crate) fn add_place(place: Option<&str>, out: &mut Bytes) -> Result<(), Memory>
     ensures { OnOk result (out.new.items ≡ out.old.items
         ++ optional_member (codes "place") (option_copied place.entry)) }
 {
@@ -171,8 +173,8 @@ fn loss_front(dropped: bool) -> &'static [u8]
     }
 }
 
-// Appends the front of a member, up to the quote in front of its text, and the text and a quote behind it.
-fn add_text(front: &[u8], text: &[u8], out: &mut Bytes) -> Result<(), Memory>
+/// Appends the front of a member, up to the quote in front of its text, and the text and a quote behind it.
+pub(crate) fn add_text(front: &[u8], text: &[u8], out: &mut Bytes) -> Result<(), Memory>
     ensures { OnOk result (out.new.items
         ≡ out.old.items ++ (front.now ++ (escape text.now ++ 34 ∷ []))) }
 {
@@ -181,8 +183,8 @@ fn add_text(front: &[u8], text: &[u8], out: &mut Bytes) -> Result<(), Memory>
     out.push(b'"')
 }
 
-// Appends the front of a member and the number behind it.
-fn add_number(front: &[u8], number: u64, out: &mut Bytes) -> Result<(), Memory>
+/// Appends the front of a member and the number behind it.
+pub(crate) fn add_number(front: &[u8], number: u64, out: &mut Bytes) -> Result<(), Memory>
     ensures { OnOk result (out.new.items ≡ out.old.items ++ (front.now ++ decimal number)) }
 {
     let mut digits = Buffer::new();
