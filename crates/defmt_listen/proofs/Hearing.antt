@@ -7,7 +7,7 @@ use Rattle.defmt_framing.specs.Told.{Tells, begun}
 use Rattle.defmt_framing.specs.Framing.{Framing, Stands, Hears}
 use Rattle.defmt_framing.proofs.Standing.{HearsSo, hears_start, hears_more, hears_all}
 use Rattle.defmt_listen.specs.Streams.{Output}
-use Rattle.defmt_listen.specs.Heard.{Reporting, lines_from, state_behind, faults_among, HeardPart, HeardSome}
+use Rattle.defmt_listen.specs.Heard.{Reporting, lines_from, state_behind, faults_among, HeardPart, HeardSome, HearsNext}
 use Rattle.defmt_listen.proofs.Fronts.{Front, then_front, lines-append, behind-append, faults-append}
 
 -- What is heard so far of a part, what of its lines is written and what is gathered, and how many faults are counted.
@@ -67,6 +67,17 @@ module _ {S E : Type 0} (t : Tells E) (r : Reporting S E) (state : S) (first : F
     counted = omega (arith, count_is, so.counted, faults-append r so.told (option_to_list event));
     fits = omega (arith, so.fits, count_is, few, some, left, ap length behind_is, length-drop n rest);
   }
+
+  -- the same, as it is said of the next bytes
+  pub more_next : {own : Tells E} {state_now state_after : S} {now after : Framing} {rest behind : List ℕ} {held_now : Option (List ℕ)} {gathered gathered_after : List ℕ} {count_now count_after n : ℕ}
+      → Hearing t r state state_now first now bytes rest held held_now gathered count count_now
+      → HearsNext own r now after state_now state_after gathered gathered_after count_now count_after rest n
+      → own ≡ t → behind ≡ drop n rest → 0 < length rest
+      → Hearing t r state state_after first after bytes behind held held_now gathered_after count count_after
+  more_next {own} {state_now} {state_after} {now} {after} {rest} {behind} {held_now} {gathered} {gathered_after} {count_now} {count_after} {n} so next same behind_is left =
+      more state_now state_after now after rest behind held_now gathered gathered_after count_now count_after n next.event so
+      (λ stream st. subst (λ (tells : Tells E). Hears tells after stream (take n rest) next.event) same (next.hears stream st))
+      behind_is next.gathered next.moved next.counted (one_event r next.event) next.some left
 
   -- some of what is gathered is written
   pub writes : (state_now : S) (now : Framing) (rest : List ℕ) (held_now held_after : Option (List ℕ)) (gathered gathered_after text : List ℕ) (count_now : ℕ)

@@ -1,11 +1,11 @@
 -- A whole recording, heard part by part.
-use Rattle.std.proofs.Common.{◌≡◌, ◌≤◌, ◌+◌, ℕ, List, [], ◌++◌, length, refl, sym, ◌∙◌, ap, append_assoc, arith, length-append, subst}
+use Rattle.std.proofs.Common.{◌≡◌, ◌≤◌, ◌+◌, ℕ, List, [], ◌++◌, length, take, refl, sym, ◌∙◌, ap, append_assoc, arith, length-append, length-take, subst}
 use Rattle.std.specs.Prelude.{Option, Some, None, option_to_list}
 use Rattle.std.specs.Io.KnownBytes.{Appends, Consumes, IsAtEnd, Keeps}
-use Rattle.std.proofs.lemmas.List.{append-nil, nil_from_length, take_at}
+use Rattle.std.proofs.lemmas.List.{append-nil, take_at}
 use Rattle.dl_io.specs.Outside.{Rose, Took}
 use Rattle.dl_io.proofs.Streams.{appends_then, appends_none, consumes_then, consumes_none}
-use Rattle.defmt_framing.specs.Told.{begun, events}
+use Rattle.defmt_framing.specs.Told.{Tells, begun, events}
 use Rattle.defmt_framing.specs.Framing.{Framing, Stands}
 use Rattle.defmt_listen.specs.Streams.{Input, Output}
 use Rattle.defmt_listen.specs.Heard.{Reports, lines, lines_from, state_behind, faults, faults_among, HeardAll, HeardTo, HeardBegun, HeardTooMuch, HeardFront, HeardPart, HeardSome, Breaks, BreaksPart, ReadsNo}
@@ -73,20 +73,22 @@ module _ {S E : Type 0} (r : Reports S E) (left held : Option (List ℕ)) where
         few = omega (arith, so.few, few);
       }
 
-  -- the source gave nothing
-  pub no_more : (state_now : S) (now : Framing) (left_now left_after held_now : Option (List ℕ)) (taken count : ℕ) (part : List ℕ) → Listening r state_now now left left_now held held_now taken count
-      → Consumes left_now left_after part → length part ≡ 0 → Listening r state_now now left left_after held held_now taken count
-  no_more state_now now left_now left_after held_now taken count part so took none = record {
-    bytes = so.bytes;
-    size = so.size;
-    within = so.within;
-    took = subst (Consumes left left_after) (ap (λ (l : List ℕ). so.bytes ++ l) (nil_from_length part none) ∙ append-nil so.bytes) (consumes_then left left_now left_after so.bytes part so.took took);
-    stands = so.stands;
-    written = so.written;
-    moved = so.moved;
-    counted = so.counted;
-    few = so.few;
-  }
+  -- the front of a buffer, as a crew heard it
+  pub front_more : (state_now state_after : S) (now after : Framing) (left_now left_after : Option (List ℕ)) (output : Output) (taken count count_after size : ℕ) (buf heard_in : List ℕ) (tells : Tells E)
+      → tells ≡ r.tells → heard_in ≡ buf → size ≤ length buf → taken + size ≤ r.limit
+      → Listening r state_now now left left_now held output.held taken count → Consumes left_now left_after (take size buf)
+      → ((stream : List ℕ) → Stands now stream
+      → HeardPart tells r.reporting after state_now state_after output stream (take size heard_in) count count_after)
+      → count_after ≤ count + length (take size heard_in)
+      → Listening r state_after after left left_after held output.held_after (taken + size) count_after
+  front_more state_now state_after now after left_now left_after output taken count count_after size buf heard_in tells tells_is in_is fits within so took heard few =
+      let size_is : length (take size buf) ≡ size = omega (arith, length-take size buf, fits) in
+      let heard_here : (stream : List ℕ) → Stands now stream → HeardPart r.tells r.reporting after state_now state_after output stream (take size buf) count count_after =
+      λ stream st. subst (λ (t : Tells E). HeardPart t r.reporting after state_now state_after output stream (take size buf) count count_after) tells_is
+      (subst (λ (l : List ℕ). HeardPart tells r.reporting after state_now state_after output stream (take size l) count count_after) in_is (heard stream st)) in
+      let few_here : count_after ≤ count + length (take size buf) = subst (λ (l : List ℕ). count_after ≤ count + length (take size l)) in_is few in
+      subst (λ (n : ℕ). Listening r state_after after left left_after held output.held_after (taken + n) count_after) size_is
+      (more state_now state_after now after left_now left_after output taken count count_after (take size buf) so took (omega (arith, size_is, within)) heard_here few_here)
 
 module _ {S E : Type 0} (r : Reports S E) (input : Input) (output : Output) (state_now : S) (now : Framing) (left_now : Option (List ℕ)) (taken count : ℕ) where
   -- the source fails
@@ -218,3 +220,9 @@ breaks_read r input output state_now now left_now middle taken count Source so l
 breaks_read r input output state_now now left_now middle taken count Long so later why = long r input output state_now now left_now taken count so why.0 why.1
 breaks_read r input output state_now now left_now middle taken count Sink so later why = absurd why
 breaks_read r input output state_now now left_now middle taken count Memory so later why = absurd why
+
+-- the source failed behind a part that was heard
+pub breaks_behind : {S E : Type 0} (r : Reports S E) (input : Input) (output : Output) (state_now : S) (now : Framing) (middle taken count : ℕ)
+    → Listening r state_now now input.left input.left_after output.held output.held_after taken count → input.faults ≤ middle → Rose middle input.faults_after → Breaks r input output Source
+breaks_behind r input output state_now now middle taken count so later rose =
+    (record { bytes = so.bytes; taken = so.took; within = omega (arith, so.size, so.within); written = so.written }, rose_later input.faults middle input.faults_after later rose)

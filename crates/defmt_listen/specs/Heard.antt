@@ -1,10 +1,10 @@
 -- What is heard in a recording, and what is written of it.
-use Rattle.std.specs.Prelude.{◌≡◌, ◌≤◌, ◌+◌, ℕ, Bool, Option, List, [], ◌∷◌, ◌++◌, length, take, filter}
+use Rattle.std.specs.Prelude.{◌≡◌, ◌≤◌, ◌<◌, ◌+◌, ℕ, Bool, Option, List, [], ◌∷◌, ◌++◌, length, take, filter, option_to_list}
 use Rattle.std.specs.Io.KnownBytes.{Appends, Consumes, IsAtEnd, Keeps}
 use Rattle.dl_io.specs.Outside.{Rose, Took}
 use Rattle.defmt_framing.specs.Calls.{HeardAs}
 use Rattle.defmt_framing.specs.Told.{Tells, events, begun}
-use Rattle.defmt_framing.specs.Framing.{Framing}
+use Rattle.defmt_framing.specs.Framing.{Framing, Stands, Hears}
 use Rattle.defmt_listen.specs.Streams.{Input, Output, Wrote, WroteFront, IsRest}
 use Rattle.defmt_listen.specs.declared.fault.ListenFault.{ListenFault}
 use Rattle.defmt_listen.specs.declared.fault.ListenFault.TheVariants.{Source, Sink, Long, Memory}
@@ -132,6 +132,16 @@ pub record Reported {S E : Type 0} (tells : Tells E) (reporting : Reporting S E)
   pub moved : state_after ≡ state_behind reporting state told
 
 -- ---- for private clauses
+
+-- So many of these bytes were heard, and what they tell, which is one event or none, is gathered and counted.
+pub record HearsNext {S E : Type 0} (tells : Tells E) (reporting : Reporting S E) (before after : Framing) (state state_after : S) (lines lines_after : List ℕ) (count count_after : ℕ) (bytes : List ℕ) (taken : ℕ) : Type 0 where
+  pub event : Option E
+  pub within : taken ≤ length bytes
+  pub some : 0 < taken
+  pub hears : (stream : List ℕ) → Stands before stream → Hears tells after stream (take taken bytes) event
+  pub gathered : lines_after ≡ lines ++ lines_from reporting state (option_to_list event)
+  pub moved : state_after ≡ state_behind reporting state (option_to_list event)
+  pub counted : count_after ≡ count + faults_among reporting (option_to_list event)
 
 -- From the stream on these bytes were heard, and what they tell was written and counted.
 pub record HeardPart {S E : Type 0} (tells : Tells E) (reporting : Reporting S E) (after : Framing) (state state_after : S) (output : Output) (stream bytes : List ℕ) (count count_after : ℕ) : Type 0 where

@@ -97,9 +97,9 @@ pub fn hear_bytes<L: Listener + Drop, R: Reporter<L> + Drop>(
     }
 }
 
-// A sink that keeps nothing.
+/// A sink that keeps nothing, and never fails.
 #[derive(Drop)]
-struct Nowhere;
+pub struct Nowhere;
 
 impl Sink for Nowhere {
     ghost held = { λ _. None };

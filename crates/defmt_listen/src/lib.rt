@@ -12,7 +12,9 @@
 #![tactic(auto)]
 
 mod bytes;
+mod crew;
 mod fault;
+mod filling;
 mod listener;
 mod listening;
 mod part;
@@ -20,9 +22,13 @@ mod report;
 mod reporter;
 mod turns;
 
-pub use bytes::{AtHand, hear_bytes, listen_bytes};
+pub use bytes::{AtHand, Nowhere, hear_bytes, listen_bytes};
+pub use crew::{Alone, Behind, Crew, Portion};
 pub use fault::ListenFault;
+pub use filling::fill;
 pub use listener::Listener;
-pub use listening::{listen, listen_in_turns};
+pub use listening::{listen, listen_by, listen_in_turns};
+pub use part::hear_part;
+pub use report::Report;
 pub use reporter::{Passing, Reporter};
 pub use turns::Turns;

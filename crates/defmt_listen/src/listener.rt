@@ -1,6 +1,6 @@
 //! Who hears a stream of frames.
 
-ghost use Rattle.std.specs.Prelude.{◌≡◌, ◌≤◌, ◌<◌, ◌++◌, ℕ, None, List, length, take, drop, IfOk, OnErr, option_to_list};
+ghost use Rattle.std.specs.Prelude.{◌≡◌, ◌≤◌, ◌<◌, ◌++◌, ℕ, None, Some, List, length, take, drop, IfNone, IfOk, IfSome, OnErr, option_to_list};
 ghost use Rattle.defmt_framing.specs.Told.{Tells, events, begun};
 ghost use Rattle.defmt_framing.specs.Framing.{Framing, Stands, Hears};
 ghost use Rattle.defmt_framing.specs.Notices.{HasText, told_by};
@@ -54,6 +54,31 @@ pub trait Listener {
             → r.0 ≡ length bytes.now) }
         ensures same { tells self.new ≡ tells self.old }
         ensures err { OnErr result (framing self.new ≡ framing self.old) };
+
+    /// Takes bytes as `hear` does where they begin a line whose text it writes at once: answers how many it took, where the line
+    /// comes from, and how many bytes its text has. `None` says nothing of the bytes: nothing was taken, and `hear` tells what they
+    /// begin. It stands beside `hear` since most of what is heard are lines, whose answer is small.
+    fn hear_line(
+        &mut self,
+        bytes: &[u8],
+        text: &mut Vec<u8>,
+        at: usize,
+    ) -> Option<(usize, Self::Origin, usize)>
+        requires { at ≤ length text.old.items }
+        ensures within { IfSome result (λ r. r.0 ≤ length bytes.now) }
+        ensures some { IfSome result (λ r. 0 < r.0) }
+        ensures hears { IfSome result (λ r. (stream : List ℕ) → Stands (framing self.old) stream
+            → Hears (tells self.old) (framing self.new) stream (take r.0 bytes.now)
+            (Some (line r.1 (take r.2 (drop at text.new.items))))) }
+        ensures text { IfSome result (λ r. r.2 ≤ length (drop at text.new.items)) }
+        ensures known { IfSome result (λ r. known (take r.2 (drop at text.new.items))) }
+        ensures front { take at text.new.items ≡ take at text.old.items }
+        ensures same { tells self.new ≡ tells self.old }
+        ensures none { IfNone result (framing self.new ≡ framing self.old) }
+    {
+        let _ = (bytes.len(), text.len(), at);
+        None
+    }
 
     /// What the end of the stream tells beyond what was answered.
     fn finish(self) -> Option<Self::Event>

@@ -1,23 +1,22 @@
 //! A whole recording is heard.
 ghost use Rattle.std.specs.Prelude.{◌≡◌, ◌≤◌, ◌<◌, ◌+◌, ◌^◌, [], length, take, IfOk, IfErr};
 ghost use Rattle.std.specs.Io.KnownBytes.{Consumes, IsAtEnd};
+ghost use Rattle.dl_io.specs.Outside.{Rose};
 ghost use Rattle.defmt_framing.specs.Framing.{Stands};
 ghost use Rattle.defmt_listen.specs.Heard.{HeardAll, HeardTo, Breaks, ReadsNo, TakesTurns, recording_limit};
 ghost use Rattle.defmt_listen.specs.Streams.{input_of, output_of};
 
+use crate::crew::{Alone, Behind, Crew, Portion};
 use crate::fault::ListenFault;
 use crate::listener::Listener;
-use crate::part::{add_told, hear_part};
+use crate::part::add_told;
 use crate::report::{Report, write_lines};
 use crate::reporter::Reporter;
 use crate::turns::Turns;
-use dl_io::{Failed, Memory, Sink, Source};
+use dl_io::{Memory, Sink, Source};
 use std::alloc::Global;
 
-// The most bytes that are read at a time.
-const PART: usize = 65_536;
-
-// So many at first.
+// So many bytes are read at first.
 const FIRST_PART: usize = 8_192;
 
 const RECORDING_LIMIT: usize = 268_435_456;
@@ -105,75 +104,131 @@ pub fn listen_in_turns<S: Turns<K>, K: Sink, L: Listener + Drop, R: Reporter<L> 
     ensures source_count { S.faults src.old ≤ S.faults src.new }
     ensures sink_count { K.faults out.old ≤ K.faults out.new }
 {
+    listen_by(&mut Alone, alloc, src, out, listener, reporter, limit)
+}
+
+/// The same, with each part read and heard by a crew that may read the source there.
+pub fn listen_by<
+    C: Crew<S, K, L, R>,
+    S: Turns<K>,
+    K: Sink,
+    L: Listener + Drop,
+    R: Reporter<L> + Drop,
+>(
+    crew: &mut C,
+    alloc: Global,
+    src: &mut S,
+    out: &mut K,
+    listener: L,
+    reporter: R,
+    limit: usize,
+) -> Result<(u64, R), ListenFault>
+    requires stands { Stands (L.framing listener) [] }
+    requires few { limit + 1 < 2 ^ 64 }
+    requires suits { C.suits crew.old listener reporter }
+    requires turns { TakesTurns
+        (record {
+          tells = L.tells listener;
+          reporting = R.reporting;
+          start = reporter;
+          limit = limit;
+        })
+        S.left K.held C.may src.old out.old }
+    ensures heard { IfOk result (λ r. HeardTo
+        (record {
+          tells = L.tells listener;
+          reporting = R.reporting;
+          start = reporter;
+          limit = limit;
+        })
+        (input_of S.left S.faults src.old src.new)
+        (output_of K.held K.faults out.old out.new) r.0 r.1) }
+    ensures breaks { IfErr result (λ fault. Breaks
+        (record {
+          tells = L.tells listener;
+          reporting = R.reporting;
+          start = reporter;
+          limit = limit;
+        })
+        (input_of S.left S.faults src.old src.new)
+        (output_of K.held K.faults out.old out.new) fault) }
+    ensures source_count { S.faults src.old ≤ S.faults src.new }
+    ensures sink_count { K.faults out.old ≤ K.faults out.new }
+{
     let mut listener = listener;
     let mut reporter = reporter;
-    let mut buf = part_buffer(alloc)?;
+    let mut buf = part_buffer(alloc, crew.most())?;
     let mut report = Report::new(alloc);
     let mut taken = 0usize;
     'parts: loop {
-        let count = next_part(src, out, &mut buf, taken, limit)?;
-        if count == 0 {
-            break;
-        }
-        hear_part(
+        let part = next_part(crew, src, out, &mut buf, taken, limit)?;
+        crew.hear(
             &mut listener,
             &mut reporter,
             out,
             &mut report,
-            &buf[..count],
+            &buf[..part.count],
         )?;
-        taken += count;
-        widen(&mut buf, count);
+        taken += part.count;
+        match part.behind {
+            Behind::More => widen(&mut buf, part.count, crew.most()),
+            Behind::End => break,
+            Behind::Fault => return Err(ListenFault::Source),
+        }
     }
     add_told::<L, R>(&mut reporter, &mut report, listener.finish())?;
     write_lines(out, &mut report)?;
     Ok((report.faults, reporter))
 }
 
-fn part_buffer(alloc: Global) -> Result<Vec<u8>, Memory>
+// The buffer for the first part, which is no larger than the most bytes of a part.
+fn part_buffer(alloc: Global, most: usize) -> Result<Vec<u8>, Memory>
     ensures { IfOk result (λ buf. 0 < length buf.items) }
 {
     let mut buf = Vec::new(alloc);
-    buf.resize(FIRST_PART, 0)?;
+    buf.resize(FIRST_PART.min(most).max(1), 0)?;
     Ok(buf)
 }
 
-// Makes a buffer that was filled twice as large, up to the most bytes that are read at a time. Where there is no memory for that
-// it stays as it is.
-fn widen(buf: &mut Vec<u8>, count: usize)
+// Makes a buffer that was filled twice as large, up to the most bytes of a part. Where there is no memory for that it stays
+// as it is.
+fn widen(buf: &mut Vec<u8>, count: usize, most: usize)
     ensures { length buf.old.items ≤ length buf.new.items }
 {
     let size = buf.len();
-    if count == size && size < PART {
-        let _ = buf.resize((size * 2).min(PART), 0);
+    if count == size && size < most {
+        let _ = buf.resize((size * 2).min(most), 0);
     }
 }
 
-// Reads the next bytes, behind so many that were taken, of at most so many.
-fn next_part<S: Turns<K>, K: Sink>(
+// Reads the next part, behind so many bytes that were taken, of at most so many.
+fn next_part<C: Crew<S, K, L, R>, S: Turns<K>, K: Sink, L: Listener, R: Reporter<L>>(
+    crew: &C,
     src: &mut S,
     out: &K,
     buf: &mut [u8],
     taken: usize,
     limit: usize,
-) -> Result<usize, ListenFault>
-    requires turn { S.may src.old out.now }
+) -> Result<Portion, ListenFault>
+    requires turn { C.may src.old out.now }
     requires room { 0 < length buf.old }
     requires within { taken ≤ limit }
     ensures within { IfOk result
-        (λ count. (count ≤ length buf.new) × (taken + count ≤ limit)) }
+        (λ part. (part.count ≤ length buf.new) × (taken + part.count ≤ limit)) }
     ensures bytes { IfOk result
-        (λ count. Consumes (S.left src.old) (S.left src.new) (take count buf.new)) }
-    ensures end { IfOk result (λ count. count ≡ 0 → IsAtEnd (S.left src.new)) }
+        (λ part. Consumes (S.left src.old) (S.left src.new) (take part.count buf.new)) }
+    ensures more { IfOk result (λ part. part.behind ≡ Behind.More → 0 < part.count) }
+    ensures end { IfOk result (λ part. part.behind ≡ Behind.End → IsAtEnd (S.left src.new)) }
+    ensures fault { IfOk result (λ part. part.behind ≡ Behind.Fault
+        → Rose (S.faults src.old) (S.faults src.new)) }
     ensures refused { IfErr result
         (λ fault. ReadsNo limit (input_of S.left S.faults src.old src.new) taken fault) }
     ensures later { S.faults src.old ≤ S.faults src.new }
 {
     let most = buf.len().min(limit - taken).max(1);
-    match src.next(out, &mut buf[..most]) {
-        Ok(0) => Ok(0),
-        Ok(_) if taken == limit => Err(ListenFault::Long),
-        Ok(count) => Ok(count),
-        Err(Failed) => Err(ListenFault::Source),
+    let part = crew.read(src, out, &mut buf[..most]);
+    if taken == limit && part.count > 0 {
+        return Err(ListenFault::Long);
     }
+    Ok(part)
 }

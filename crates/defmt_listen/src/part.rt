@@ -1,11 +1,11 @@
 //! One part of a recording is heard.
-ghost use Rattle.std.specs.Prelude.{◌≡◌, ◌≤◌, ◌<◌, ◌+◌, ◌^◌, ◌++◌, [], false, ℕ, List, length, take, drop, IfErr, OnOk, OnErr, option_to_list};
+ghost use Rattle.std.specs.Prelude.{◌≡◌, ◌≤◌, ◌<◌, ◌+◌, ◌^◌, ◌++◌, [], false, ℕ, List, length, take, drop, IfErr, IfOk, OnOk, OnErr, option_to_list};
 ghost use Rattle.std.specs.Io.KnownBytes.{Appends};
 ghost use Rattle.dl_io.specs.Outside.{Rose};
 ghost use Rattle.defmt_framing.specs.Framing.{Stands};
 ghost use Rattle.defmt_framing.specs.Notices.{HasText, told_by};
 ghost use Rattle.defmt_listen.specs.Gathered.{gathered, IsGathered, IsKnownText};
-ghost use Rattle.defmt_listen.specs.Heard.{HeardPart, HeardSome, BreaksPart, faults_among, lines_from, state_behind};
+ghost use Rattle.defmt_listen.specs.Heard.{HeardPart, HeardSome, HearsNext, BreaksPart, faults_among, lines_from, state_behind};
 ghost use Rattle.defmt_listen.specs.Streams.{output_of};
 
 use crate::fault::ListenFault;
@@ -45,18 +45,65 @@ pub fn hear_part<K: Sink, L: Listener, R: Reporter<L>>(
 {
     let mut rest = bytes;
     'parts: while !rest.is_empty() {
-        match listener.hear(rest, &mut report.text, report.end) {
-            Ok((taken, notice)) => {
-                add_noticed::<L, R>(reporter, report, notice)?;
-                let (_, behind) = rest.split_at(taken);
-                rest = behind;
-                write_gathered(out, report)?;
-            }
-            Err(_) => return Err(ListenFault::Memory),
-        }
+        let taken = hear_next(listener, reporter, report, rest)?;
+        let (_, behind) = rest.split_at(taken);
+        rest = behind;
+        write_gathered(out, report)?;
     }
     write_lines(out, report)?;
     Ok(())
+}
+
+// Hears what the bytes begin, adds what is printed of it, and answers how many bytes that were.
+#[inline(always)]
+fn hear_next<L: Listener, R: Reporter<L>>(
+    listener: &mut L,
+    reporter: &mut R,
+    report: &mut Report,
+    bytes: &[u8],
+) -> Result<usize, ListenFault>
+    requires within { IsGathered report.old }
+    requires some { 0 < length bytes.now }
+    requires room { report.old.faults + 1 < 2 ^ 64 }
+    ensures next { IfOk result (λ taken. HearsNext (L.tells listener.old) R.reporting
+        (L.framing listener.old) (L.framing listener.new) reporter.old reporter.new
+        (gathered report.old) (gathered report.new) report.old.faults report.new.faults
+        bytes.now taken) }
+    ensures within { OnOk result (IsGathered report.new) }
+    ensures same { OnOk result (L.tells listener.new ≡ L.tells listener.old) }
+    ensures memory { IfErr result (λ fault. fault ≡ ListenFault.Memory) }
+{
+    match listener.hear_line(bytes, &mut report.text, report.end) {
+        Some((taken, origin, size)) => {
+            add_line_told::<L, R>(reporter, report, origin, size)?;
+            Ok(taken)
+        }
+        None => hear_other(listener, reporter, report, bytes),
+    }
+}
+
+// The same of what is no line that is written at once. It stands apart, since most of what is heard are such lines.
+#[inline(never)]
+fn hear_other<L: Listener, R: Reporter<L>>(
+    listener: &mut L,
+    reporter: &mut R,
+    report: &mut Report,
+    bytes: &[u8],
+) -> Result<usize, ListenFault>
+    requires within { IsGathered report.old }
+    requires some { 0 < length bytes.now }
+    requires room { report.old.faults + 1 < 2 ^ 64 }
+    ensures next { IfOk result (λ taken. HearsNext (L.tells listener.old) R.reporting
+        (L.framing listener.old) (L.framing listener.new) reporter.old reporter.new
+        (gathered report.old) (gathered report.new) report.old.faults report.new.faults
+        bytes.now taken) }
+    ensures within { OnOk result (IsGathered report.new) }
+    ensures same { OnOk result (L.tells listener.new ≡ L.tells listener.old) }
+    ensures memory { IfErr result (λ fault. fault ≡ ListenFault.Memory) }
+{
+    let (taken, notice) = listener.hear(bytes, &mut report.text, report.end)?;
+    add_noticed::<L, R>(reporter, report, notice)?;
+    Ok(taken)
 }
 
 /// Adds what is printed of what was told, if something was. It stands apart, since most of what is noticed are lines.
@@ -89,6 +136,7 @@ pub fn add_told<L: Listener, R: Reporter<L>>(
 }
 
 // Adds a line whose text stands behind what is gathered in the buffer.
+#[inline(always)]
 fn add_line_told<L: Listener, R: Reporter<L>>(
     reporter: &mut R,
     report: &mut Report,

@@ -37,6 +37,17 @@ impl Report {
             faults: 0,
         }
     }
+
+    /// A report of nothing again, with the room that it has.
+    pub fn clear(&mut self)
+        ensures within { IsGathered self.new }
+        ensures empty { gathered self.new ≡ [] }
+        ensures none { self.new.faults ≡ 0 }
+    {
+        self.lines.clear();
+        self.end = 0;
+        self.faults = 0;
+    }
 }
 
 /// Puts a newline behind a text that stands behind what is gathered.
@@ -68,8 +79,23 @@ fn put_newline(text: &mut Vec<u8>, at: usize) -> Result<(), Memory>
 }
 
 /// Moves what is gathered in the buffer to the lines. The buffer stays as it is.
-#[inline(never)]
+#[inline(always)]
 pub fn put_aside(report: &mut Report) -> Result<(), Memory>
+    requires { IsGathered report.old }
+    ensures same { OnOk result (report.new.lines.items ≡ gathered report.old) }
+    ensures none { OnOk result (report.new.end ≡ 0) }
+    ensures text { report.new.text.items ≡ report.old.text.items }
+    ensures faults { report.new.faults ≡ report.old.faults }
+{
+    if report.end == 0 {
+        return Ok(());
+    }
+    move_aside(report)
+}
+
+// The same where something is gathered there.
+#[inline(never)]
+fn move_aside(report: &mut Report) -> Result<(), Memory>
     requires { IsGathered report.old }
     ensures same { OnOk result (report.new.lines.items ≡ gathered report.old) }
     ensures none { OnOk result (report.new.end ≡ 0) }

@@ -1,7 +1,7 @@
 use Rattle.std.proofs.Common.{◌≡◌, ◌≤◌, ◌<◌, ◌-◌, [], length}
 use Rattle.defmt_listen.specs.Gathered.{gathered, IsGathered}
 use Rattle.defmt_listen.proofs.Wholes.{Listening}
-use Rattle.defmt_listen.proofs.listening.listen_in_turns.Given as goal
+use Rattle.defmt_listen.proofs.listening.listen_by.Given as goal
 
 abbrev pub invariant-parts : goal.invariant-parts
 invariant-parts g l = record {
@@ -11,6 +11,7 @@ invariant-parts g l = record {
   within : IsGathered l.report;
   empty : gathered l.report ≡ [];
   room : 0 < length l.buf.items;
+  suits : g.C.Crew.suits l.crew l.listener l.reporter;
   same : g.L.Listener.tells l.listener ≡ g.L.Listener.tells l.fn.listener;
   source_later : g.S.Turns.faults l.fn.src ≤ g.S.Turns.faults l.src;
   sink_later : g.K.Sink.faults l.fn.out ≤ g.K.Sink.faults l.out;
