@@ -23,7 +23,7 @@ running group = Script (Run (record no_options { group = group }))
 
 -- the lines of a recording, and all of them
 abbrev decoding : Text → Job
-decoding file = Decode (record { table = file; language = Base; places = None; live = false; style = plain_style })
+decoding file = Decode (record { table = file; language = Base; places = None; live = false; jobs = None; style = plain_style })
 
 -- the lines of a script in this style
 abbrev showing : Style → Job
@@ -220,7 +220,7 @@ module _ (name : Text) where
   fails_on_none = refl
 
   tells_places : job (name ∷ codes "decode" ∷ codes "--table=t.elf" ∷ codes "--live" ∷ codes "--places=p" ∷ [])
-      ≡ Some (Decode (record { table = codes "t.elf"; language = Base; places = Some (codes "p"); live = true; style = plain_style }))
+      ≡ Some (Decode (record { table = codes "t.elf"; language = Base; places = Some (codes "p"); live = true; jobs = None; style = plain_style }))
   unfolding clap_on_literals refusals rows
   tells_places = refl
 
@@ -228,7 +228,7 @@ module _ (name : Text) where
   unfolding clap_on_literals refusals rows
   stray_places = refl
 
-  reads_fully : job (name ∷ codes "decode" ∷ codes "--full" ∷ codes "--table=t.elf" ∷ []) ≡ Some (Decode (record { table = codes "t.elf"; language = Full; places = None; live = false; style = plain_style }))
+  reads_fully : job (name ∷ codes "decode" ∷ codes "--full" ∷ codes "--table=t.elf" ∷ []) ≡ Some (Decode (record { table = codes "t.elf"; language = Full; places = None; live = false; jobs = None; style = plain_style }))
   unfolding clap_on_literals refusals rows
   reads_fully = refl
 
@@ -247,6 +247,22 @@ module _ (name : Text) where
   stray_full : job (name ∷ codes "run" ∷ codes "--full" ∷ []) ≡ None
   unfolding clap_on_literals refusals rows
   stray_full = refl
+
+  side_by_side : job (name ∷ codes "--jobs" ∷ codes "64" ∷ codes "decode" ∷ codes "--table=t.elf" ∷ []) ≡ Some (Decode (record { table = codes "t.elf"; language = Base; places = None; live = false; jobs = Some 64; style = plain_style }))
+  unfolding clap_on_literals refusals rows
+  side_by_side = refl
+
+  by_none : job (name ∷ codes "decode" ∷ codes "--table=t.elf" ∷ codes "--jobs=0" ∷ []) ≡ None
+  unfolding clap_on_literals refusals rows
+  by_none = refl
+
+  by_too_many : job (name ∷ codes "decode" ∷ codes "--table=t.elf" ∷ codes "--jobs=65" ∷ []) ≡ None
+  unfolding clap_on_literals refusals rows
+  by_too_many = refl
+
+  stray_jobs : job (name ∷ codes "dump" ∷ codes "--table=t.elf" ∷ codes "--jobs=2" ∷ []) ≡ None
+  unfolding clap_on_literals refusals rows
+  stray_jobs = refl
 
   stray_live : job (name ∷ codes "dump" ∷ codes "--table=t.elf" ∷ codes "--live" ∷ []) ≡ None
   unfolding clap_on_literals refusals rows

@@ -44,6 +44,7 @@ parameters =
     ∷ record { name = codes "places"; kind = Value; taken = codes "decode" ∷ codes "dump" ∷ []; needed = [] }
     ∷ record { name = codes "live"; kind = Flag; taken = codes "decode" ∷ []; needed = [] }
     ∷ record { name = codes "full"; kind = Flag; taken = codes "decode" ∷ codes "dump" ∷ []; needed = [] }
+    ∷ record { name = codes "jobs"; kind = Value; taken = codes "decode" ∷ []; needed = [] }
     ∷ []
 
 -- ---- the command line, as `clap` sees it: the command, which is required, and then the parameters
@@ -121,15 +122,20 @@ run_by rows = option_map (λ style. Script (Run (record { group = is_set (codes 
 abbrev pub language_by : List Row → Language
 language_by rows = if is_set (codes "full") rows then languages.Full else languages.Base
 
+-- the number of threads that `--jobs` spells, or none
+abbrev pub jobs_by : List Row → Option (Option ℕ)
+jobs_by rows = optional (decimal_in 1 64) (first_of (codes "jobs") rows)
+
 abbrev pub decode_by : List Row → Option Job
 decode_by rows =
-    option_and_then (λ table. option_map (λ style. Decode (record {
+    option_and_then (λ table. option_and_then (λ jobs. option_map (λ style. Decode (record {
       table = table;
       language = language_by rows;
       places = first_of (codes "places") rows;
       live = is_set (codes "live") rows;
+      jobs = jobs;
       style = style;
-    })) (style_by rows)) (first_of (codes "table") rows)
+    })) (style_by rows)) (jobs_by rows)) (first_of (codes "table") rows)
 
 -- the address that `--base` spells, or 20000000
 abbrev pub base_in : List Row → Option ℕ

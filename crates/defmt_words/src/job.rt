@@ -4,7 +4,7 @@ ghost use Rattle.std.specs.Prelude.{◌≡◌, map};
 ghost use Rattle.defmt_words.specs.Words.{no_options, parameters};
 ghost use Rattle.defmt_words.specs.View.{parameter_view};
 
-use crate::number::Count;
+use crate::number::{Count, Jobs};
 use crate::style::Style;
 use defmt_grammar::{Language, Text};
 
@@ -13,7 +13,7 @@ use defmt_grammar::{Language, Text};
 pub enum Job {
     /// A command on a script.
     Script(ScriptJob),
-    /// `decode --table FILE [--places FILE] [--live] [--full]` with options of printing: the lines of a recording.
+    /// `decode --table FILE [--places FILE] [--live] [--full] [--jobs N]` with options of printing: the lines of a recording.
     Decode(DecodeOptions),
     /// `dump --table FILE [--places FILE] [--base 0xHEX] [--up N] [--old] [--full]` with options of printing: the lines of an up-buffer
     /// in an image of memory.
@@ -72,6 +72,8 @@ pub struct DecodeOptions {
     /// `--live`: whether a device that runs is read, so that the recording may have up to 2^64 - 2 bytes, and a front and a tail are no
     /// faults.
     pub live: bool,
+    /// `--jobs N`: by how many threads parts of the recording are decoded side by side, or else by none.
+    pub jobs: Option<Jobs>,
     /// What is asked of printing.
     pub style: Style,
 }
@@ -120,7 +122,7 @@ pub struct Parameter<'a> {
 }
 
 /// A row a parameter.
-pub fn parameters<'a>() -> [Parameter<'a>; 13]
+pub fn parameters<'a>() -> [Parameter<'a>; 14]
     ensures { map parameter_view result ≡ parameters }
 {
     [
@@ -200,6 +202,12 @@ pub fn parameters<'a>() -> [Parameter<'a>; 13]
             name: "full",
             kind: Kind::Flag,
             taken: &["decode", "dump"],
+            needed: &[],
+        },
+        Parameter {
+            name: "jobs",
+            kind: Kind::Value,
+            taken: &["decode"],
             needed: &[],
         },
     ]

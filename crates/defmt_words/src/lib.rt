@@ -12,6 +12,6 @@ mod reading;
 mod style;
 
 pub use job::{DecodeOptions, DumpOptions, Job, RunOptions, ScriptJob};
-pub use number::{Count, Within};
+pub use number::{Count, Jobs, Within};
 pub use reading::job_of;
 pub use style::{Form, Style};

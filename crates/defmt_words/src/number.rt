@@ -19,6 +19,9 @@ pub type Count = Within<1, 4096>;
 /// The number of an up-buffer.
 pub type Up = Within<0, 15>;
 
+/// By how many threads a recording is decoded.
+pub type Jobs = Within<1, 64>;
+
 impl<const LEAST: u32, const MOST: u32> Model for Within<LEAST, MOST> {
     ghost use Rattle.std.specs.Prelude.{ℕ, ◌≤◌};
 

@@ -2,11 +2,11 @@
 ghost use Rattle.std.specs.Prelude.{◌≡◌, map, IfOk, string_bytes};
 ghost use Rattle.clap.specs.Words.{found_of, rows_of};
 ghost use Rattle.defmt_words.specs.View.{text_in};
-ghost use Rattle.defmt_words.specs.Words.{chosen, job, choice, base_in, decode_by, dump_by, generate_by, language_by, run_by, up_in};
+ghost use Rattle.defmt_words.specs.Words.{chosen, job, choice, base_in, decode_by, dump_by, generate_by, jobs_by, language_by, run_by, up_in};
 
 use crate::command_line::matches_of;
 use crate::job::{DecodeOptions, DumpOptions, Job, RunOptions, ScriptJob, parameters};
-use crate::number::{Up, decimal_of, hexadecimal_of};
+use crate::number::{Jobs, Up, decimal_of, hexadecimal_of};
 use crate::parameters::{all_go, is_set, value_of};
 use crate::style::style_of;
 use clap::ArgMatches;
@@ -55,10 +55,24 @@ fn language_of(matches: &ArgMatches<'_>) -> Language
     }
 }
 
+// The number of threads, and none where `--jobs` isn't there; `None` where its value spells none.
+fn jobs_of(matches: &ArgMatches<'_>) -> Option<Option<Jobs>>
+    ensures { result ≡ jobs_by (rows_of (found_of matches.now)) }
+{
+    let Some(text) = value_of(matches, "jobs") else {
+        return Some(None);
+    };
+    let jobs = decimal_of(text)?;
+    Some(Some(jobs))
+}
+
 fn decode_job(alloc: Global, matches: &ArgMatches<'_>) -> Result<Option<Job>, Memory>
     ensures { IfOk result (λ job. job ≡ decode_by (rows_of (found_of matches.now))) }
 {
     let Some(name) = value_of(matches, "table") else {
+        return Ok(None);
+    };
+    let Some(jobs) = jobs_of(matches) else {
         return Ok(None);
     };
     let Some(style) = style_of(alloc, matches)? else {
@@ -73,6 +87,7 @@ fn decode_job(alloc: Global, matches: &ArgMatches<'_>) -> Result<Option<Job>, Me
         language,
         places,
         live,
+        jobs,
         style,
     })))
 }
@@ -169,13 +184,14 @@ fn chosen_of(alloc: Global, matches: &ArgMatches<'_>) -> Result<Option<Job>, Mem
 
 /// What the words ask for, or `None` where they ask for nothing. The first word is the program's name.
 ///
-/// `clap` reads them as one simple command: a required positional `command`, an optional positional `number`, the options
-/// `--table`, `--places`, `--base`, `--up`, `--only` and `--fail-on` with one value each, and the flags `--group`, `--old`, `--live`,
-/// `--full`, `--json` and `--color`. The variants of [`Job`] and [`ScriptJob`] say which go with which command, with those of [`Style`] where
-/// they speak of options of printing: what stands there in brackets may be left out, what stands there without must be there, and
-/// nothing else may. N is decimal, without sign or leading zero: of `gen` from 1 to 4,096, of `--up` from 0 to 15. HEX is 1 to 8
-/// hexadecimal digits of either case. RULES is what `defmt_hooks::read_rules` reads, LEVEL one of `trace`, `debug`, `info`, `warn` and
-/// `error`. What `clap` answers with help or a version asks for nothing. The one error is want of memory.
+/// `clap` reads them as one simple command: a required positional `command`, an optional positional `number`, the options `--table`,
+/// `--places`, `--base`, `--up`, `--only`, `--fail-on` and `--jobs` with one value each, and the flags `--group`, `--old`, `--live`,
+/// `--full`, `--json` and `--color`. The variants of [`Job`] and [`ScriptJob`] say which go with which command, with those of
+/// [`Style`] where they speak of options of printing: what stands there in brackets may be left out, what stands there without must
+/// be there, and nothing else may. N is decimal, without sign or leading zero: of `gen` from 1 to 4,096, of `--up` from 0 to 15, of
+/// `--jobs` from 1 to 64. HEX is 1 to 8 hexadecimal digits of either case. RULES is what `defmt_hooks::read_rules` reads, LEVEL one
+/// of `trace`, `debug`, `info`, `warn` and `error`. What `clap` answers with help or a version asks for nothing. The one error is
+/// want of memory.
 ///
 /// [`Style`]: crate::Style
 pub fn job_of(alloc: Global, words: &[String]) -> Result<Option<Job>, Memory>
