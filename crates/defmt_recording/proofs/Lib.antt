@@ -1,4 +1,5 @@
 pub mod Events
+pub mod Filled
 pub mod HeardParts
 pub mod Images
 pub mod Loading

@@ -31,7 +31,7 @@ one_step p n e es true le more = more (raised n) (omega arith) ∙ omega arith
 one_step p n e es false le more = more n le
 
 -- it is how many there are, or the last value
-tally_is : (p : Event → Bool) (es : List Event) (n : ℕ) → n ≤ last_count → tally p n es ≡ min (n + length (filter p es)) last_count
+pub tally_is : (p : Event → Bool) (es : List Event) (n : ℕ) → n ≤ last_count → tally p n es ≡ min (n + length (filter p es)) last_count
 tally_is p [] n le = omega (arith, le)
 tally_is p (e ∷ es) n le = one_step p n e es (p e) le (tally_is p es)
 

@@ -22,12 +22,18 @@ module _ (l : Look) (last : Option ℕ) (origin : Origin) (text : List ℕ) wher
   unfolding styled_line styled_gap shown_text is_printed styled_text gap_before
   line_is = refl
 
-  -- its text and a newline
-  pub whole_line : IsWhole l.style l.places → gap_between last origin.place ≡ 0 → prints_index l.style.only l.table origin.index ≡ true → styled_line l last (line_with origin text) ≡ text ++ 10 ∷ []
-  whole_line whole gap shown =
+  -- of one that is printed and in front of which none is missing
+  pub shown_line : gap_between last origin.place ≡ 0 → prints_index l.style.only l.table origin.index ≡ true
+      → styled_line l last (line_with origin text) ≡ ended (statement_text l.style.form l.table l.places origin.index origin.parts text)
+  shown_line gap shown =
       line_is
       ∙ ap (λ (n : ℕ). line_by n (prints_index l.style.only l.table origin.index) l.style.form l.places) gap
       ∙ ap (λ (b : Bool). line_by 0 b l.style.form l.places) shown
+
+  -- its text and a newline
+  pub whole_line : IsWhole l.style l.places → gap_between last origin.place ≡ 0 → prints_index l.style.only l.table origin.index ≡ true → styled_line l last (line_with origin text) ≡ text ++ 10 ∷ []
+  whole_line whole gap shown =
+      shown_line gap shown
       ∙ ap (λ (f : Form). line_by 0 true f l.places) whole.0
       ∙ ap (λ (p : PlaceMap). line_by 0 true Plain p) whole.2
       ∙ ap (λ (o : Option (List ℕ)). ended (text ++ place_part o)) (map.get-empty nat_cmp origin.index)

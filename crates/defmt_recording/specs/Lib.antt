@@ -7,3 +7,4 @@ pub mod Calls
 pub mod Inputs
 pub mod Decoding
 pub mod Dumping
+pub mod Templates

@@ -30,9 +30,15 @@ pub fn decode<S: Source, F: Shelf, K: Sink>(
 {
     let name = options.table.as_str();
     match load(alloc, name, options.language, &options.places, shelf) {
-        Ok((host, places)) => {
-            print_events(alloc, &options.style, places, options.live, src, out, host)
-        }
+        Ok((table, places)) => print_events(
+            alloc,
+            &options.style,
+            &places,
+            options.live,
+            src,
+            out,
+            &table,
+        ),
         Err(fault) => fault,
     }
 }

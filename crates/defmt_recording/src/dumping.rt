@@ -1,6 +1,5 @@
 //! The bytes of an up-buffer in an image of memory are decoded by the table that a file names.
-ghost use Rattle.std.specs.Prelude.{◌≡◌, ◌≤◌, [], length, IfOk, IfErr};
-ghost use Rattle.defmt_framing.specs.Framing.{Stands};
+ghost use Rattle.std.specs.Prelude.{◌≡◌, ◌≤◌, length, IfOk, IfErr};
 ghost use Rattle.defmt_listen.specs.Heard.{recording_limit};
 ghost use Rattle.defmt_listen.specs.Streams.{input_of, output_of};
 ghost use Rattle.defmt_recording.specs.Calls.{files_of};
@@ -10,7 +9,7 @@ ghost use Rattle.defmt_recording.specs.Styled.{look_by};
 use crate::fault::Fault;
 use crate::files::load;
 use crate::reporting::print_events;
-use defmt_decode::Host;
+use defmt_decode::PlannedTable;
 use defmt_listen::AtHand;
 use defmt_places::Places;
 use defmt_words::DumpOptions;
@@ -39,23 +38,22 @@ pub fn dump<S: Source, F: Shelf, K: Sink>(
 {
     let name = options.table.as_str();
     match load(alloc, name, options.language, &options.places, shelf) {
-        Ok((host, places)) => show(alloc, options, places, src, out, host),
+        Ok((table, places)) => show(alloc, options, &places, src, out, &table),
         Err(fault) => fault,
     }
 }
 
-// Prints them by the table of this host and these places. The image is let go before.
+// Prints them by this table and these places. The image is let go before.
 fn show<S: Source, K: Sink>(
     alloc: Global,
     options: &DumpOptions,
-    places: Places,
+    places: &Places,
     src: &mut S,
     out: &mut K,
-    host: Host,
+    table: &PlannedTable,
 ) -> Fault
-    requires { Stands host.framing [] }
-    ensures shows { Shows options.now (look_by options.now.style host.table.entries places)
-        host.table (input_of S.left S.faults src.old src.new)
+    ensures shows { Shows options.now (look_by options.now.style table.now.entries places.now)
+        table.now (input_of S.left S.faults src.old src.new)
         (output_of K.held K.faults out.old out.new) result }
     ensures source_count { S.faults src.old ≤ S.faults src.new }
     ensures sink_count { K.faults out.old ≤ K.faults out.new }
@@ -65,7 +63,7 @@ fn show<S: Source, K: Sink>(
             let mut given = AtHand {
                 left: bytes.as_slice(),
             };
-            print_events(alloc, &options.style, places, false, &mut given, out, host)
+            print_events(alloc, &options.style, places, false, &mut given, out, table)
         }
         Err(fault) => fault,
     }

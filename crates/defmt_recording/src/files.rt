@@ -1,13 +1,12 @@
 //! What is loaded before anything is read: the table, and the places of its statements in the sources.
-ghost use Rattle.std.specs.Prelude.{◌≡◌, ◌≤◌, [], length, Ok, IfOk, IfErr};
-ghost use Rattle.defmt_framing.specs.Framing.{Stands};
+ghost use Rattle.std.specs.Prelude.{◌≡◌, ◌≤◌, length, Ok, IfOk, IfErr};
 ghost use Rattle.elf_table.specs.Names.{NamesTable};
 ghost use Rattle.defmt_recording.specs.Calls.{files_of};
 ghost use Rattle.defmt_recording.specs.Decoding.{ArePlaces, IsFile, Loaded, PlacesAt, RefusesFile, RefusesFiles, RefusesName, RefusesPlaces, RefusesPlacesAt, RefusesPlacesFile, RefusesTable, table_limit};
 ghost use Rattle.defmt_places.specs.Places.{places_in};
 
 use crate::fault::Fault;
-use defmt_decode::Host;
+use defmt_decode::PlannedTable;
 use defmt_grammar::{Language, Text};
 use defmt_intern::Table;
 use defmt_places::{Places, PlacesFault, read_places};
@@ -17,41 +16,40 @@ use std::alloc::Global;
 
 const FILE_LIMIT: usize = 67_108_864;
 
-/// A host of the table of this language that the file of this name names, and the places that another file tells, none where no file is named.
+/// The table of this language that the file of this name names, with plans, and the places that another file tells, none where no file
+/// is named.
 pub fn load<F: Shelf>(
     alloc: Global,
     table: &str,
     language: Language,
     places: &Option<Text>,
     shelf: &mut F,
-) -> Result<(Host, Places), Fault>
+) -> Result<(PlannedTable, Places), Fault>
     ensures loaded { IfOk result (λ r. Loaded language (files_of F.files F.faults shelf.old shelf.new)
-        table.now r.0.table) }
+        table.now r.0) }
     ensures places { IfOk result (λ r. ArePlaces (files_of F.files F.faults shelf.old shelf.new)
         places.now r.1) }
-    ensures stands { IfOk result (λ r. Stands r.0.framing []) }
     ensures refused { IfErr result (λ fault. RefusesFiles language
         (files_of F.files F.faults shelf.old shelf.new) table.now places.now fault) }
     ensures later { F.faults shelf.old ≤ F.faults shelf.new }
     ensures files { F.files shelf.new ≡ F.files shelf.old }
 {
-    let host = load_table(alloc, table, language, shelf)?;
+    let planned = load_table(alloc, table, language, shelf)?;
     match load_places(alloc, places, shelf) {
-        Ok(places) => Ok((host, places)),
+        Ok(places) => Ok((planned, places)),
         Err(fault) => Err(fault),
     }
 }
 
-// A host of the table that the file of this name names.
+// The table that the file of this name names.
 fn load_table<F: Shelf>(
     alloc: Global,
     name: &str,
     language: Language,
     shelf: &mut F,
-) -> Result<Host, Fault>
-    ensures loaded { IfOk result (λ host. Loaded language
-        (files_of F.files F.faults shelf.old shelf.new) name.now host.table) }
-    ensures stands { IfOk result (λ host. Stands host.framing []) }
+) -> Result<PlannedTable, Fault>
+    ensures loaded { IfOk result (λ table. Loaded language
+        (files_of F.files F.faults shelf.old shelf.new) name.now table) }
     ensures refused { IfErr result (λ fault. RefusesTable language
         (files_of F.files F.faults shelf.old shelf.new) name.now fault) }
     ensures later { F.faults shelf.old ≤ F.faults shelf.new }
@@ -61,8 +59,8 @@ fn load_table<F: Shelf>(
         Ok(file) => file,
         Err(fault) => return Err(fault),
     };
-    match host_of(alloc, file.as_slice(), language) {
-        Ok(host) => Ok(host),
+    match planned_of(alloc, file.as_slice(), language) {
+        Ok(table) => Ok(table),
         Err(fault) => Err(fault),
     }
 }
@@ -129,14 +127,13 @@ fn fetch<F: Shelf>(alloc: Global, name: &str, shelf: &mut F) -> Result<Bytes, Fa
     }
 }
 
-fn host_of(alloc: Global, file: &[u8], language: Language) -> Result<Host, Fault>
+fn planned_of(alloc: Global, file: &[u8], language: Language) -> Result<PlannedTable, Fault>
     requires { length file.now ≤ table_limit }
-    ensures names { IfOk result (λ host. NamesTable language file.now host.table) }
-    ensures stands { IfOk result (λ host. Stands host.framing []) }
+    ensures names { IfOk result (λ table. NamesTable language file.now table) }
     ensures refused { IfErr result (λ fault. RefusesFile language file.now fault) }
 {
     let table = table_of(alloc, file, language)?;
-    Ok(Host::new(alloc, table)?)
+    Ok(PlannedTable::new(alloc, table)?)
 }
 
 fn table_of(alloc: Global, file: &[u8], language: Language) -> Result<Table, Fault>

@@ -4,7 +4,7 @@ ghost use Rattle.defmt_decode.specs.Event.{events_of};
 
 use crate::host_listener::HostListener;
 use crate::kept::Kept;
-use defmt_decode::{Event, Events, Host};
+use defmt_decode::{Event, Events, Host, PlannedTable};
 use defmt_intern::Table;
 use defmt_listen::{Listener, hear_bytes};
 use dl_io::Memory;
@@ -14,7 +14,8 @@ use std::alloc::Global;
 pub fn events_of(alloc: Global, table: Table, front: &[u8], rest: &[u8]) -> Result<Events, Memory>
     ensures { IfOk result (λ events. events ≡ events_of table (front.now ++ rest.now)) }
 {
-    let host = Host::new(alloc, table)?;
+    let planned = PlannedTable::new(alloc, table)?;
+    let host = Host::new(alloc, &planned);
     let events = Events::new(alloc);
     let listener = HostListener { host };
     let kept = Kept { events };

@@ -9,11 +9,11 @@ use dl_io::Memory;
 
 /// A host that hears a recording.
 #[derive(Drop)]
-pub struct HostListener {
-    pub host: Host,
+pub struct HostListener<'t> {
+    pub host: Host<'t>,
 }
 
-impl Listener for HostListener {
+impl<'t> Listener for HostListener<'t> {
     type Event = Event;
 
     type Origin = Origin;
@@ -32,7 +32,17 @@ impl Listener for HostListener {
         text: &mut Vec<u8>,
         at: usize,
     ) -> Result<(usize, Notice<Event, Origin>), Memory> {
-        self.host.hear(bytes, text, at)
+        self.host.hear_any(bytes, text, at)
+    }
+
+    #[inline(always)]
+    fn hear_line(
+        &mut self,
+        bytes: &[u8],
+        text: &mut Vec<u8>,
+        at: usize,
+    ) -> Option<(usize, Origin, usize)> {
+        self.host.hear_line(bytes, text, at)
     }
 
     fn finish(self) -> Option<Event> {

@@ -1,7 +1,9 @@
 //! A reporter that keeps the events.
-ghost use Rattle.std.specs.Prelude.{◌≡◌, IfOk};
+ghost use Rattle.std.specs.Prelude.{◌≡◌, ◌++◌, [], false, IfOk, OnErr, OnOk};
 ghost use Rattle.std.specs.Str.{IsUtf8};
+ghost use Rattle.defmt_decode.specs.Event.{line_with};
 ghost use Rattle.defmt_recording.specs.Keeping.{by_keeping};
+ghost use Rattle.defmt_recording.specs.Output.{is_fault};
 
 use crate::host_listener::HostListener;
 use crate::output::is_fault;
@@ -19,10 +21,15 @@ pub struct Kept {
 }
 
 #[tactic(auto, unfolding(crate::specs::Output::is_fault))]
-impl Reporter<HostListener> for Kept {
+impl<'t> Reporter<HostListener<'t>> for Kept {
     ghost reporting = { by_keeping };
 
-    fn add_line(&mut self, _alloc: Global, event: Event, _out: &mut Bytes) -> Result<(), Memory> {
+    fn add_line(&mut self, _alloc: Global, event: Event, _out: &mut Bytes) -> Result<(), Memory>
+        ensures appended { OnOk result (_out.new.items ≡ _out.old.items ++ []) }
+        ensures moved { OnOk result (self.new ≡ by_keeping.after self.old event) }
+        ensures err { OnErr result (_out.new.items ≡ _out.old.items) }
+        ensures same { OnErr result (self.new ≡ self.old) }
+    {
         self.events.push(event)
     }
 
@@ -32,7 +39,15 @@ impl Reporter<HostListener> for Kept {
         origin: Origin,
         text: &[u8],
         _out: &mut Bytes,
-    ) -> Result<(), Memory> {
+    ) -> Result<(), Memory>
+        requires { IsUtf8 text.now }
+        ensures appended { OnOk result (_out.new.items ≡ _out.old.items ++ []) }
+        ensures moved { OnOk result (self.new
+            ≡ by_keeping.after self.old (line_with origin text.now)) }
+        ensures fine { is_fault (line_with origin text.now) ≡ false }
+        ensures err { OnErr result (_out.new.items ≡ _out.old.items) }
+        ensures same { OnErr result (self.new ≡ self.old) }
+    {
         let text = text_of(alloc, text)?;
         self.events.push(Event::Line {
             index: origin.index,
@@ -42,7 +57,9 @@ impl Reporter<HostListener> for Kept {
         })
     }
 
-    fn is_fault(&self, event: &Event) -> bool {
+    fn is_fault(&self, event: &Event) -> bool
+        ensures { result ≡ is_fault event.now }
+    {
         is_fault(event)
     }
 }

@@ -25,15 +25,17 @@ mod reporting;
 mod statement;
 mod styled;
 mod styles;
+mod templates;
 
 pub use decoding::decode;
 pub use dumping::dump;
 pub use fault::Fault;
+pub use files::load;
 pub use hearing::events_of;
 pub use host_listener::HostListener;
 pub use output::{add_count, add_ended};
 pub use printing::event_lines;
-pub use reporting::fault_of;
+pub use reporting::{fault_of, print_with};
 pub use statement::add_statement;
 pub use styled::Styled;
 pub use styles::{fails_at, is_failing, prints_index};

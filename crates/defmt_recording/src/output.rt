@@ -3,6 +3,7 @@ ghost use Rattle.std.specs.Prelude.{◌≡◌, ◌++◌, codes, OnErr, OnOk};
 ghost use Rattle.std.specs.Fmt.{decimal};
 ghost use Rattle.defmt_encode.specs.Cause.{fault_name};
 ghost use Rattle.defmt_recording.specs.Output.{ended, gap_before, gap_between, is_fault, last_behind};
+ghost use Rattle.defmt_recording.specs.Styled.{counted, is_cut};
 
 use defmt_decode::{Event, gap};
 use defmt_encode::fault_name;
@@ -41,6 +42,24 @@ pub fn last_behind(last: Option<u16>, event: &Event) -> Option<u16>
     match event {
         Event::Line { place, .. } => *place,
         Event::Bad { .. } | Event::CutFront { .. } | Event::CutTail { .. } => last,
+    }
+}
+
+/// A count, and one more where something is so.
+pub fn counted(count: u64, so: bool) -> u64
+    ensures { result ≡ counted count so }
+{
+    if so { count.saturating_add(1) } else { count }
+}
+
+/// Whether an event is a front or a tail.
+#[tactic(auto, unfolding(crate::specs::Styled::is_cut))]
+pub fn is_cut(event: &Event) -> bool
+    ensures { result ≡ is_cut event.now }
+{
+    match event {
+        Event::CutFront { .. } | Event::CutTail { .. } => true,
+        Event::Line { .. } | Event::Bad { .. } => false,
     }
 }
 

@@ -8,9 +8,9 @@ ghost use Rattle.defmt_recording.specs.Styled.{limit_of, look_by, reel};
 use crate::fault::Fault;
 use crate::host_listener::HostListener;
 use crate::styled::Styled;
-use defmt_decode::Host;
+use defmt_decode::{Host, PlannedTable};
 use defmt_hooks::Level;
-use defmt_listen::{ListenFault, listen_in_turns};
+use defmt_listen::{Alone, Crew, ListenFault, listen_by};
 use defmt_places::Places;
 use defmt_words::Style;
 use dl_io::{Sink, Source};
@@ -21,52 +21,61 @@ const RECORDING_LIMIT: usize = 268_435_456;
 // More than any device sends.
 const LIVE_LIMIT: usize = 18_446_744_073_709_551_614;
 
-/// Prints the events of the recording that the source gives, by the host's table and these places in this style; of a device that runs
-/// where that is said. The table is copied, since the host has it.
+/// Prints the events of the recording that the source gives, by this table and these places in this style; of a device that runs where
+/// that is said.
 pub fn print_events<S: Source, K: Sink>(
     alloc: Global,
     style: &Style,
-    places: Places,
+    places: &Places,
     live: bool,
     src: &mut S,
     out: &mut K,
-    host: Host,
+    table: &PlannedTable,
 ) -> Fault
-    requires { Stands host.framing [] }
-    ensures hears { Hears (look_by style.now host.table.entries places) live host.table
+    ensures hears { Hears (look_by style.now table.now.entries places.now) live table.now
         (input_of S.left S.faults src.old src.new)
         (output_of K.held K.faults out.old out.new) result }
     ensures source_count { S.faults src.old ≤ S.faults src.new }
     ensures sink_count { K.faults out.old ≤ K.faults out.new }
 {
-    let table = match host.table().copy() {
-        Ok(table) => table,
-        Err(_) => return Fault::Memory,
-    };
+    let host = Host::new(alloc, table);
     let listener = HostListener { host };
-    let reporter = Styled::new(alloc, style, table, places);
-    print_with(alloc, style.fail_on, live, src, out, listener, reporter)
+    let reporter = Styled::new(alloc, style, table.table(), places);
+    print_with(
+        &mut Alone,
+        alloc,
+        style.fail_on,
+        live,
+        src,
+        out,
+        listener,
+        reporter,
+    )
 }
 
-fn print_with<S: Source, K: Sink>(
+/// The same by a listener and a reporter that heard nothing yet, with each part read and heard by a crew that may always read.
+pub fn print_with<'a, C: Crew<S, K, HostListener<'a>, Styled<'a>>, S: Source, K: Sink>(
+    crew: &mut C,
     alloc: Global,
     fail_on: Option<Level>,
     live: bool,
     src: &mut S,
     out: &mut K,
-    listener: HostListener,
-    reporter: Styled<'_>,
+    listener: HostListener<'a>,
+    reporter: Styled<'a>,
 ) -> Fault
+    requires suits { C.suits crew.old listener reporter }
+    requires anywhere { (source : _) (sink : _) → C.may source sink }
     requires stands { Stands listener.host.framing [] }
     requires fresh { reporter ≡ reel reporter.look None 0 0 }
     requires same { fail_on ≡ reporter.look.style.fail_on }
-    ensures hears { Hears reporter.entry.look live listener.host.table
+    ensures hears { Hears reporter.entry.look live listener.entry.host.table
         (input_of S.left S.faults src.old src.new)
         (output_of K.held K.faults out.old out.new) result }
     ensures source_count { S.faults src.old ≤ S.faults src.new }
     ensures sink_count { K.faults out.old ≤ K.faults out.new }
 {
-    match listen_in_turns(alloc, src, out, listener, reporter, limit_of(live)) {
+    match listen_by(crew, alloc, src, out, listener, reporter, limit_of(live)) {
         Ok((bad, reporter)) => fault_of(
             fail_on,
             reporter.failing(),

@@ -82,8 +82,8 @@ pub fn level_at(table: &Table, index: u16) -> Option<Level>
     }
 }
 
-// The package of the entry at an index.
-fn package_at(table: &Table, index: u16) -> &str
+/// The package of the entry at an index.
+pub fn package_at(table: &Table, index: u16) -> &str
     ensures { result.now ≡ package_at table.now.entries index }
 {
     match table.get(index) {
@@ -102,15 +102,15 @@ fn stamp_of<'a>(table: &Table, index: u16, parts: &Parts, text: &'a [u8]) -> Opt
     }
 }
 
-// So many bytes at the front, or all.
-fn front(text: &[u8], count: u32) -> &[u8]
+/// So many bytes at the front, or all.
+pub fn front(text: &[u8], count: u32) -> &[u8]
     ensures { result.now ≡ take count text.now }
 {
     &text[..(count as usize).min(text.len())]
 }
 
-// What stands behind so many bytes.
-fn behind(text: &[u8], count: u32) -> &[u8]
+/// What stands behind so many bytes.
+pub fn behind(text: &[u8], count: u32) -> &[u8]
     ensures { result.now ≡ drop count text.now }
 {
     &text[(count as usize).min(text.len())..]

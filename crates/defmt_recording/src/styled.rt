@@ -1,12 +1,18 @@
 //! A reporter that prints in a style.
-ghost use Rattle.std.specs.Prelude.{◌≡◌, None};
-ghost use Rattle.defmt_recording.specs.Styled.{by_style, counted, is_cut, look_by, reel, reel_behind};
+ghost use Rattle.std.specs.Prelude.{◌≡◌, ◌≤◌, ◌+◌, ◌++◌, ◌∷◌, [], ℕ, List, None, true, false, min, IfOk, OnErr, OnOk};
+ghost use Rattle.std.specs.Str.{IsUtf8};
+ghost use Rattle.defmt_listen.specs.Heard.{IsSettled};
+ghost use Rattle.defmt_recording.specs.Output.{is_fault};
+ghost use Rattle.dl_io.specs.Outside.{last_count};
+ghost use Rattle.defmt_recording.specs.Styled.{by_style, counted, is_cut, look_by, reel, reel_behind, styled_line};
 ghost use Rattle.defmt_decode.specs.Event.{line_with};
 
 use crate::host_listener::HostListener;
-use crate::output::{gap_between, is_fault, last_behind};
+use crate::output::{counted, gap_between, is_cut, is_fault, last_behind};
 use crate::styles::{add_styled_line, add_styled_text, fails_at, is_failing, prints_index};
+use crate::templates::{add_by_template, learn, template_at};
 use defmt_decode::{Event, Origin};
+use defmt_forms::Template;
 use defmt_intern::Table;
 use defmt_listen::{Passing, Reporter};
 use defmt_places::Places;
@@ -20,34 +26,38 @@ use std::marker::Model;
 #[derive(Drop)]
 pub struct Styled<'a> {
     style: &'a Style,
-    table: Table,
-    places: Places,
+    table: &'a Table,
+    places: &'a Places,
     last: Option<u16>,
     failing: u64,
     cuts: u64,
     // Whether each line's text and a newline are printed of it, where it is printed: a plain one without places, of which none is counted.
     whole: bool,
-    // What is printed of one event, before it is appended.
+    // What is printed of one event without a template, before it is appended.
     line: Bytes,
+    // The templates of the lines that were printed, each at its index.
+    templates: Vec<Option<Template>>,
 }
 
 impl<'a> Model for Styled<'a> {
     ghost use Rattle.std.specs.Prelude.{◌≡◌, true, None};
     ghost use Rattle.defmt_recording.specs.Styled.{IsWhole, Reel, look_by, reel, reel_code};
+    ghost use Rattle.defmt_recording.specs.Templates.{AreTemplates};
 
     ghost Value = { Reel };
 
     ghost coded = { reel_code };
 
-    ghost view = { λ s. reel (look_by s.style.now s.table.entries s.places) s.last s.failing s.cuts };
+    ghost view = { λ s. reel (look_by s.style.now s.table.now.entries s.places.now) s.last s.failing s.cuts };
 
-    ghost invariant = { λ s. s.whole ≡ true → IsWhole s.style.now s.places };
+    ghost invariant = { λ s. (s.whole ≡ true → IsWhole s.style.now s.places.now)
+        × AreTemplates s.style.now.form s.table.now.entries s.places.now s.templates.items };
 }
 
 impl<'a> Styled<'a> {
     /// A reporter by this style, this table and these places, which saw no event yet. Takes no memory.
-    pub fn new(alloc: Global, style: &'a Style, table: Table, places: Places) -> Self
-        ensures { result ≡ reel (look_by style.now table.entries places) None 0 0 }
+    pub fn new(alloc: Global, style: &'a Style, table: &'a Table, places: &'a Places) -> Self
+        ensures { result ≡ reel (look_by style.now table.now.entries places.now) None 0 0 }
     {
         let whole = matches!(style.form, Form::Plain)
             && style.fail_on.is_none()
@@ -61,6 +71,7 @@ impl<'a> Styled<'a> {
             cuts: 0,
             whole,
             line: Bytes::new(alloc),
+            templates: Vec::new(alloc),
         }
     }
 
@@ -78,13 +89,113 @@ impl<'a> Styled<'a> {
         self.cuts
     }
 
+    /// A reporter by the same style, table and places, which saw no event yet. Takes no memory.
+    pub fn beside(&self, alloc: Global) -> Styled<'a>
+        ensures { result ≡ reel self.now.look None 0 0 }
+    {
+        Styled::new(alloc, self.style, self.table, self.places)
+    }
+
+    /// The place of the last line.
+    pub fn last(&self) -> Option<u16>
+        ensures { result ≡ self.now.last }
+    {
+        self.last
+    }
+
+    /// Counts anew from nothing.
+    pub fn count_anew(&mut self)
+        ensures { self.new ≡ reel self.old.look self.old.last 0 0 }
+    {
+        self.failing = 0;
+        self.cuts = 0;
+    }
+
+    /// Goes on behind what another was told that began where this one stands, and counted from nothing.
+    pub fn go_on_as(&mut self, other: &Styled<'_>)
+        ensures behind { self.new ≡ reel self.old.look other.now.last
+            (min (self.old.failing + other.now.failing) last_count)
+            (min (self.old.cuts + other.now.cuts) last_count) }
+        ensures small { (self.old.failing ≤ last_count) × (self.old.cuts ≤ last_count) }
+    {
+        self.last = other.last;
+        self.failing = self.failing.saturating_add(other.failing);
+        self.cuts = self.cuts.saturating_add(other.cuts);
+    }
+
     // Goes on behind an event.
     fn go_on(&mut self, event: &Event)
         ensures { self.new ≡ reel_behind self.old event.now }
     {
         self.last = last_behind(self.last, event);
-        self.failing = counted(self.failing, is_failing(self.style, &self.table, event));
+        self.failing = counted(self.failing, is_failing(self.style, self.table, event));
         self.cuts = counted(self.cuts, is_cut(event));
+    }
+
+    // Appends what is printed of a line, where its template tells that, and answers whether it did: the line is printed and none is missing
+    // in front of it. Else nothing was appended, nor on want of memory.
+    fn add_known(&self, origin: &Origin, text: &[u8], out: &mut Bytes) -> Result<bool, Memory>
+        ensures done { IfOk result (λ so. so ≡ true → out.new.items ≡ out.old.items
+            ++ styled_line self.now.look self.now.last (line_with origin.now text.now)) }
+        ensures same { IfOk result (λ so. so ≡ false → out.new.items ≡ out.old.items) }
+        ensures err { OnErr result (out.new.items ≡ out.old.items) }
+    {
+        if gap_between(self.last, origin.place) != 0 {
+            return Ok(false);
+        }
+        if !prints_index(self.style, self.table, origin.index) {
+            return Ok(false);
+        }
+        match template_at(&self.templates, origin.index) {
+            Some(template) => add_by_template(self.style.form, template, &origin.parts, text, out),
+            None => Ok(false),
+        }
+    }
+
+    // Makes the template of an index, where there is none.
+    fn learn(&mut self, alloc: Global, index: u16) -> Result<(), Memory>
+        ensures { self.new ≡ self.old }
+    {
+        learn(
+            alloc,
+            self.style.form,
+            self.table,
+            self.places,
+            &mut self.templates,
+            index,
+        )
+    }
+
+    // Appends what is printed of any line. On want of memory nothing was appended, and the reporter is as before.
+    #[inline(never)]
+    fn add_any(
+        &mut self,
+        alloc: Global,
+        origin: Origin,
+        text: &[u8],
+        out: &mut Bytes,
+    ) -> Result<(), Memory>
+        ensures appended { OnOk result (out.new.items ≡ out.old.items
+            ++ styled_line self.old.look self.old.last (line_with origin text.now)) }
+        ensures moved { OnOk result (self.new ≡ reel_behind self.old (line_with origin text.now)) }
+        ensures err { OnErr result (out.new.items ≡ out.old.items) }
+        ensures same { OnErr result (self.new ≡ self.old) }
+    {
+        self.learn(alloc, origin.index)?;
+        self.line.clear();
+        add_styled_text(
+            alloc,
+            self.style,
+            self.table,
+            self.places,
+            self.last,
+            &origin,
+            text,
+            &mut self.line,
+        )?;
+        out.extend_from_slice(self.line.as_slice())?;
+        self.go_on_behind(&origin, text);
+        Ok(())
     }
 
     // Goes on behind the line with this text.
@@ -94,42 +205,27 @@ impl<'a> Styled<'a> {
     {
         let _ = text;
         self.last = origin.place;
-        self.failing = counted(
-            self.failing,
-            fails_at(self.style, &self.table, origin.index),
-        );
-    }
-}
-
-// A count, and one more where something is so.
-fn counted(count: u64, so: bool) -> u64
-    ensures { result ≡ counted count so }
-{
-    if so { count.saturating_add(1) } else { count }
-}
-
-// Whether an event is a front or a tail.
-#[tactic(auto, unfolding(crate::specs::Styled::is_cut))]
-fn is_cut(event: &Event) -> bool
-    ensures { result ≡ is_cut event.now }
-{
-    match event {
-        Event::CutFront { .. } | Event::CutTail { .. } => true,
-        Event::Line { .. } | Event::Bad { .. } => false,
+        self.failing = counted(self.failing, fails_at(self.style, self.table, origin.index));
     }
 }
 
 #[tactic(auto, unfolding(crate::specs::Output::is_fault, crate::specs::Output::last_behind, crate::specs::Output::gap_before, crate::specs::Styled::is_failing, crate::specs::Styled::is_cut))]
-impl<'a> Reporter<HostListener> for Styled<'a> {
+impl<'a, 't> Reporter<HostListener<'t>> for Styled<'a> {
     ghost reporting = { by_style };
 
-    fn add_line(&mut self, alloc: Global, event: Event, out: &mut Bytes) -> Result<(), Memory> {
+    fn add_line(&mut self, alloc: Global, event: Event, out: &mut Bytes) -> Result<(), Memory>
+        ensures appended { OnOk result (out.new.items
+            ≡ out.old.items ++ styled_line self.old.look self.old.last event) }
+        ensures moved { OnOk result (self.new ≡ reel_behind self.old event) }
+        ensures err { OnErr result (out.new.items ≡ out.old.items) }
+        ensures same { OnErr result (self.new ≡ self.old) }
+    {
         self.line.clear();
         add_styled_line(
             alloc,
             self.style,
-            &self.table,
-            &self.places,
+            self.table,
+            self.places,
             self.last,
             &event,
             &mut self.line,
@@ -145,36 +241,47 @@ impl<'a> Reporter<HostListener> for Styled<'a> {
         origin: Origin,
         text: &[u8],
         out: &mut Bytes,
-    ) -> Result<(), Memory> {
-        self.line.clear();
-        add_styled_text(
-            alloc,
-            self.style,
-            &self.table,
-            &self.places,
-            self.last,
-            &origin,
-            text,
-            &mut self.line,
-        )?;
-        out.extend_from_slice(self.line.as_slice())?;
-        self.go_on_behind(&origin, text);
-        Ok(())
+    ) -> Result<(), Memory>
+        requires { IsUtf8 text.now }
+        ensures appended { OnOk result (out.new.items ≡ out.old.items
+            ++ styled_line self.old.look self.old.last (line_with origin text.now)) }
+        ensures moved { OnOk result (self.new ≡ reel_behind self.old (line_with origin text.now)) }
+        ensures fine { is_fault (line_with origin text.now) ≡ false }
+        ensures err { OnErr result (out.new.items ≡ out.old.items) }
+        ensures same { OnErr result (self.new ≡ self.old) }
+    {
+        if self.add_known(&origin, text, out)? {
+            self.go_on_behind(&origin, text);
+            return Ok(());
+        }
+        self.add_any(alloc, origin, text, out)
     }
 
-    fn passes(&mut self, origin: &Origin) -> Passing {
+    fn passes(&mut self, origin: &Origin) -> Passing
+        ensures kept { result ≡ Passing.Kept → (text : List ℕ)
+            → styled_line self.old.look self.old.last (line_with origin.now text) ≡ text ++ 10 ∷ [] }
+        ensures left_out { result ≡ Passing.LeftOut → (text : List ℕ)
+            → styled_line self.old.look self.old.last (line_with origin.now text) ≡ [] }
+        ensures moved { IsSettled result → (text : List ℕ)
+            → self.new ≡ reel_behind self.old (line_with origin.now text) }
+        ensures fine { IsSettled result → (text : List ℕ)
+            → is_fault (line_with origin.now text) ≡ false }
+        ensures same { result ≡ Passing.Asked → self.new ≡ self.old }
+    {
         if !self.whole || gap_between(self.last, origin.place) != 0 {
             return Passing::Asked;
         }
         self.last = origin.place;
-        if prints_index(self.style, &self.table, origin.index) {
+        if prints_index(self.style, self.table, origin.index) {
             Passing::Kept
         } else {
             Passing::LeftOut
         }
     }
 
-    fn is_fault(&self, event: &Event) -> bool {
+    fn is_fault(&self, event: &Event) -> bool
+        ensures { result ≡ is_fault event.now }
+    {
         is_fault(event)
     }
 }

@@ -120,6 +120,7 @@ fn is_printed(style: &Style, table: &Table, event: &Event) -> bool
 }
 
 /// Whether the lines of an index are printed.
+#[inline(always)]
 pub fn prints_index(style: &Style, table: &Table, index: u16) -> bool
     ensures { result ≡ prints_index style.now.only table.now.entries index }
 {
@@ -146,17 +147,17 @@ pub fn fails_at(style: &Style, table: &Table, index: u16) -> bool
     ensures { result ≡ (prints_index style.now.only table.now.entries index
         && reaches style.now.fail_on (level_at table.now.entries index)) }
 {
-    prints_index(style, table, index) && reaches(style.fail_on, level_at(table, index))
+    prints_index(style, table, index) && reaches_at(style.fail_on, table, index)
 }
 
-// Whether a level is that one or a more severe one, where both are there.
-fn reaches(least: Option<Level>, level: Option<Level>) -> bool
-    ensures { result ≡ reaches least level }
+// Whether the entry at an index has that level or a more severe one, where both are there.
+fn reaches_at(least: Option<Level>, table: &Table, index: u16) -> bool
+    ensures { result ≡ reaches least (level_at table.now.entries index) }
 {
     let Some(least) = least else {
         return false;
     };
-    match level {
+    match level_at(table, index) {
         Some(level) => Floor::At(least).passes(level),
         None => false,
     }

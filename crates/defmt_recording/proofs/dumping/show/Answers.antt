@@ -10,14 +10,14 @@ use Rattle.defmt_recording.proofs.dumping.show.Goals as goal
 pub returns-in-Ok-clause-shows : goal.returns-in-Ok-clause-shows
 returns-in-Ok-clause-shows g c =
     let output : Output = output_of g.K.Sink.held g.K.Sink.faults c.args.out.now c.print_events.new.out in
-    let l : Look = look_by c.args.options.now.style c.args.host.table.entries c.args.places in
+    let l : Look = look_by c.args.options.now.style c.args.table.now.entries c.args.places.now in
     let rest : List ℕ = c.print_events.new.src.left.now in
     inr (
       c.in-Ok.bytes.items,
       rest,
       c.in-Ok.ensures.short,
       c.in-Ok.ensures.gives,
-      subst (λ (bytes : List ℕ). Hears l false c.args.host.table (at_hand bytes rest) output c.print_events.result) c.as_slice.ensures c.print_events.ensures.hears,
+      subst (λ (bytes : List ℕ). Hears l false c.args.table.now (at_hand bytes rest) output c.print_events.result) c.as_slice.ensures c.print_events.ensures.hears,
     )
 
 pub returns-in-Err-clause-shows : goal.returns-in-Err-clause-shows

@@ -5,7 +5,7 @@ use Rattle.defmt_recording.proofs.files.load.Goals as goal
 
 pub returns-in-Ok-clause-loaded : goal.returns-in-Ok-clause-loaded
 returns-in-Ok-clause-loaded g c =
-    let loaded = c.in_ok-host.ensures.loaded in
+    let loaded = c.in_ok-planned.ensures.loaded in
     record { file = loaded.file; fetched = loaded.fetched; within = loaded.within; names = loaded.names }
 
 pub returns-in-Ok-clause-places : goal.returns-in-Ok-clause-places
@@ -17,9 +17,9 @@ returns-in-Ok-clause-places g c =
 
 pub returns-in-Err-clause-refused : goal.returns-in-Err-clause-refused
 returns-in-Err-clause-refused g c =
-    let loaded = c.in_ok-host.ensures.loaded in
+    let loaded = c.in_ok-planned.ensures.loaded in
     inr (
-      c.in_ok-host.host.table,
+      c.in_ok-planned.planned,
       record { file = loaded.file; fetched = loaded.fetched; within = loaded.within; names = loaded.names },
       places_before (g.F.Shelf.files c.args.shelf.now) (g.F.Shelf.faults c.args.shelf.now) (g.F.Shelf.faults c.load_table.new.shelf) (g.F.Shelf.faults c.load_places.new.shelf)
           c.args.places.now c.in-Err.fault c.load_table.ensures.later

@@ -15,11 +15,11 @@ pub returns : goal.returns
 returns c =
     let stream : List ℕ = c.args.front.now ++ c.args.rest.now in
     let start : Kept = record { events = c.new-events.result } in
-    let first : tells c.in_ok-host.host.table ≡ tells c.args.table = ap (λ (m : Table). tells m) c.in_ok-host.ensures.table in
+    let first : tells c.new-host.result.table ≡ tells c.args.table = ap (λ (m : Table). tells m) (c.new-host.ensures.table ∙ c.in_ok-planned.ensures) in
     let second : tells c.in_ok-listener.listener.host.table ≡ tells c.args.table = c.in_ok-listener.ensures.same ∙ first in
     let third : tells c.in_ok-listener-2.listener.host.table ≡ tells c.args.table = c.in_ok-listener-2.ensures.same ∙ second in
     let a = subst (λ (m : Tells Event). Reported m by_keeping c.in_ok-listener.listener.host.framing start c.in_ok-listener.kept [] c.args.front.now) first
-    (c.in_ok-listener.ensures.reported [] c.in_ok-host.ensures.stands) in
+    (c.in_ok-listener.ensures.reported [] c.new-host.ensures.stands) in
     let b = subst (λ (m : Tells Event). Reported m by_keeping c.in_ok-listener-2.listener.host.framing c.in_ok-listener.kept c.in_ok-listener-2.kept c.args.front.now c.args.rest.now) second
     (c.in_ok-listener-2.ensures.reported c.args.front.now a.as_told.stands) in
     let ends = subst (λ (m : Tells Event). events m stream ≡ begun m stream ++ option_to_list c.finish.result) third (c.finish.ensures stream b.as_told.stands) in

@@ -9,18 +9,18 @@ use Rattle.defmt_recording.proofs.styled.StyledReporterHostListener.passes.Goals
 
 pub returns-clause-kept : goal.returns-clause-kept
 returns-clause-kept c =
-    let l : Look = look_by c.self.inside.style.now c.self.inside.table.entries c.self.inside.places in
+    let l : Look = look_by c.self.inside.style.now c.self.inside.table.now.entries c.self.inside.places.now in
     elim c.if-prints_index.branch [
       | then-prints_index w ↦ λ is text.
           subst (λ (s : Reel). styled_line s.look s.last (line_with c.args.origin.now text) ≡ text ++ 10 ∷ []) c.self.view_is
-          (whole_line l c.self.inside.last c.args.origin.now text (c.self.invariant c.if-not-self.false) (sym c.gap_between.ensures ∙ c.if-gap_between-ne0.false)
+          (whole_line l c.self.inside.last c.args.origin.now text (c.self.invariant.0 c.if-not-self.false) (sym c.gap_between.ensures ∙ c.if-gap_between-ne0.false)
           (sym c.prints_index.ensures ∙ w.if-prints_index.true))
       | else-prints_index w ↦ λ is text. let e : LeftOut ≡ Kept = sym w.result-is ∙ is in absurd (cc e)
     ]
 
 pub returns-clause-left_out : goal.returns-clause-left_out
 returns-clause-left_out c =
-    let l : Look = look_by c.self.inside.style.now c.self.inside.table.entries c.self.inside.places in
+    let l : Look = look_by c.self.inside.style.now c.self.inside.table.now.entries c.self.inside.places.now in
     elim c.if-prints_index.branch [
       | then-prints_index w ↦ λ is text. let e : Kept ≡ LeftOut = sym w.result-is ∙ is in absurd (cc e)
       | else-prints_index w ↦ λ is text.

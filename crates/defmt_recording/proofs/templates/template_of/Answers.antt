@@ -1,0 +1,16 @@
+use Rattle.std.specs.Option.{option_copied}
+use Rattle.defmt_recording.proofs.Filled.{color_made, json_made}
+use Rattle.defmt_recording.proofs.templates.template_of.Goals as goal
+
+pub returns-in-Color : goal.returns-in-Color
+returns-in-Color c =
+    rw c.in-Color.is
+    (color_made c.args.table.now.entries c.args.places.now c.args.index c.color_template.result c.is_stamped-stamped.result c.stamp.result c.level_at-level.result
+    (option_copied c.get-place.result) c.is_stamped-stamped.ensures c.stamp.ensures c.level_at-level.ensures c.get-place.ensures c.color_template.ensures)
+
+pub returns-in-Json : goal.returns-in-Json
+returns-in-Json c =
+    rw c.in-Json.is
+    (json_made c.args.table.now.entries c.args.places.now c.args.index c.json_template.result c.is_stamped-stamped.result c.stamp.result c.level_at-level.result
+    (option_copied c.get-place.result) c.is_stamped-stamped.ensures c.stamp.ensures c.level_at-level.ensures c.get-place.ensures
+    c.package_at-owner.result.now c.package_at-owner.ensures c.json_template.ensures)

@@ -1,0 +1,187 @@
+//! The lines of statements by their templates.
+ghost use Rattle.std.specs.Prelude.{◌≡◌, ◌≤◌, ◌++◌, ◌&&◌, None, false, true, length, is_some, slice_index_or, IfOk, IfSome, OnOk, OnErr, if◌then◌else◌};
+ghost use Rattle.std.specs.Option.{option_copied};
+ghost use Rattle.defmt_forms.specs.Template.{IsSized};
+ghost use Rattle.defmt_recording.specs.Templates.{AreTemplates, IsTemplate, SameSlots, filled};
+ghost use Rattle.defmt_words.specs.declared.style.Form.TheVariants.{Color, Json};
+
+use crate::statement::{behind, front, level_at, package_at};
+use defmt_decode::Parts;
+use defmt_forms::{
+    Template, color_template, is_bare_text, is_quiet_text, json_template, plain_template,
+};
+use defmt_hooks::Level;
+use defmt_intern::Table;
+use defmt_places::Places;
+use defmt_words::Form;
+use dl_io::{Bytes, Memory};
+use std::alloc::Global;
+
+// The indexes below this have templates, so that what they take is bounded.
+const INDEXES: usize = 4_096;
+
+// A statement with a longer package or place has none.
+const NAME_LIMIT: usize = 1_024;
+
+// A longer text goes into none.
+const TEXT_LIMIT: usize = 65_536;
+
+/// The template of an index, where there is one.
+pub fn template_at(templates: &[Option<Template>], index: u16) -> Option<&Template>
+    ensures { option_copied result ≡ slice_index_or templates.now index None }
+{
+    match templates.get(index as usize) {
+        Some(Some(template)) => Some(template),
+        _ => None,
+    }
+}
+
+/// Makes the template of an index, where there is none and it may have one. On want of memory those that were there still are.
+#[inline(never)]
+pub fn learn(
+    alloc: Global,
+    form: Form,
+    table: &Table,
+    places: &Places,
+    templates: &mut Vec<Option<Template>>,
+    index: u16,
+) -> Result<(), Memory>
+    requires { AreTemplates form table.now.entries places.now templates.old.items }
+    ensures { AreTemplates form table.now.entries places.now templates.new.items }
+{
+    let at = index as usize;
+    if at >= INDEXES || template_at(templates, index).is_some() {
+        return Ok(());
+    }
+    let made = template_of(alloc, form, table, places, index)?;
+    grow(templates, at + 1)?;
+    templates[at] = made;
+    Ok(())
+}
+
+// Makes empty slots until there are this many.
+fn grow(templates: &mut Vec<Option<Template>>, count: usize) -> Result<(), Memory>
+    ensures room { OnOk result (count ≤ length templates.new.items) }
+    ensures same { SameSlots templates.old.items templates.new.items }
+{
+    'each: while templates.len() < count {
+        templates.push(None)?;
+    }
+    Ok(())
+}
+
+// The template of an index. There is none where it would be long.
+fn template_of(
+    alloc: Global,
+    form: Form,
+    table: &Table,
+    places: &Places,
+    index: u16,
+) -> Result<Option<Template>, Memory>
+    ensures { IfOk result (λ made. IfSome made
+        (λ t. IsTemplate form table.now.entries places.now index t)) }
+{
+    let place = places.get(index);
+    let owner = package_at(table, index);
+    if owner.len() > NAME_LIMIT || is_long(place) {
+        return Ok(None);
+    }
+    let level = level_at(table, index);
+    let stamped = is_stamped(table.stamp(), level);
+    match form {
+        Form::Plain => plain_template(alloc, place),
+        Form::Color => color_template(alloc, stamped, level, place),
+        Form::Json => json_template(alloc, index, stamped, level, owner, place),
+    }
+}
+
+fn is_long(place: Option<&str>) -> bool {
+    match place {
+        Some(place) => place.len() > NAME_LIMIT,
+        None => false,
+    }
+}
+
+// Whether the lines of a level are printed with a stamp by a table with this stamp's entry.
+fn is_stamped(stamp: Option<u16>, level: Option<Level>) -> bool
+    ensures { result ≡ (is_some stamp && is_some level) }
+{
+    stamp.is_some() && level.is_some()
+}
+
+/// Appends the line of a statement and a newline by its template, and answers whether it did. Where it didn't, nothing was appended, nor
+/// on want of memory.
+pub fn add_by_template(
+    form: Form,
+    template: &Template,
+    parts: &Parts,
+    text: &[u8],
+    out: &mut Bytes,
+) -> Result<bool, Memory>
+    requires { IsSized template.now }
+    ensures done { IfOk result (λ so. so ≡ true → out.new.items
+        ≡ out.old.items ++ filled form template.now parts.now text.now) }
+    ensures same { IfOk result (λ so. so ≡ false → out.new.items ≡ out.old.items) }
+    ensures err { OnErr result (out.new.items ≡ out.old.items) }
+{
+    if text.len() > TEXT_LIMIT {
+        return Ok(false);
+    }
+    match form {
+        Form::Plain => {
+            template.add_plain(text, out)?;
+            Ok(true)
+        }
+        Form::Color => add_color(template, parts, text, out),
+        Form::Json => add_json(template, parts, text, out),
+    }
+}
+
+fn add_color(
+    template: &Template,
+    parts: &Parts,
+    text: &[u8],
+    out: &mut Bytes,
+) -> Result<bool, Memory>
+    requires sized { IsSized template.now }
+    requires short { length text.now ≤ 65536 }
+    ensures done { IfOk result (λ so. so ≡ true → out.new.items
+        ≡ out.old.items ++ filled Color template.now parts.now text.now) }
+    ensures same { IfOk result (λ so. so ≡ false → out.new.items ≡ out.old.items) }
+    ensures err { OnErr result (out.new.items ≡ out.old.items) }
+{
+    if !is_quiet_text(text) {
+        return Ok(false);
+    }
+    let stamp = front(text, stamp_size(template, parts));
+    let own = behind(text, parts.front);
+    template.add_color(stamp, own, out)?;
+    Ok(true)
+}
+
+fn add_json(
+    template: &Template,
+    parts: &Parts,
+    text: &[u8],
+    out: &mut Bytes,
+) -> Result<bool, Memory>
+    requires sized { IsSized template.now }
+    requires short { length text.now ≤ 65536 }
+    ensures done { IfOk result (λ so. so ≡ true → out.new.items
+        ≡ out.old.items ++ filled Json template.now parts.now text.now) }
+    ensures same { IfOk result (λ so. so ≡ false → out.new.items ≡ out.old.items) }
+    ensures err { OnErr result (out.new.items ≡ out.old.items) }
+{
+    let bare = is_bare_text(text);
+    let stamp = front(text, stamp_size(template, parts));
+    let own = behind(text, parts.front);
+    template.add_json(parts.bytes, bare, stamp, own, out)?;
+    Ok(true)
+}
+
+// How many bytes at the front of a text are its stamp's.
+fn stamp_size(template: &Template, parts: &Parts) -> u32
+    ensures { result ≡ (if template.now.stamped then parts.now.stamp else 0) }
+{
+    if template.stamped { parts.stamp } else { 0 }
+}
