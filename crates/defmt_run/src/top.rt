@@ -11,7 +11,8 @@ ghost use Rattle.defmt_words.specs.declared.job.Job.{Job as AnyJob};
 
 use crate::outcome::Outcome;
 use crate::running::script_outcome;
-use defmt_recording::{Fault, decode, dump};
+use defmt_blocks::decode;
+use defmt_recording::{Fault, dump};
 use defmt_script::one_reading;
 use defmt_words::{Job, job_of};
 use defmt_writers::Gate;
@@ -39,8 +40,9 @@ use std::thread::Threads;
 /// don't show, as `defmt_decode::shows` says; with `--json` or `--color` they give the lines another form, and with `--fail-on LEVEL`
 /// they fail where a line of that level or a more severe one was written. `decode` and `dump` take `--places FILE`, which tells where in
 /// the sources each statement stands, and `--full`, by which the table has the full language. With `--live`, for a device that runs, a
-/// recording of `decode` may be of `limit_of true` bytes, and what was cut at its front or its end is no fault. Nothing else depends on
-/// these, and what is told of a run has all events.
+/// recording of `decode` may be of `limit_of true` bytes, and what was cut at its front or its end is no fault. With `--jobs N` parts of a
+/// recording are decoded by so many threads, and the answer is the same. Nothing else depends on these, and what is told of a run has
+/// all events.
 ///
 /// `Fault` has the other answers. The order of these is words, shelf, length of the table's file, table, the same of the places,
 /// source, length of the input, script or image, sink, faults or failing lines; in `decode` the source, its length and the sink take
@@ -144,7 +146,7 @@ fn work_on<S: Source, F: Shelf, K: Sink, G: Gate + Sync, R: Threads + Wait + Syn
     match job {
         Job::Script(job) => script_outcome(rt, alloc, job, src, out, gate),
         Job::Decode(options) => {
-            let fault = decode(alloc, options, src, shelf, out);
+            let fault = decode(rt, alloc, options, src, shelf, out);
             Outcome::silent(alloc, fault)
         }
         Job::Dump(options) => {

@@ -16,7 +16,7 @@ pub(crate) const HI: &str = "s hi defmt_info hello\nw 0 hi";
 // The same in profile Two.
 const HI_AT: &str = "profile 2\ns hi defmt_info hello\nw 0 hi";
 
-const RECORDINGS: &str = "\
+pub(crate) const RECORDINGS: &str = "\
 defmtl decode --table hi.elf
 00 01 7e 00
 =

@@ -4,7 +4,7 @@ use crate::rows::{Kind, each_block};
 use std::test::Fail;
 
 // What they print, with options of printing, and what makes the program fail.
-const FORMS: &str = "\
+pub(crate) const FORMS: &str = "\
 defmtl decode --table hi.elf --json
 00 01 7e 00
 =

@@ -74,7 +74,7 @@ w 0 hi
 status 0 fine, 472 bytes";
 
 // With the option and without it; a foreign text that doesn't end.
-const DECODED: &str = "\
+pub(crate) const DECODED: &str = "\
 defmtl decode --full --table full.elf
 00 02 c0 3f 01 0e 01 01 ff 69 6f 6b ff 78 00
 =

@@ -3,6 +3,8 @@
 //! Tests of the program: the words that it takes, and its sessions by their commands.
 
 #[cfg(test)]
+mod blocks;
+#[cfg(test)]
 mod commands;
 #[cfg(test)]
 mod decode;

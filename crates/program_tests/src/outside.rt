@@ -155,7 +155,29 @@ status 9 events with faults 2
 INFO  hello
 -- tail 1
 
+source defmtl decode --table hi.elf --jobs 2
+~\x00\x00\x01~\x00
+=
+status 3 source, 0 marks, nothing
+status 3 source, 0 marks, a front
+2 calls
+status 9 events with faults 2
+-- front 1
+INFO  hello
+-- tail 1
+
 sink defmtl decode --table hi.elf
+~\x00\x00\x01~\x00
+=
+status 4 sink, 0 marks, nothing
+status 4 sink, 0 marks, a front
+3 calls
+status 9 events with faults 2
+-- front 1
+INFO  hello
+-- tail 1
+
+sink defmtl decode --table hi.elf --jobs 2
 ~\x00\x00\x01~\x00
 =
 status 4 sink, 0 marks, nothing
@@ -271,5 +293,5 @@ pub(crate) fn put_turns<R: Threads + Wait + Sync>(
 
 #[test]
 fn each_call_of_the_outside_that_fails_is_told(rt: HostRuntime) -> Result<(), Fail> {
-    each_block(&rt, rt.alloc(), TURNS, 16, &Kind::Turns)
+    each_block(&rt, rt.alloc(), TURNS, 18, &Kind::Turns)
 }

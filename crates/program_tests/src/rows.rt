@@ -1,4 +1,5 @@
 //! The rows of the tests, by what is asked of their inputs.
+use crate::blocks::{put_cuts, put_long_side_by_side, put_side_by_side};
 use crate::decode::{put_changed, put_decoded};
 use crate::device::put_device;
 use crate::dump::put_dumped;
@@ -38,6 +39,12 @@ pub(crate) enum Kind {
     Turns,
     /// The lines of a decoding.
     Decoded,
+    /// Those by many threads, where they are those without threads.
+    SideBySide,
+    /// How many there are of a long recording, in the same way.
+    LongSideBySide,
+    /// Those by some sides in blocks of any size, where they are those of one block.
+    Cut,
     /// Those by a table with another byte.
     Changed,
     /// The lines of the bytes of an image.
@@ -64,6 +71,9 @@ fn put_answer_on<R: Threads + Wait + Sync>(
         Kind::Held => put_held(rt, alloc, row, stage, out),
         Kind::Turns => put_turns(rt, alloc, row, stage, out),
         Kind::Decoded => put_decoded(rt, alloc, row, stage, out),
+        Kind::SideBySide => put_side_by_side(rt, alloc, row, stage, out),
+        Kind::LongSideBySide => put_long_side_by_side(rt, alloc, row, stage, out),
+        Kind::Cut => put_cuts(rt, alloc, row, stage, out),
         Kind::Changed => put_changed(rt, alloc, row, stage, out),
         Kind::Dumped => put_dumped(rt, alloc, row, stage, out),
         Kind::Long => put_long(rt, alloc, row, stage, out),

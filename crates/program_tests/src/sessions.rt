@@ -94,6 +94,13 @@ pub(crate) fn set_stage(
     set_failing(alloc, bytes, end, "nobody", 0, stage)
 }
 
+// Makes the source of a stage give these bytes, and its sink empty; the files stay on the shelf.
+pub(crate) fn begin_anew(alloc: Global, bytes: &[u8], stage: &mut Stage) -> Result<(), Fail> {
+    stage.source = source_of(alloc, bytes, "".as_bytes(), "nobody", 0)?;
+    stage.sink = sink_of(alloc, "nobody", 0)?;
+    Ok(())
+}
+
 // What a session on the words of this line comes to.
 pub(crate) fn outcome_of<S: Source, G: Gate + Sync, R: Threads + Wait + Sync>(
     rt: &R,

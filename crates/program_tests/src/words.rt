@@ -35,7 +35,9 @@ defmtl decode --table t.elf --places p = decode by t.elf with places of p
 defmtl --places=p decode --only off --table=t.elf = decode by t.elf with places of p by rules
 defmtl dump --places p --json --table t.elf --fail-on warn = what waits in 0 from 20000000 by t.elf with places of p in JSON failing on warn
 defmtl decode --full --table t.elf = decode by t.elf in full
-defmtl dump --table t.elf --full --places p = what waits in 0 from 20000000 by t.elf in full with places of p";
+defmtl dump --table t.elf --full --places p = what waits in 0 from 20000000 by t.elf in full with places of p
+defmtl decode --jobs 1 --table t.elf = decode by t.elf with jobs 1
+defmtl --jobs=64 decode --live --json --table t.elf = decode live by t.elf with jobs 64 in JSON";
 
 const NO_JOBS: &str = "\
 defmtl frob = nothing
@@ -97,7 +99,17 @@ defmtl decode --table t.elf --live=1 = nothing
 defmtl run --full = nothing
 defmtl table --full = nothing
 defmtl decode --full --table t.elf --full = nothing
-defmtl dump --table t.elf --full=1 = nothing";
+defmtl dump --table t.elf --full=1 = nothing
+defmtl decode --table t.elf --jobs 0 = nothing
+defmtl decode --table t.elf --jobs 65 = nothing
+defmtl decode --table t.elf --jobs 02 = nothing
+defmtl decode --table t.elf --jobs +2 = nothing
+defmtl decode --table t.elf --jobs -1 = nothing
+defmtl decode --table t.elf --jobs= = nothing
+defmtl decode --table t.elf --jobs = nothing
+defmtl decode --table t.elf --jobs 2 --jobs 2 = nothing
+defmtl dump --table t.elf --jobs 2 = nothing
+defmtl run --jobs 2 = nothing";
 
 fn put_style(style: &Style, out: &mut String) {
     if style.only.is_some() {
@@ -172,6 +184,10 @@ fn put_decode(options: &DecodeOptions, out: &mut String) {
         &options.places,
         out,
     );
+    if let Some(jobs) = &options.jobs {
+        put(out, " with jobs ");
+        put_number(out, u64::from(jobs.number()));
+    }
     put_style(&options.style, out);
 }
 
@@ -219,6 +235,6 @@ pub(crate) fn put_words(alloc: Global, row: &str, out: &mut String) -> Result<()
 
 #[test]
 fn words_ask_for_their_job_and_others_for_nothing(rt: HostRuntime) -> Result<(), Fail> {
-    each_line(&rt, rt.alloc(), JOBS, 29, &Kind::Job)?;
-    each_line(&rt, rt.alloc(), NO_JOBS, 60, &Kind::Job)
+    each_line(&rt, rt.alloc(), JOBS, 31, &Kind::Job)?;
+    each_line(&rt, rt.alloc(), NO_JOBS, 70, &Kind::Job)
 }
