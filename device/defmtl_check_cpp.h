@@ -76,13 +76,19 @@ constexpr int kind_at(const char *&t, int &n) {
 }
 
 constexpr bool hint_at(const char *&t) {
-    if (*t == '}') return true;
-    if ((*t == '?' || *t == 'a') && t[1] == '}') return t++, true;
-    if ((*t == 'u' || *t == 'm') && t[1] == 's' && t[2] == '}') return t += 2, true;
-    if (*t == '#') t++;
+    constexpr const char *words[] = {"}", "?}", "a}", "us}", "ms}", "ts}", "tms}", "tus}", "iso8601s}", "iso8601ms}"};
+    for (const char *word : words) {
+        if (starts(t, word)) {
+            while (*t != '}') t++;
+            return true;
+        }
+    }
+    bool sign = *t == '#';
+    if (sign) t++;
     if (*t == '0') {
         t++;
         if (!digit(*t) || *t == '0' || decimal(t) > 255) return false;
+        if (*t == '}') return !sign;
     }
     return (*t == 'x' || *t == 'X' || *t == 'b' || *t == 'o') && *++t == '}';
 }
@@ -198,8 +204,18 @@ constexpr long long whole(long x) { return x; }
 constexpr long long whole(unsigned long x) { return static_cast<long long>(x); }
 constexpr long long whole(long long x) { return x; }
 
+constexpr unsigned class_of(int c) {
+    constexpr unsigned all[] = {DEFMTL_OF_BOOL, DEFMTL_OF_CHAR, DEFMTL_OF_F32,  DEFMTL_OF_F64,    DEFMTL_OF_I16,  DEFMTL_OF_I32,   DEFMTL_OF_I64,
+                                DEFMTL_OF_I8,   DEFMTL_OF_STR,  DEFMTL_OF_U16,  DEFMTL_OF_U32,    DEFMTL_OF_U64,  DEFMTL_OF_U8,    DEFMTL_OF_ISTR,
+                                DEFMTL_OF_FORMAT, DEFMTL_OF_LIST, DEFMTL_OF_BYTES, DEFMTL_OF_RAW, DEFMTL_OF_WIDE};
+    for (unsigned each : all)
+        if (static_cast<int>(each & 31) == c) return each;
+    return 0;
+}
+
 constexpr bool suits(int k, int N, int M, int c, int S, long long V) {
-    return DEFMTL_SUITS(k, N, M, c, S, V);
+    const unsigned of = class_of(c);
+    return DEFMTL_SUITS(k, N, M, of, c, S, V);
 }
 constexpr int first(int mask) { return DEFMTL_FIRST(mask); }
 constexpr int op(int k, int mask) {

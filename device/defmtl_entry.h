@@ -41,7 +41,9 @@ template <int n, class place> struct first<n, place, true> {
 }
 #define DEFMTL_ENTRY(n, tag, part, text)                                                                               \
     struct defmtl_place_##n {};                                                                                        \
-    extern const char defmtl_index_##n __asm__(DEFMTL_LABEL(n, tag, text));                                            \
+    _Pragma("clang diagnostic push") _Pragma("clang diagnostic ignored \"-Wundefined-internal\"")                      \
+    extern const char defmtl_index_##n __asm__(DEFMTL_LABEL(n, tag, text)); /* within an unnamed namespace too */      \
+    _Pragma("clang diagnostic pop")                                                                                    \
     if constexpr (defmtl_places::first<n, defmtl_place_##n>::here) {                                                     \
         DEFMTL_STATIC(n, tag, part, text)                                                                              \
     }
@@ -67,23 +69,32 @@ template <int n, class place> struct first<n, place, true> {
 #endif
 
 /* An inlined function, a loop or a template brings the lines twice, hence .ifndef. In a template g++ forgets the name that a
- * declaration has for the assembler, and takes the plain one: so in C++ the symbol has both. Where -flto brings two files together
- * that have a statement of the same number on the same line, the assembler tells that the plain name is there already: an empty
- * line above one of them helps. */
+ * declaration has for the assembler, and takes the one of C++, with the namespaces that stand round it: so in C++ the symbol has a
+ * plain name, and the operand %c0, which is the name that g++ takes, is set to it where it is another one. Where -flto brings two
+ * files together that have a statement of the same number on the same line, the assembler tells that the plain name is there
+ * already: an empty line above one of them helps. */
 #ifdef __cplusplus
 #define DEFMTL_PLAIN_(n, line) defmtl_entry_##n##_##line
 #define DEFMTL_PLAIN(n, line) DEFMTL_PLAIN_(n, line)
 #define DEFMTL_PLAIN_NAME(n) DEFMTL_STRING(DEFMTL_PLAIN(n, __LINE__)) ":\n"
 #define DEFMTL_SYMBOL(n) DEFMTL_PLAIN(n, __LINE__)
+#if defined(__PIC__) && !defined(__PIE__) /* which takes no such operand: no statement in a template within a namespace */
+#define DEFMTL_ALIAS(n)
+#else
+#define DEFMTL_ALIAS(n)                                                                                                \
+    __asm__(".ifndef %c0\n\t.set %c0, " DEFMTL_STRING(DEFMTL_PLAIN(n, __LINE__)) "\n\t.endif" : : "i"(&DEFMTL_SYMBOL(n)));
+#endif
 #else
 #define DEFMTL_PLAIN_NAME(n)
 #define DEFMTL_SYMBOL(n) defmtl_entry_##n
+#define DEFMTL_ALIAS(n)
 #endif
 #define DEFMTL_ENTRY(n, tag, part, text) DEFMTL_ENTRY_(n, part, DEFMTL_LABEL(n, tag, text))
 #define DEFMTL_ENTRY_(n, part, label)                                                                                  \
     extern const char DEFMTL_SYMBOL(n) __asm__(label);                                                                 \
     __asm__(".pushsection .defmt." part ",\"\"," DEFMTL_PROGBITS "\n\t.ifndef " label "\n" label ":\n"                 \
             DEFMTL_PLAIN_NAME(n) "\t.byte 0\n\t.endif\n\t.popsection");                                               \
+    DEFMTL_ALIAS(n)                                                                                                    \
     DEFMTL_KEEP_INDEX(n)
 
 #endif

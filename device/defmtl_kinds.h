@@ -40,7 +40,7 @@
 #define DEFMTL_ARRAY 10
 
 /* ---- what the compiler tells */
-#define DEFMTL_TOLD_NUMBER "defmtl: the text's parameters and the arguments differ in number"
+#define DEFMTL_TOLD_NUMBER "defmtl: the text's parameters and the arguments differ in number, or in C a position stands too often (README.md, Limits)"
 #define DEFMTL_TOLD_TEXT "defmtl: the text is no format string: look at its braces, kinds and hints"
 #define DEFMTL_TOLD_SPELLING                                                                                           \
     "defmtl: the text must be one plain literal without an at sign (write \\u0040) and with at most six escapes, of "   \
@@ -59,32 +59,46 @@
 #define DEFMTL_NTH_6 "seventh"
 #define DEFMTL_NTH_7 "eighth"
 
-/* ---- whether an argument of the class c suits the kind k: N is the number of [u8; N], M the mask of the bytes of bit fields, S the
- * size of an array of bytes, and V a constant's value or DEFMTL_NEVER. A narrower type of the same sign suits, an unsigned one in
- * a wider signed kind, and a constant that fits. */
+/* ---- classes of arguments: the class's number by those of kinds, and above its five bits the kinds that suit it, a bit each: its own, wider
+ * ones of the same sign, and wider signed ones of an unsigned class */
+#define DEFMTL_OF_BOOL 0x41u
+#define DEFMTL_OF_CHAR 0x82u
+#define DEFMTL_OF_F32 0x303u
+#define DEFMTL_OF_F64 0x204u
+#define DEFMTL_OF_I16 0x1c05u
 #ifdef __cplusplus
-#define DEFMTL_COMPARISON DEFMTL_K_BOOL
+#define DEFMTL_OF_I32 0x1806u
 #else
-#define DEFMTL_COMPARISON DEFMTL_K_I32 /* what C has where two values are compared */
+#define DEFMTL_OF_I32 0x1846u /* of bool too: what C has where two values are compared */
 #endif
+#define DEFMTL_OF_I64 0x1007u
+#define DEFMTL_OF_I8 0x3c08u
+#define DEFMTL_OF_STR 0x800au
+#define DEFMTL_OF_U16 0x807180bu
+#define DEFMTL_OF_U32 0x806108cu
+#define DEFMTL_OF_U64 0x804000du
+#define DEFMTL_OF_U8 0x80f1c0eu
+#define DEFMTL_OF_ISTR 0x200010u
+#define DEFMTL_OF_FORMAT 0x400011u
+#define DEFMTL_OF_LIST 0x1800012u
+#define DEFMTL_OF_BYTES 0x2000014u
+#define DEFMTL_OF_RAW 0x6000015u   /* an array of bytes, or a pointer to some */
+#define DEFMTL_OF_WIDE 0xa0000019u /* of WIDE(..) */
+#define DEFMTL_WIDE_CLASS 25
 #define DEFMTL_NEVER (-0x7fffffffffffffffLL - 1)
-#define DEFMTL_WIDE_CLASS 25 /* of WIDE(..) */
 #define DEFMTL_IS_UNSIGNED(c) (c >= 11 && c <= 14)
-/* the classes that suit a kind, a bit each */
-#define DEFMTL_CLASSES(k)                                                                                              \
-    (k == 14 ? 0x4000 : k == 11 ? 0x4800 : k == 12 ? 0x5800 : k == 13 ? 0x7800 : k == 8 ? 0x100 : k == 5 ? 0x4120      \
-     : k == 6 ? 0x4960 : k == 7 ? 0x59e0 : k == 1 ? 2 | 1 << DEFMTL_COMPARISON : k == 2 ? 0x1004 : k == 4 ? 0x18       \
-     : k == 19 ? 0x40000 : k == 20 ? 0x300000 : k == 22 ? 0x7800 : k > 22 ? 1 << DEFMTL_WIDE_CLASS : 1 << k)
+
+/* Whether an argument of the class G, of the number c, suits the kind k: N is the number of [u8; N], M the mask of the bytes of bit fields or
+ * 0, S the size of an array of bytes, and V a constant's value of 64 bits or DEFMTL_NEVER. A constant suits where it fits. */
 #define DEFMTL_FITS(k, c, V)                                                                                           \
     (V != DEFMTL_NEVER && (k == 13 || k == 22 ? V >= 0 : k == 7 ? c != 13 || V >= 0 : k == 2 ? V >= 0 && V < 0x110000  \
      : k > 10 && k < 15 ? V >> (8 << (k + 2 & 3)) == 0 : k > 4 && k < 9 && V >> ((8 << (k & 3)) - 1) == (V < 0 ? -1 : 0)))
-#define DEFMTL_SUITS(k, N, M, c, S, V)                                                                                 \
-    ((DEFMTL_CLASSES(k) >> c & 1 && (c != 21 || (k == 21 ? S == N : S > 0)) && (k != 22 || c == 13 || M >> (1 << (c + 2 & 3)) == 0)) || \
-     DEFMTL_FITS(k, c, V))
+#define DEFMTL_SUITS(k, N, M, G, c, S, V)                                                                              \
+    ((G >> 5 >> k & 1 && (c != 21 || (k == 21 ? S == N : S > 0)) && M >> (1 << (c + 2 & 3)) == 0) || DEFMTL_FITS(k, c, V))
 
-/* ---- the window of bytes that bit fields send: its first byte and its width, of the mask of the bytes they use */
-#define DEFMTL_FIRST(m) (m ? __builtin_ctz((unsigned)m | 0x100u) : 0)
-#define DEFMTL_WIDE(m, first) (m ? 32 - __builtin_clz((unsigned)m | 1u) - first : 0)
+/* ---- the window of bytes that bit fields send: its first byte and its width, of the mask of the bytes they use; without a mask the first is 0 */
+#define DEFMTL_FIRST(m) (__builtin_ctz(m | 0x100u) & 7)
+#define DEFMTL_WIDE(m, first) (32 - __builtin_clz(m | 1u) - first)
 
 /* ---- how a kind is sent, by tables of four bits a kind; bit fields by the width of their window */
 #define DEFMTL_OP_OF(k, wide)                                                                                          \

@@ -64,9 +64,10 @@ compile_all() {
     arm-none-eabi-gcc $arm -std=c11 -Os $warn -DDEFMTL_BASEPRI=0x40 -DDEFMTL_UP_BUFFERS=3 -DDEFMTL_MESSAGE=2000 -I"$device" -c "$device/defmtl.c" -o x.o &&
         arm-none-eabi-gcc $arm -std=c11 -Os $warn -DDEFMTL_NO_STAMP -I"$device" -c "$device/defmtl.c" -o x.o &&
         gcc -std=c11 -O2 $warn -I"$device" -c "$device/defmtl.c" -o x.o && clang -std=c11 -O2 $warn -I"$device" -c "$device/defmtl.c" -o x.o &&
-        make -s -C "$device" all OUT="$work/out" WARN="-std=c11 $warn"
+        make -s -C "$device" all OUT="$work/out" WARN="-std=c11 $warn" &&
+        make -s -C "$device" host OUT="$work/out" WARN="-std=c11 $warn" HOST_SOURCES="$tests/stamp.c" MORE="-I$tests -DDEFMTL_RING=4096"
 }
-judge "the C file and the examples give no warning, for Cortex-M0, M3, M33 and the host" compile_all
+judge "the C file, the examples and a source of one's own give no warning, for Cortex-M0, M3, M33 and the host" compile_all
 
 # ---- what a host reads of texts, forms and settings
 
@@ -80,7 +81,8 @@ read_lines() {
 }
 python3 "$tests/chars.py" chars.c chars.due
 sed -n 's/.*\/\/= //p' "$tests/forms.c" > forms.c.due
-printf '%s\n' 'template 7' 'template 8' 'motor -4' 'twice 4' 'lambda 3 8' 'loop 0' 'loop 1' 'moving [(1, -2), (3, 4)] 1' one one > forms.cc.due
+printf '%s\n' 'template 7' 'template 8' 'motor -4' 'twice 4' 'lambda 3 8' 'loop 0' 'loop 1' 'moving [(1, -2), (3, 4)] 1' one one 'in namespaces 5' 'in namespaces 6' \
+    'in an unnamed namespace' 'of a class template 9' > forms.cc.due
 [ "$(sort forms.cc.due)" = "$(sed -n 's/.*\/\/= //p' "$tests/forms.cc" | sort)" ] || fail "the lines of forms.cc are those beside its statements"
 for compiler in gcc clang; do
     read_lines "each character and escape in a text, C by $compiler" chars.due c "$compiler -std=c11" chars.c
@@ -89,7 +91,7 @@ done
 for compiler in g++ clang++; do
     read_lines "each character and escape in a text, C++ by $compiler" chars.due c++ "$compiler -std=c++17" chars.c
     for level in -O0 -O2; do
-        read_lines "templates, members and lambdas, C++ by $compiler $level" forms.cc.due c++ "$compiler -std=c++17 $level" "$tests/forms.cc"
+        read_lines "templates, members, lambdas and namespaces, C++ by $compiler $level" forms.cc.due c++ "$compiler -std=c++17 $level" "$tests/forms.cc"
     done
 done
 echo '1.500 INFO  stamped' > stamp.due
@@ -103,6 +105,12 @@ same "floats are sent as their bits" due got
 ./one > frames && "$program" decode --full --table one < frames > got
 echo 'INFO  1.5 -2.0 0.5' > due
 same "floats are read with --full" due got
+sed -n 's/.*\/\/= //p' "$tests/hints.c" | sed "s/ZEROS/$(printf '%0255d' 0)/" > due
+for row in "gcc -std=c11" "clang -std=c11" "g++ -x c++ -std=c++17" "clang++ -x c++ -std=c++17"; do
+    gcc -std=c11 $host -c "$device/defmtl.c" -o core.o && $row $host $warn -c "$tests/hints.c" -o one.o && gcc $host_link one.o core.o -o one &&
+        ./one > frames && "$program" decode --full --table one < frames > got
+    same "dates, clocks and widths are read with --full, ${row%% *}" due got
+done
 
 # ---- random statements against `record`
 

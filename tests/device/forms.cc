@@ -1,4 +1,4 @@
-// Statements where C++ has places for them: inline functions, templates, members, lambdas, loops; and the lines that are due.
+// Statements where C++ has places for them: inline functions, templates, members, lambdas, loops, namespaces; and the lines that are due.
 #include "host.h"
 
 enum class state : uint8_t { idle, moving };
@@ -18,6 +18,19 @@ struct motor {
     int16_t speed;
     void say() const { LOG_PRINTLN("motor {=i16}", speed); }                                  //= motor -4
 };
+namespace outer {
+namespace {
+template <class T> void within(T x) { LOG_PRINTLN("in namespaces {=u32}", x); }               //= in namespaces 5
+                                                                                              //= in namespaces 6
+void unnamed() { LOG_PRINTLN("in an unnamed namespace"); }                                    //= in an unnamed namespace
+}
+template <int n> struct box {
+    void say() const {
+        auto lambda = [] { LOG_PRINTLN("of a class template {=i32}", n); };                   //= of a class template 9
+        lambda();
+    }
+};
+}
 static void all() {
     const point points[2] = {{1, -2}, {3, 4}};
     const state now = state::moving;
@@ -31,5 +44,9 @@ static void all() {
     LOG_PRINTLN("{=?} {=[?]} {=u8}", FMT(state, &now), LIST(point, points, 2), now);          //= moving [(1, -2), (3, 4)] 1
     LOG_PRINTLN("one"); LOG_PRINTLN("one");                                                    //= one
                                                                                               //= one
+    outer::within(uint32_t{5});
+    outer::within(uint8_t{6});
+    outer::unnamed();
+    outer::box<9>{}.say();
 }
 RUN(all)
