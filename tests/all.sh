@@ -37,6 +37,7 @@ words_of() {
         threads.sh) echo "$program 20" ;;
         device.sh) echo "$program 500" ;;
         damage.sh | fuzz.sh) echo "$program 1000" ;;
+        jobs.sh) echo "$program 300" ;;
         *) echo "$program" ;;
     esac
 }
@@ -45,7 +46,7 @@ words_of() {
 {
     if [ $# -gt 0 ]; then scripts=("${@/%/.sh}"); else
         cd "$top/tests" || exit 2
-        scripts=(real-elf.sh rust-firmware.sh firmware.sh device*.sh live.sh parallel.sh guide.sh explain.sh threads.sh brackets.sh failing-calls.sh refused-memory.sh damage.sh fuzz.sh launcher.sh clauses.sh pages.sh places.sh swap.sh looking.sh)
+        scripts=(real-elf.sh rust-firmware.sh firmware.sh device*.sh live.sh parallel.sh guide.sh explain.sh threads.sh brackets.sh failing-calls.sh refused-memory.sh damage.sh fuzz.sh jobs.sh launcher.sh clauses.sh pages.sh places.sh swap.sh looking.sh)
         cd "$top" || exit 2
     fi
     for it in "${scripts[@]}"; do

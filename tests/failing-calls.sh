@@ -35,7 +35,8 @@ le() { printf "$(printf '\\x%02x' $(($1 & 255)) $(($1 >> 8 & 255)) $(($1 >> 16 &
 size=$(stat -c %s recording)
 { printf 'SEGGER RTT\0\0\0\0\0\0'; le 1; le 0; le 0; le 0x20000030; le $((size + 1)); le "$size"; le 0; le 0; cat recording; printf '\0'; } > image
 
-commands=('run' 'run --group' 'record' 'term' 'steer' 'table' 'print' 'gen 4096' 'decode --table table.elf' 'dump --table table.elf')
+commands=('run' 'run --group' 'record' 'term' 'steer' 'table' 'print' 'gen 4096' 'decode --table table.elf' 'decode --jobs 3 --table table.elf'
+    'dump --table table.elf')
 input_of() { case $1 in decode*) echo recording ;; dump*) echo image ;; gen*) echo nothing ;; *) echo script ;; esac; }
 
 # ---- the standard input
@@ -75,9 +76,11 @@ check 'run of an empty script, which writes nothing' 0 ''
 # ---- the table's file
 
 long=$(printf 'x%.0s' {1..300})
-for name in missing.elf . "$long" missing/table.elf; do
-    defmtl decode --table "$name" < recording > written 2> said; status=$?
-    check "decode by ${name:0:20}" 7 shelf; wrote "decode by ${name:0:20}" nothing
+for words in decode 'decode --jobs 3'; do
+    for name in missing.elf . "$long" missing/table.elf; do
+        defmtl $words --table "$name" < recording > written 2> said; status=$?
+        check "$words by ${name:0:20}" 7 shelf; wrote "$words by ${name:0:20}" nothing
+    done
 done
 
 # ---- two faults, of which the first in the order of the work is told

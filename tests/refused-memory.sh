@@ -1,6 +1,6 @@
 #!/bin/bash
-# Runs five commands again and again with an allocation refused, and checks that each ends in order: a run of two writers in blocking mode, a run whose
-# ring is full, a run with texts for terminals, a run under orders of levels, and a decoding that finds a fault.
+# Runs six commands again and again with an allocation refused, and checks that each ends in order: a run of two writers in blocking mode, a run whose
+# ring is full, a run with texts for terminals, a run under orders of levels, and a decoding that finds a fault, without threads and by three.
 #
 #   tests/refused-memory.sh PROGRAM
 #
@@ -148,5 +148,6 @@ printf '%s\n' 's hi defmt_info hello' 'w 0 hi' > "$work/input"
 "$program" table < "$work/input" > "$work/table.elf"
 printf '\x7e\0\0\x01\x7e\0' > "$work/input"
 refuse 'decode, a front that is cut' 9 $'events with faults 1\n' decode --table "$work/table.elf"
+refuse 'decode by three threads' 9 $'events with faults 1\n' decode --jobs 3 --table "$work/table.elf"
 
 counts
