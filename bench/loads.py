@@ -6,7 +6,7 @@
 The program is the one that ./defmtl built, unless one is named. A load is a script of one string or some, with statements of one kind. Each command is
 counted by callgrind at 512 and at 2,048 statements, and the difference is divided by the statements between them, so that starting costs fall away.
 A plain program is one without proofs that does the same; its counts stand below, and are taken anew from one that is named. Of a load of many strings
-the whole program is counted beside, at 1,000 strings and as many statements; nothing is due of that, since `decode` reads the strings' names by `serde_json`. It needs
+the whole program is counted beside, at 1,000 strings and as many statements; nothing is due of that. It needs
 valgrind, which runs one thread at a time: `record` has the turns of threads that wait in it, too many on a machine with much other work. The status is 1 where a ratio
 is above what is due.
 """

@@ -6,8 +6,9 @@
 #
 # Each row is one function with all that it calls: what its calls cost together, divided by their number, over the script of `gen 4096`.
 # The compiler puts a function that is called in one place into its caller, and then it has no count of its own. The two that are held:
-#   from a statement to its frame     `write_frame` of defmt_frames; or `message` and `frame`
-#   from a piece to its event         `hear` of the program's listener: the zeros, the code, the message and its line, which a plan makes in one pass
+#   from a statement to its frame     a pen's `step` of defmt_logger, less the sending: the message and its frame, and the mark on the tape
+#   from a piece to its event         `hear_part` of defmt_listen, for each frame: the zeros, the code, the message and its line, which a plan makes in one
+#                                     pass, and what is printed of it
 
 . "$(dirname "$0")/common.sh"
 need valgrind
@@ -59,13 +60,12 @@ profile "$work/recorded" record < "$work/script"
 profile "$work/decoded" decode --table "$work/table.elf" < "$work/stream"
 
 printf '%-44s %10s %10s\n' function calls "a call"
-row "$work/recorded" defmt_encode::writing::message; message=$cost
-row "$work/recorded" defmt_encode::framing::frame; frame=$cost
-row "$work/recorded" defmt_frames::framing::write_frame; encoding=$cost
-row "$work/decoded" rzcobs_core::decoder::decode_zeroless_to_end
-row "$work/decoded" defmt_recording::host_listener::HostListenerListener::hear; piece=$cost
+row "$work/recorded" defmt_encode::framing::frame
+row "$work/recorded" rtt_modes::modes::send_front; sending=$cost
+row "$work/recorded" defmt_logger::logging::LoggingWorkEachStatement::step; step=$cost
+row "$work/decoded" rzcobs_core::decoder::decode_zeroless_to_end; frames=${counts% *}
+row "$work/decoded" defmt_listen::part::hear_part; part=$cost parts=${counts% *}
 
-[ -n "$encoding" ] || [ -z "$message" ] || [ -z "$frame" ] || encoding=$((message + frame))
-due "instructions from a statement to its frame" "$encoding" 600
-due "instructions from a piece to its event" "$piece" 1200
+due "instructions from a statement to its frame" "${step:+$((step - ${sending:-0}))}" 600
+due "instructions from a piece to its event" "${part:+$((part * parts / frames))}" 1200
 exit "$worst"
