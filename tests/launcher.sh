@@ -287,7 +287,7 @@ is 'nothing was built for these' "$(calls)" 0
     _defmtl
     echo "${COMPREPLY[*]}"
 ) > "$work/said"
-is 'the completion' "$(< "$work/said")" '--table --places --base --up --old --only --json --color --fail-on --help'
+is 'the completion' "$(< "$work/said")" '--table --full --places --base --up --old --only --json --color --fail-on --help'
 (
     . docs/defmtl.completion
     COMP_WORDS=(defmtl st) COMP_CWORD=1
