@@ -32,6 +32,13 @@ test_plain c false false e f h = (λ same. let k : eqb c 123 ≡ true = grind (a
 pub is_plain : (c : ℕ) → (eqb c 123 || eqb c 125) ≡ false → IsPlain c
 is_plain c h = test_plain c (eqb c 123) (eqb c 125) refl refl h
 
+plain_unless_by : (c : ℕ) (b : Bool) → (eqb c 123 || eqb c 125) ≡ b → ((eqb c 123 || eqb c 125) ≡ true → ⊥) → IsPlain c
+plain_unless_by c true e n = absurd (n e)
+plain_unless_by c false e n = is_plain c e
+
+pub plain_unless : (c : ℕ) → ((eqb c 123 || eqb c 125) ≡ true → ⊥) → IsPlain c
+plain_unless c n = plain_unless_by c (eqb c 123 || eqb c 125) refl n
+
 plain_take : (text : List ℕ) (i : ℕ) → i ≤ length text → ((k : ℕ) → k < i → IsPlain (get_or text k 0)) → (i < length text → IsBrace (get_or text i 0)) → plain text ≡ (take i text, drop i text)
 unfolding plain
 plain_take [] zero le h n = refl

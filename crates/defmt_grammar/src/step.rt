@@ -8,6 +8,7 @@ ghost use Rattle.defmt_grammar.specs.Step.{plain, view_steps, step_of};
 use crate::fault::{Cause, Fault, Mode};
 use crate::param::{Param, param_of};
 use crate::parts::{behind, behind_text, cut};
+use memchr::memchr2;
 
 /// Characters that stand for themselves, or a parameter with the next position that isn't written.
 #[derive(Clone, Copy)]
@@ -21,12 +22,10 @@ pub fn split_plain(text: &str) -> (&str, &str)
     ensures parts { both_now result ≡ plain text.now }
     ensures utf8 { IsUtf8 result.1.now }
 {
-    for (i, b) in text.as_bytes().iter().enumerate() {
-        if *b == b'{' || *b == b'}' {
-            return text.split_at(i);
-        }
+    match memchr2(b'{', b'}', text.as_bytes()) {
+        Some(at) => text.split_at(at),
+        None => text.split_at(text.len()),
     }
-    text.split_at(text.len())
 }
 
 /// What a text begins with, and what follows.
