@@ -1,9 +1,25 @@
 -- The list of symbols, one symbol after another.
-use Rattle.std.proofs.Common.{inl, inr, ◌≡◌, ◌≤◌, ◌<◌, ◌+◌, ◌-◌, ℕ, zero, suc, Bool, true, false, cond, List, [], ◌∷◌, ◌++◌, map, refl, ap, ◌∙◌, arith}
+use Rattle.std.proofs.Common.{inl, inr, ◌≡◌, ◌≤◌, ◌<◌, ◌+◌, ◌-◌, ℕ, zero, suc, Bool, true, false, cond, List, [], ◌∷◌, ◌++◌, map, length, take, get_or, refl, ap, sym, ◌∙◌, arith}
 use Rattle.std.specs.List.{filter}
 use Rattle.std.proofs.lemmas.Bool.{cases_eq}
-use Rattle.std.proofs.lemmas.List.{append-nil, map-append}
+use Rattle.std.proofs.lemmas.List.{append-nil, map-append, length-map, take_more}
+use Rattle.elf_section.specs.Symbol.{plain, plain_all, plain_ref, plain_refs}
+use Rattle.elf_section.specs.declared.symbols.Symbol.{Symbol}
+use Rattle.elf_section.specs.declared.symbols.SymbolRef.{SymbolRef}
 use Rattle.elf_section.specs.Listed.{numbers, is_listed, symbol_of, symbols_below}
+
+pub refs : (list : List SymbolRef) → length (plain_refs list) ≡ length list
+refs list = length-map list plain_ref
+
+pub same_count : (list : List Symbol) (refs : List SymbolRef) → plain_all list ≡ plain_refs refs → length list ≡ length refs
+same_count list refs e = sym (length-map list plain) ∙ ap length e ∙ length-map refs plain_ref
+
+-- one more of them with a name of its own
+pub owned_more : (all : List SymbolRef) (copies new : List Symbol) (i : ℕ) (r : SymbolRef) (s : Symbol) → i < length all → plain_all copies ≡ plain_refs (take i all)
+    → s.name.items ≡ (get_or all i r).name.now → s.value ≡ (get_or all i r).value → new ≡ copies ++ s ∷ [] → plain_all new ≡ plain_refs (take (i + 1) all)
+owned_more all copies new i r s l made name value e =
+    ap plain_all e ∙ map-append plain copies (s ∷ [])
+    ∙ rw (made, name, value) (sym (ap plain_refs (take_more all i r l) ∙ map-append plain_ref (take i all) (get_or all i r ∷ [])))
 
 -- ---- the list
 

@@ -6,7 +6,7 @@ use Rattle.defmt_intern.specs.declared.table.Profile.{Profile}
 use Rattle.defmt_intern.specs.declared.table.Profile.TheVariants as profiles
 use Rattle.elf_section.specs.Checks.{Refusal, Refused, ProfileIs}
 use Rattle.elf_section.specs.Listed.{Lists, HasProfile, Carries, symbols_below, ReadsSymbols, ReadsProfile, ReadsListing, GivesOnly, TellsOnly, ListsOnly, RefusesOnly}
-use Rattle.elf_section.specs.Symbol.{PlainSymbol, plain_all}
+use Rattle.elf_section.specs.Symbol.{PlainSymbol, plain_all, plain_refs}
 use Rattle.elf_section.specs.declared.symbols.Listing.{Listing}
 use Rattle.elf_section.specs.declared.symbols.Symbol.{Symbol}
 use Rattle.elf_section.specs.declared.fault.ElfFault.{ElfFault}
@@ -51,7 +51,7 @@ profile_refused file (Err faults.Memory) fault h f = tt
 -- ---- both
 
 pub lists_only : (file : List ℕ) (r : Result Listing ElfFault) (symbols : List PlainSymbol) (profile : Profile) → ReadsListing file r → Carries file symbols profile → ListsOnly r symbols profile
-lists_only file (Ok listing) symbols profile h l = (one_list file (plain_all listing.symbols.items) symbols h.0 l.0, one_profile file listing.profile profile h.1 l.1)
+lists_only file (Ok listing) symbols profile h l = (one_list file (plain_refs listing.symbols.items) symbols h.0 l.0, one_profile file listing.profile profile h.1 l.1)
 lists_only file (Err (faults.Refused cause part place)) symbols profile h l = never_both file (record { cause = cause; part = part; place = place }) l.0.passes h
 lists_only file (Err faults.Memory) symbols profile h l = tt
 

@@ -1,8 +1,9 @@
 -- The next zero, and the text up to it.
-use Rattle.std.proofs.Common.{◌≡◌, ◌≢◌, ◌≤◌, ◌<◌, ◌+◌, ◌-◌, ◌*◌, ◌/◌, ◌^◌, min, set, ℕ, zero, suc, true, false, eqb, List, [], ◌∷◌, length, take, drop, get_or, Some, None, option_map, refl, sym, ap, ◌∙◌, arith, inl, inr}
+use Rattle.std.proofs.Common.{◌≡◌, ◌≢◌, ◌≤◌, ◌<◌, ◌+◌, ◌-◌, ◌*◌, ◌/◌, ◌^◌, min, set, ℕ, zero, suc, true, false, eqb, List, [], ◌∷◌, length, take, drop, get_or, Option, Some, None, option_map, refl, sym, ap, ◌∙◌, arith, inl, inr}
+use Rattle.std.specs.Prelude.{is_some, IfSome}
 use Rattle.std.proofs.lemmas.Bool.{cases_eq, cases_lt}
 use Rattle.std.proofs.lemmas.Bool.Decides.{nat_tests}
-use Rattle.std.proofs.lemmas.List.{drop-drop, drop_all, length-take-le, length-drop, get_or-set_same, get_or-set_other, length-set}
+use Rattle.std.proofs.lemmas.List.{drop-drop, drop_all, length-take-le, length-drop, get_or-drop, get_or-set_same, get_or-set_other, length-set}
 use Rattle.std.specs.Ordering.{ord_min, nat_cmp}
 use Rattle.elf_section.specs.Bytes.{to_zero, text_at, gap, HasGaps}
 
@@ -128,6 +129,44 @@ text_endless bytes at n e l =
 
 pub text_past : (at : ℕ) (bytes : List ℕ) → length bytes < at → text_at at bytes ≡ None
 text_past at bytes h = text_endless bytes at 0 (sym (gap_past bytes at (omega (arith, h)))) (omega (arith, h))
+
+-- a zero ends the text in front of it
+gap_before : (bytes : List ℕ) (i : ℕ) → i < length bytes → get_or bytes i 0 ≡ 0 → gap bytes ≤ i
+gap_before [] i l z = absurd (omega arith)
+gap_before (b ∷ bytes) zero l z = let e = gap_zero b bytes z in omega (arith, e)
+gap_before (b ∷ bytes) (suc i) l z = elim (cases_eq b 0) [
+  | inl n ↦ (let e = gap_zero b bytes n in omega (arith, e))
+  | inr n ↦ (let e = gap_more b bytes n in let more = gap_before bytes i (omega (arith, l)) z in omega (arith, e, more))
+]
+
+-- where the last byte is a zero, a text stands at each place
+pub ended_text : (bytes : List ℕ) (at : ℕ) → at < length bytes → get_or bytes (length bytes - 1) 0 ≡ 0 → true ≡ is_some (text_at at bytes)
+ended_text bytes at l z =
+    let len : length (drop at bytes) ≡ length bytes - at = length-drop at bytes in
+    let there : at + (length bytes - 1 - at) ≡ length bytes - 1 = omega (arith, l) in
+    let zero' : get_or (drop at bytes) (length bytes - 1 - at) 0 ≡ 0 = get_or-drop at bytes (length bytes - 1 - at) 0 ∙ ap (λ (n : ℕ). get_or bytes n 0) there ∙ z in
+    let near = gap_before (drop at bytes) (length bytes - 1 - at) (omega (arith, l, len)) zero' in
+    sym (ap is_some (text_ends bytes at (gap (drop at bytes)) refl (omega (arith, l, near))))
+
+-- the first byte of a text
+first_cons : (b : ℕ) (o : Option (List ℕ)) (text : List ℕ) → option_map (λ more. b ∷ more) o ≡ Some text → get_or text 0 0 ≡ b
+first_cons b None text e = absurd cc
+first_cons b (Some more) text e = let same : b ∷ more ≡ text = cc in ap (λ (t : List ℕ). get_or t 0 0) (sym same)
+
+first_of : (bytes text : List ℕ) → to_zero bytes ≡ Some text → get_or text 0 0 ≡ get_or bytes 0 0
+first_of [] text e = let n = to_zero_nil in absurd cc
+first_of (b ∷ bytes) text e = elim (cases_eq b 0) [
+  | inl z ↦ (let s : Some [] ≡ Some text = sym (to_zero_stop b bytes z) ∙ e in let same : [] ≡ text = cc in ap (λ (t : List ℕ). get_or t 0 0) (sym same) ∙ sym z)
+  | inr n ↦ first_cons b (to_zero bytes) text (sym (to_zero_more b bytes n) ∙ e)
+]
+
+text_first : (at : ℕ) (bytes text : List ℕ) → text_at at bytes ≡ Some text → get_or text 0 0 ≡ get_or bytes at 0
+unfolding text_at
+text_first at bytes text e = first_of (drop at bytes) text e ∙ get_or-drop at bytes 0 0 ∙ ap (λ (n : ℕ). get_or bytes n 0) (let k : at + 0 ≡ at = omega arith in k)
+
+pub first_is : (at b : ℕ) (bytes : List ℕ) (o : Option (List ℕ)) → b ≡ get_or bytes at 0 → text_at at bytes ≡ o → IfSome o (λ name. b ≡ get_or name 0 0)
+first_is at b bytes None e f = tt
+first_is at b bytes (Some text) e f = e ∙ sym (text_first at bytes text f)
 
 -- ---- the gaps, from the last to the first
 

@@ -1,11 +1,12 @@
 -- The symbol table, its names and its markers.
 use Rattle.std.proofs.Common.{inl, inr, ◌≡◌, ◌≢◌, ◌≤◌, ◌<◌, ◌+◌, ◌*◌, ◌/◌, ℕ, Bool, true, false, not, List, length, Option, Some, None, Bor, bytes_eq, refl, sym, ap, subst, ◌∙◌, arith, MatchBool, get_or, ◌⊎◌, codes}
-use Rattle.std.specs.Prelude.{IsSome, is_some}
+use Rattle.std.specs.Prelude.{IfSome, IsSome, is_some}
 use Rattle.std.specs.Option.{option_copied}
 use Rattle.std.proofs.lemmas.Bool.{cases_lt}
+use Rattle.std.proofs.Math.ListN.{get_or-append}
 use Rattle.std.proofs.lemmas.List.{append_cancel_left}
 use Rattle.std.proofs.lemmas.Slice.Eq.{bytes_eq-Decides}
-use Rattle.elf_section.specs.Bytes.{IsUnquoted, IsBehind}
+use Rattle.elf_section.specs.Bytes.{IsUnquoted, IsBehind, MaySay}
 use Rattle.byte_images.specs.Elf.{class_of}
 use Rattle.elf_section.specs.File.{header, section, symbol_len, Fits, IsSymbols, HasSymbols, strings, count, symbol, symbol_name}
 use Rattle.defmt_intern.specs.declared.table.Profile.{Profile}
@@ -20,7 +21,8 @@ use Rattle.elf_section.specs.declared.table.SymbolTable.{SymbolTable}
 use Rattle.elf_section.specs.declared.file.RawSymbol.{RawSymbol}
 use Rattle.elf_section.specs.File.{symbol_in}
 use Rattle.elf_section.specs.Bytes.{text_at}
-use Rattle.elf_section.proofs.SectionLaws.{one_first, for_symbols, none_text}
+use Rattle.elf_section.proofs.SectionLaws.{one_first, for_symbols}
+use Rattle.elf_section.proofs.StringLaws.{first_is}
 use Rattle.elf_section.proofs.BytesLaws.{one_unquoted}
 use Rattle.elf_section.proofs.Stages.{passed_more, refuse_at}
 
@@ -46,8 +48,17 @@ open_symbol file t len k o el =
     ∙ ap (λ (n : ℕ). symbol_in t.class (n + k * symbol_len t.class) file) o.offset_is
     ∙ ap (λ (c : Class). symbol_in c ((section file t.number).offset + k * symbol_len c) file) o.class_is
 
+open_text : (file : List ℕ) (t : SymbolTable) (k : ℕ) (r : RawSymbol) → IsOpen file t → r ≡ symbol file t.number k → text_at r.name t.strings ≡ symbol_name file t.number k
+open_text file t k r o er = ap (λ (x : RawSymbol). text_at x.name t.strings) er ∙ ap (text_at (symbol file t.number k).name) o.strings_are
+
+pub open_has : (file : List ℕ) (t : SymbolTable) (k : ℕ) (r : RawSymbol) (b : Bool) → IsOpen file t → r ≡ symbol file t.number k → b ≡ is_some (text_at r.name t.strings) → b ≡ is_some (symbol_name file t.number k)
+open_has file t k r b o er eb = eb ∙ ap is_some (open_text file t k r o er)
+
+pub open_first : (file : List ℕ) (t : SymbolTable) (k : ℕ) (r : RawSymbol) (b : ℕ) → IsOpen file t → r ≡ symbol file t.number k → b ≡ get_or t.strings r.name 0 → IfSome (symbol_name file t.number k) (λ name. b ≡ get_or name 0 0)
+open_first file t k r b o er eb = first_is r.name b t.strings (symbol_name file t.number k) eb (open_text file t k r o er)
+
 pub open_name : (file : List ℕ) (t : SymbolTable) (k : ℕ) (r : RawSymbol) (o : Option (Bor (List ℕ))) → IsOpen file t → r ≡ symbol file t.number k → option_copied o ≡ text_at r.name t.strings → option_copied o ≡ symbol_name file t.number k
-open_name file t k r o p er eo = eo ∙ ap (λ (x : RawSymbol). text_at x.name t.strings) er ∙ ap (text_at (symbol file t.number k).name) p.strings_are
+open_name file t k r o p er eo = eo ∙ open_text file t k r p er
 
 few : (cls : Class) (offset size len : ℕ) → offset + size ≤ len → size / symbol_len cls ≤ len
 few Elf32 offset size len h = omega arith
@@ -69,11 +80,11 @@ strings_fit file i s t p is e f =
 
 -- ---- the names of symbols
 
-pub refuse_symbol_name : (file : List ℕ) (i k : ℕ) (o : Option (Bor (List ℕ))) → Passed file 14 → IsSymbols file i → 0 < k → k < count file i → ((j : ℕ) → 0 < j → j < k → IsSome (symbol_name file i j)) → option_copied o ≡ symbol_name file i k → is_some o ≡ false → Refused file (refusal file (check.has_symbol_name k))
-refuse_symbol_name file i k o p s above below before e fails =
+pub refuse_symbol_name : (file : List ℕ) (i k : ℕ) → Passed file 14 → IsSymbols file i → 0 < k → k < count file i → ((j : ℕ) → 0 < j → j < k → IsSome (symbol_name file i j)) → false ≡ is_some (symbol_name file i k) → Refused file (refusal file (check.has_symbol_name k))
+refuse_symbol_name file i k p s above below before fails =
     refuse_at file 14 k p refl refl
     (λ j l n t a b. subst (λ (m : ℕ). IsSome (symbol_name file m j)) (one_first file (HasSymbols file) i n s t) (before j a l))
-    (λ h. none_text o (symbol_name file i k) e fails (h i s above below))
+    (λ h. let there = h i s above below in absurd cc)
 
 pub passed_symbol_names : (file : List ℕ) (i : ℕ) → Passed file 14 → IsSymbols file i → ((k : ℕ) → 0 < k → k < count file i → IsSome (symbol_name file i k)) → Passed file 15
 passed_symbol_names file i p s h = passed_more file 14 p (λ k j t above. for_symbols file i (λ n. k < count file n → IsSome (symbol_name file n k)) s (h k above) j t)
@@ -93,6 +104,19 @@ says_by file i k front name inner None above below e u h = λ rest s.
     let same : s.name ≡ name = cc in
     h rest (one_unquoted name inner s.inner u (subst (λ (n : List ℕ). IsUnquoted n s.inner) same s.unquoted) ∙ s.says)
 says_by file i k front name inner (Some rest) above below e u h = record { above = above; below = below; name = name; name_is = e; inner = inner; unquoted = u; says = h }
+
+-- a name that begins otherwise doesn't say it
+says_not_at : (file : List ℕ) (i k first : ℕ) (front rest : List ℕ) → IfSome (symbol_name file i k) (λ name. first ≡ get_or name 0 0) → MaySay first front false → Says file i front k rest → ⊥
+says_not_at file i k first front rest h m s =
+    let here : first ≡ get_or s.name 0 0 = subst (λ (o : Option (List ℕ)). IfSome o (λ name. first ≡ get_or name 0 0)) s.name_is h in
+    elim s.unquoted [
+      | inl quoted ↦ m.1 (here ∙ ap (λ (t : List ℕ). get_or t 0 0) quoted)
+      | inr plain ↦ m.2 (here ∙ ap (λ (t : List ℕ). get_or t 0 0) (sym plain.0 ∙ s.says) ∙ get_or-append front rest 0 0 m.0)
+    ]
+
+pub says_not : (file : List ℕ) (i k first : ℕ) (front : List ℕ) (may : Bool) → IfSome (symbol_name file i k) (λ name. first ≡ get_or name 0 0) → MaySay first front may → may ≡ false → (rest : List ℕ) → Says file i front k rest → ⊥
+says_not file i k first front true h m e rest s = absurd cc
+says_not file i k first front false h m e rest s = says_not_at file i k first front rest h m s
 
 pub seen_same : (file : List ℕ) (i : ℕ) (front value : List ℕ) (k : ℕ) (seen : Bool) (rest : List ℕ) → Seen file i front value k seen → Says file i front k rest → rest ≡ value → Seen file i front value (k + 1) true
 seen_same file i front value k seen rest s says e = record {

@@ -1,5 +1,5 @@
 -- Texts in bytes (ELF gABI, "String Table").
-use Rattle.std.specs.Prelude.{◌≡◌, ℕ, suc, List, [], ◌∷◌, ◌++◌, ◌==◌, ◌+◌, ◌*◌, ◌/◌, ◌<◌, ◌^◌, length, drop, slice_index, Option, Some, None, option_map, ◌⊎◌, if◌then◌else◌}
+use Rattle.std.specs.Prelude.{◌≡◌, ◌≢◌, Bool, true, false, ℕ, suc, List, [], ◌∷◌, ◌++◌, ◌==◌, ◌+◌, ◌*◌, ◌/◌, ◌<◌, ◌^◌, length, drop, slice_index, Option, Some, None, option_map, ◌⊎◌, if◌then◌else◌}
 use Rattle.std.specs.Borrow.{Bor}
 
 -- what stands before the first zero
@@ -32,3 +32,10 @@ pub record HasGaps (bytes gaps : List ℕ) : Type 0 where
   pub short : length bytes < 2 ^ 32
   pub count : length gaps ≡ length bytes / 64 + 1
   pub each : (i : ℕ) → i < length gaps → slice_index gaps i ≡ gap (drop (64 * (i + 1)) bytes)
+
+-- ---- for private clauses
+
+-- a name that begins with this byte has the front, or has it in double quotes, only where the test says so
+abbrev pub MaySay : ℕ → List ℕ → Bool → Type 0
+MaySay first front true = Unit {0}
+MaySay first front false = (0 < length front) × (first ≢ 34) × (first ≢ slice_index front 0)

@@ -1,15 +1,16 @@
 -- The symbols of `.defmt` (ELF gABI, "Symbol Table"; defmt book, "Interning").
-use Rattle.std.specs.Prelude.{◌≡◌, ℕ, zero, suc, ◌+◌, ◌-◌, List, [], ◌∷◌, ◌==◌, ◌&&◌, slice_index, unwrap_or, Bool, Result, Ok, Err, map, Vec}
+use Rattle.std.specs.Prelude.{◌≡◌, ℕ, zero, suc, ◌+◌, ◌-◌, List, [], ◌∷◌, ◌==◌, ◌&&◌, slice_index, unwrap_or, Bool, true, false, Option, Some, None, Result, Ok, Err, map, Vec}
 use Rattle.std.specs.Global.{Global}
 use Rattle.std.specs.List.{filter}
 use Rattle.defmt_intern.specs.declared.table.Profile.{Profile}
 use Rattle.elf_section.specs.File.{IsDefmt, IsSymbols, count, symbol, symbol_name}
 use Rattle.elf_section.specs.Checks.{Passes, Refused, Refusal, ProfileIs}
-use Rattle.elf_section.specs.Symbol.{PlainSymbol, plain_all}
+use Rattle.elf_section.specs.Symbol.{PlainSymbol, plain_all, plain_ref, plain_refs}
 use Rattle.elf_section.specs.declared.fault.ElfFault.{ElfFault}
 use Rattle.elf_section.specs.declared.fault.ElfFault.TheVariants as faults
 use Rattle.elf_section.specs.declared.symbols.Listing.{Listing}
 use Rattle.elf_section.specs.declared.symbols.Symbol.{Symbol}
+use Rattle.elf_section.specs.declared.symbols.SymbolRef.{SymbolRef}
 
 -- n numbers from this one on
 unfoldable pub numbers : ℕ → ℕ → List ℕ
@@ -78,7 +79,7 @@ TellsOnly (Err faults.Memory) profile = Unit {0}
 
 -- symbols and profile, the first refusal, or want of memory
 abbrev pub ReadsListing : List ℕ → Result Listing ElfFault → Type 0
-ReadsListing file (Ok listing) = Carries file (plain_all listing.symbols.items) listing.profile
+ReadsListing file (Ok listing) = Carries file (plain_refs listing.symbols.items) listing.profile
 ReadsListing file (Err (faults.Refused cause part place)) =
     Refused file (record { cause = cause; part = part; place = place })
 ReadsListing file (Err faults.Memory) = Unit {0}
@@ -86,7 +87,7 @@ ReadsListing file (Err faults.Memory) = Unit {0}
 -- these symbols and this profile, unless memory runs out
 abbrev pub ListsOnly : Result Listing ElfFault → List PlainSymbol → Profile → Type 0
 ListsOnly (Ok listing) symbols profile =
-    (plain_all listing.symbols.items ≡ symbols) × (listing.profile ≡ profile)
+    (plain_refs listing.symbols.items ≡ symbols) × (listing.profile ≡ profile)
 ListsOnly (Err (faults.Refused cause part place)) symbols profile = ⊥
 ListsOnly (Err faults.Memory) symbols profile = Unit {0}
 
@@ -98,6 +99,11 @@ RefusesOnly (Err (faults.Refused cause part place)) refusal =
 RefusesOnly (Err faults.Memory) refusal = Unit {0}
 
 -- ---- for private clauses
+
+-- symbol k of the table in section i where it lies in section d and its name begins with `{`
+abbrev pub ListsAt : List ℕ → ℕ → ℕ → ℕ → Option SymbolRef → Type 0
+ListsAt file d i k None = is_listed file d i k ≡ false
+ListsAt file d i k (Some s) = (is_listed file d i k ≡ true) × (plain_ref s ≡ symbol_of file i k)
 
 -- what the checks so far have found, the first refusal, or want of memory
 abbrev pub Gets : {T : Type 0} → List ℕ → (T → Type 0) → Result T ElfFault → Type 0

@@ -1,6 +1,7 @@
 -- A symbol as plain data (ELF gABI, "Symbol Table": the name that st_name points to, and st_value).
 use Rattle.std.specs.Prelude.{ℕ, List, map}
 use Rattle.elf_section.specs.declared.symbols.Symbol.{Symbol}
+use Rattle.elf_section.specs.declared.symbols.SymbolRef.{SymbolRef}
 
 pub record PlainSymbol : Type 0 where
   pub name : List ℕ
@@ -12,3 +13,10 @@ plain s = record { name = s.name.items; value = s.value }
 
 abbrev pub plain_all : List Symbol → List PlainSymbol
 plain_all symbols = map plain symbols
+
+-- the same of one whose name stands in a file
+abbrev pub plain_ref : SymbolRef → PlainSymbol
+plain_ref s = record { name = s.name.now; value = s.value }
+
+abbrev pub plain_refs : List SymbolRef → List PlainSymbol
+plain_refs symbols = map plain_ref symbols

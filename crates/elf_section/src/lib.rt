@@ -16,5 +16,5 @@ mod table;
 mod writing;
 
 pub use fault::{ElfFault, Part};
-pub use symbols::{Listing, Symbol, read_listing, read_profile, read_symbols};
+pub use symbols::{Listing, Symbol, SymbolRef, read_listing, read_profile, read_symbols};
 pub use writing::write_symbols;

@@ -2,20 +2,34 @@
 
 ghost use Rattle.std.specs.Prelude.{◌<◌, MatchBool};
 ghost use Rattle.elf_section.specs.Checks.{Passed, Goes, Tells, SaysIn, SaysAny, IsSaid, HasMarker, SayProfile};
+ghost use Rattle.elf_section.specs.Bytes.{MaySay};
 ghost use Rattle.elf_section.specs.Table.{IsOpen};
 
 use crate::bytes::{behind, unquoted};
 use crate::fault::{Cause, Fault};
-use crate::table::{SymbolTable, symbol_name};
+use crate::table::{SymbolTable, first_byte, symbol_name};
 use defmt_intern::Profile;
 
+// Whether a name that begins with this byte may say something behind a front.
+fn may_say(first: u8, front: &[u8]) -> bool
+    ensures { MaySay first front.now result }
+{
+    match front {
+        [] => true,
+        [byte, ..] => first == *byte || first == b'"',
+    }
+}
+
 // What a symbol says behind a front.
-fn says<'a>(file: &[u8], table: &'a SymbolTable<'_>, k: u64, front: &[u8]) -> Option<&'a [u8]>
+fn says<'a>(file: &[u8], table: &SymbolTable<'a>, k: u64, front: &[u8]) -> Option<&'a [u8]>
     requires open { IsOpen file.now table.now }
     requires above { 0 < k }
     requires below { k < table.now.count }
     ensures { SaysIn file.now table.now.number front.now k result }
 {
+    if !may_say(first_byte(file, table, k), front) {
+        return None;
+    }
     match symbol_name(file, table, k) {
         Some(name) => behind(unquoted(name), front),
         None => None,

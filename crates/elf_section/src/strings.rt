@@ -1,6 +1,6 @@
 //! String tables.
 
-ghost use Rattle.std.specs.Prelude.{◌≡◌, ◌≤◌, ◌<◌, ◌+◌, ◌^◌, length, drop, IfOk};
+ghost use Rattle.std.specs.Prelude.{◌≡◌, ◌≤◌, ◌<◌, ◌+◌, ◌^◌, length, drop, is_some, slice_index, IfOk};
 ghost use Rattle.std.specs.Option.{option_copied};
 ghost use Rattle.elf_section.specs.Bytes.{gap, text_at, HasGaps};
 
@@ -67,7 +67,7 @@ impl<'a> StringTable<'a> {
     }
 
     /// The text from a place to the zero at its end.
-    pub fn text_at(&self, at: u64) -> Option<&[u8]>
+    pub fn text_at(&self, at: u64) -> Option<&'a [u8]>
         ensures { option_copied result ≡ text_at at self.now }
     {
         if at > self.bytes.len() as u64 {
@@ -80,6 +80,28 @@ impl<'a> StringTable<'a> {
             Some(&self.bytes[at..end])
         } else {
             None
+        }
+    }
+
+    /// Whether a text stands at a place. Where the table ends with a zero, one does at each place in it.
+    pub fn has_text_at(&self, at: u64) -> bool
+        ensures { result ≡ is_some (text_at at self.now) }
+    {
+        let len = self.bytes.len();
+        if at < len as u64 && self.bytes[len - 1] == 0 {
+            return true;
+        }
+        self.text_at(at).is_some()
+    }
+
+    /// The byte at a place, 0 past the end.
+    pub fn byte_at(&self, at: u64) -> u8
+        ensures { result ≡ slice_index self.now at }
+    {
+        if at < self.bytes.len() as u64 {
+            self.bytes[at as usize]
+        } else {
+            0
         }
     }
 }

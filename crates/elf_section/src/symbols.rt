@@ -4,8 +4,8 @@ ghost use Rattle.std.specs.Prelude.{◌≡◌, ◌≤◌, ◌<◌, ◌^◌, List
 ghost use Rattle.defmt_intern.specs.declared.table.Profile.{Profile as AnyProfile};
 ghost use Rattle.elf_section.specs.Checks.{Passed, ProfileIs, Refusal, Refused, Tells};
 ghost use Rattle.elf_section.specs.File.{IsDefmt};
-ghost use Rattle.elf_section.specs.Listed.{Lists, HasProfile, Carries, Gets, ReadsSymbols, ReadsProfile, ReadsListing, GivesOnly, TellsOnly, ListsOnly, RefusesOnly, is_listed, symbol_of, symbols_below};
-ghost use Rattle.elf_section.specs.Symbol.{PlainSymbol, plain, plain_all};
+ghost use Rattle.elf_section.specs.Listed.{Lists, HasProfile, Carries, Gets, ReadsSymbols, ReadsProfile, ReadsListing, GivesOnly, TellsOnly, ListsOnly, RefusesOnly, ListsAt, symbols_below};
+ghost use Rattle.elf_section.specs.Symbol.{PlainSymbol, plain_all, plain_refs};
 ghost use Rattle.elf_section.specs.Table.{IsOpen};
 
 use crate::fault::{ElfFault, Fault};
@@ -24,10 +24,17 @@ pub struct Symbol {
     pub value: u64,
 }
 
+/// A symbol's name as it stands in the file, and its value.
+#[derive(Clone, Copy, Drop)]
+pub struct SymbolRef<'a> {
+    pub name: &'a [u8],
+    pub value: u64,
+}
+
 /// What a file says: its symbols, and its profile.
 #[derive(Drop)]
-pub struct Listing {
-    pub symbols: Vec<Symbol>,
+pub struct Listing<'a> {
+    pub symbols: Vec<SymbolRef<'a>>,
     pub profile: Profile,
 }
 
@@ -38,52 +45,54 @@ struct Checked<'a> {
     profile: Profile,
 }
 
-// Whether symbol `k` lies in section `defmt` with a name that begins with `{`.
-fn is_listed(file: &[u8], defmt: u64, table: &SymbolTable<'_>, k: u64) -> bool
+// Symbol `k`, where it lies in section `defmt` with a name that begins with `{`.
+fn listed<'a>(file: &[u8], defmt: u64, table: &SymbolTable<'a>, k: u64) -> Option<SymbolRef<'a>>
     requires open { IsOpen file.now table.now }
     requires below { k < table.now.count }
-    ensures { result ≡ is_listed file.now defmt table.now.number k }
+    ensures { ListsAt file.now defmt table.now.number k result }
 {
-    symbol(file, table, k).section == defmt
-        && match symbol_name(file, table, k) {
-            Some([first, ..]) => *first == b'{',
-            _ => false,
-        }
+    let value = symbol(file, table, k).value;
+    if symbol(file, table, k).section != defmt {
+        return None;
+    }
+    match symbol_name(file, table, k) {
+        Some(name) if name.starts_with(b"{") => Some(SymbolRef { name, value }),
+        _ => None,
+    }
 }
 
-fn symbol_of(alloc: Global, file: &[u8], table: &SymbolTable<'_>, k: u64) -> Result<Symbol, Memory>
-    requires open { IsOpen file.now table.now }
-    requires below { k < table.now.count }
-    ensures { IfOk result (λ s. plain s ≡ symbol_of file.now table.now.number k) }
-{
-    let name = match symbol_name(file, table, k) {
-        Some(text) => Bytes::from_slice(alloc, text)?,
-        None => Bytes::new(alloc),
-    };
-    Ok(Symbol {
-        name,
-        value: symbol(file, table, k).value,
-    })
-}
-
-fn collect(
+fn collect<'a>(
     alloc: Global,
     file: &[u8],
     defmt: u64,
-    table: &SymbolTable<'_>,
-) -> Result<Vec<Symbol>, Memory>
+    table: &SymbolTable<'a>,
+) -> Result<Vec<SymbolRef<'a>>, Memory>
     requires open { IsOpen file.now table.now }
     ensures symbols { IfOk result
-        (λ v. plain_all v.items ≡ symbols_below file.now defmt table.now.number table.now.count) }
+        (λ v. plain_refs v.items ≡ symbols_below file.now defmt table.now.number table.now.count) }
     ensures few { IfOk result (λ v. length v.items ≤ table.now.count) }
 {
     let mut symbols = Vec::new(alloc);
     for k in 1..table.count {
-        if is_listed(file, defmt, table, k) {
-            symbols.push(symbol_of(alloc, file, table, k)?)?;
+        if let Some(symbol) = listed(file, defmt, table, k) {
+            symbols.push(symbol)?;
         }
     }
     Ok(symbols)
+}
+
+// The symbols with names of their own.
+fn owned(alloc: Global, symbols: &[SymbolRef<'_>]) -> Result<Vec<Symbol>, Memory>
+    ensures { IfOk result (λ v. plain_all v.items ≡ plain_refs symbols.now) }
+{
+    let mut copies = Vec::with_capacity(alloc, symbols.len())?;
+    for symbol in symbols {
+        copies.push(Symbol {
+            name: Bytes::from_slice(alloc, symbol.name)?,
+            value: symbol.value,
+        })?;
+    }
+    Ok(copies)
 }
 
 // The first section named `.defmt`, behind the checks in front of it.
@@ -132,7 +141,7 @@ fn profile_of(alloc: Global, file: &[u8]) -> Result<Profile, ElfFault>
     Ok(checked.profile)
 }
 
-fn listing_of(alloc: Global, file: &[u8]) -> Result<Listing, ElfFault>
+fn listing_of(alloc: Global, file: &[u8]) -> Result<Listing<'_>, ElfFault>
     requires { length file.now < 2 ^ 32 }
     ensures answer { ReadsListing file.now result }
     ensures few { IfOk result (λ listing. length listing.symbols.items ≤ length file.now) }
@@ -152,7 +161,7 @@ fn symbols_of(alloc: Global, file: &[u8]) -> Result<Vec<Symbol>, ElfFault>
     ensures few { IfOk result (λ v. length v.items ≤ length file.now) }
 {
     let listing = listing_of(alloc, file)?;
-    Ok(listing.symbols)
+    Ok(owned(alloc, &listing.symbols)?)
 }
 
 /// The symbols of the section `.defmt` whose names begin with `{`, in the order of the symbol table,
@@ -192,8 +201,8 @@ pub fn read_profile(alloc: Global, file: &[u8]) -> Result<Profile, ElfFault>
     profile_of(alloc, file)
 }
 
-/// What `read_symbols` and `read_profile` answer, from one reading of the file.
-pub fn read_listing(alloc: Global, file: &[u8]) -> Result<Listing, ElfFault>
+/// What `read_symbols` and `read_profile` answer, from one reading of the file. The names stay where they stand in it.
+pub fn read_listing(alloc: Global, file: &[u8]) -> Result<Listing<'_>, ElfFault>
     requires { length file.now < 2 ^ 32 }
 
     // Symbols and a profile only where the file passes, lists these and says it, and a refusal only where it is the first.

@@ -1,6 +1,6 @@
 //! The symbol table.
 
-ghost use Rattle.std.specs.Prelude.{◌≡◌, ◌<◌, ◌+◌, ◌*◌, ◌^◌, ◌/◌, length, MatchBool, IfOk};
+ghost use Rattle.std.specs.Prelude.{◌≡◌, ◌<◌, ◌+◌, ◌*◌, ◌^◌, ◌/◌, length, is_some, slice_index, MatchBool, IfOk, IfSome};
 ghost use Rattle.std.specs.Option.{option_copied};
 ghost use Rattle.elf_section.specs.File.{header, IsSymbols, symbol, symbol_name, count};
 ghost use Rattle.elf_section.specs.Checks.{Passed, Goes, IsTable};
@@ -101,12 +101,31 @@ pub fn symbol(file: &[u8], table: &SymbolTable<'_>, k: u64) -> RawSymbol
 }
 
 /// The name of symbol number `k`.
-pub fn symbol_name<'a>(file: &[u8], table: &'a SymbolTable<'_>, k: u64) -> Option<&'a [u8]>
+pub fn symbol_name<'a>(file: &[u8], table: &SymbolTable<'a>, k: u64) -> Option<&'a [u8]>
     requires open { IsOpen file.now table.now }
     requires below { k < table.now.count }
     ensures { option_copied result ≡ symbol_name file.now table.now.number k }
 {
     table.strings.text_at(symbol(file, table, k).name)
+}
+
+// Whether symbol number `k` has a name.
+fn has_name(file: &[u8], table: &SymbolTable<'_>, k: u64) -> bool
+    requires open { IsOpen file.now table.now }
+    requires below { k < table.now.count }
+    ensures { result ≡ is_some (symbol_name file.now table.now.number k) }
+{
+    table.strings.has_text_at(symbol(file, table, k).name)
+}
+
+/// The byte with which the name of symbol number `k` begins, 0 where there is none.
+pub fn first_byte(file: &[u8], table: &SymbolTable<'_>, k: u64) -> u8
+    requires open { IsOpen file.now table.now }
+    requires below { k < table.now.count }
+    ensures { IfSome (symbol_name file.now table.now.number k)
+        (λ name. result ≡ slice_index name 0) }
+{
+    table.strings.byte_at(symbol(file, table, k).name)
 }
 
 /// The names of all symbols but the first.
@@ -115,7 +134,7 @@ pub fn check_symbol_names(file: &[u8], table: &SymbolTable<'_>) -> Result<(), Fa
     ensures { Goes file.now 15 result }
 {
     for k in 1..table.count {
-        if symbol_name(file, table, k).is_none() {
+        if !has_name(file, table, k) {
             return Err(Part::SymbolName.outside(k as u32));
         }
     }

@@ -2,29 +2,29 @@ use Rattle.std.proofs.Common.{◌∙◌, ap, sym, refl, arith, ◌∷◌, []}
 use Rattle.std.proofs.Common.{inl, inr}
 use Rattle.std.proofs.lemmas.Bool.{cases_eq}
 use Rattle.std.proofs.lemmas.List.{length_push, map-append}
-use Rattle.elf_section.specs.Symbol.{plain, plain_all}
+use Rattle.elf_section.specs.Symbol.{plain_ref, plain_refs}
 use Rattle.elf_section.proofs.ListedLaws.{below_none, below_listed, below_other, below_end}
 use Rattle.elf_section.proofs.symbols.collect.Goals as goal
-use Rattle.elf_section.proofs.symbols.collect.Goals.{then-is_listed+in_ok-symbol_of+in_ok-push, else-is_listed}
+use Rattle.elf_section.proofs.symbols.collect.Goals.{in-Some+in_ok-push, in_default}
 
 pub loop-k-init : goal.loop-k-init
-loop-k-init c = (ap plain_all c.new-symbols.ensures.items ∙ below_none c.args.file.now c.args.defmt c.args.table.now.number, λ _. refl, rw c.new-symbols.ensures.items (omega arith))
+loop-k-init c = (ap plain_refs c.new-symbols.ensures.items ∙ below_none c.args.file.now c.args.defmt c.args.table.now.number, λ _. refl, rw c.new-symbols.ensures.items (omega arith))
 
 pub loop-k-preserved : goal.loop-k-preserved
 loop-k-preserved c = (
-  elim c.if-is_listed.branch [
-    | then-is_listed+in_ok-symbol_of+in_ok-push w ↦
+  elim c.match-listed.branch [
+    | in-Some+in_ok-push w ↦
         rw (w.symbols-is, w.in_ok-push.ensures.items)
-        (map-append plain c.loop-k.symbols.items (w.in_ok-symbol_of.field-0 ∷ [])
-        ∙ rw (w.in_ok-symbol_of.ensures, c.loop-k.invariant.0)
-        (sym (below_listed c.args.file.now c.args.defmt c.args.table.now.number c.loop-k.k (omega arith) (sym c.is_listed.ensures ∙ w.if-is_listed.true))))
-    | else-is_listed w ↦ rw w.symbols-is (c.loop-k.invariant.0 ∙ sym (below_other c.args.file.now c.args.defmt c.args.table.now.number c.loop-k.k (omega arith) (sym c.is_listed.ensures ∙ w.if-is_listed.false)))
+        (map-append plain_ref c.loop-k.symbols.items (w.in-Some.symbol ∷ [])
+        ∙ rw (w.in-Some.ensures.1, c.loop-k.invariant.0)
+        (sym (below_listed c.args.file.now c.args.defmt c.args.table.now.number c.loop-k.k (omega arith) w.in-Some.ensures.0)))
+    | in_default w ↦ rw w.symbols-is (c.loop-k.invariant.0 ∙ sym (below_other c.args.file.now c.args.defmt c.args.table.now.number c.loop-k.k (omega arith) w.in_default.ensures))
   ],
   λ z. absurd (omega (arith, z)),
   let l = c.loop-k.invariant.2 in
-      elim c.if-is_listed.branch [
-        | then-is_listed+in_ok-symbol_of+in_ok-push w ↦ rw (w.symbols-is, w.in_ok-push.ensures.items, length_push) (omega arith)
-        | else-is_listed w ↦ rw w.symbols-is (omega arith)
+      elim c.match-listed.branch [
+        | in-Some+in_ok-push w ↦ rw (w.symbols-is, w.in_ok-push.ensures.items, length_push) (omega arith)
+        | in_default w ↦ rw w.symbols-is (omega arith)
       ],
 )
 

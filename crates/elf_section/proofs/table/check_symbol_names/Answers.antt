@@ -1,13 +1,13 @@
-use Rattle.std.proofs.Common.{◌∙◌, ◌<◌, ap, not, arith}
+use Rattle.std.proofs.Common.{◌<◌, arith}
 use Rattle.elf_section.specs.File.{count}
 use Rattle.elf_section.proofs.TableLaws.{open_count, refuse_symbol_name, passed_symbol_names}
 use Rattle.elf_section.proofs.table.check_symbol_names.Goals as goal
 
-pub returns-then-is_none : goal.returns-then-is_none
-returns-then-is_none c =
+pub returns-then-not-has_name : goal.returns-then-not-has_name
+returns-then-not-has_name c =
     let n = c.requires.count_is in
     let below : c.loop-k.k < count c.args.file.now c.args.table.now.number = omega (arith, n) in
-    rw c.outside.ensures (refuse_symbol_name c.args.file.now c.args.table.now.number c.loop-k.k c.symbol_name.result c.requires.passed c.requires.symbols (omega arith) below c.loop-k.invariant c.symbol_name.ensures (c.is_none.ensures ∙ ap not c.if-is_none.true))
+    rw c.outside.ensures (refuse_symbol_name c.args.file.now c.args.table.now.number c.loop-k.k c.requires.passed c.requires.symbols (omega arith) below c.loop-k.invariant c.if-not-has_name.ensures)
 
 pub returns : goal.returns
 returns c =
