@@ -3,6 +3,7 @@ pub mod EntriesLaws
 pub mod FullLaws
 pub mod ListedLaws
 pub mod MembersLaws
+pub mod QuickLaws
 pub mod NameTextLaws
 pub mod SaidLaws
 pub mod TableLaws

@@ -1,8 +1,8 @@
 -- Symbol after symbol.
-use Rattle.std.proofs.Common.{◌≡◌, ◌≢◌, ◌≤◌, ◌<◌, ◌+◌, inl, inr, ℕ, List, length, Option, Some, None, refl, sym, ap, subst, ◌∙◌, arith, option_map}
+use Rattle.std.proofs.Common.{◌≡◌, ◌≢◌, ◌≤◌, ◌<◌, ◌+◌, inl, inr, ℕ, List, length, get_or, Option, Some, None, refl, sym, ap, subst, ◌∙◌, arith, option_map}
 use Rattle.std.specs.Prelude.{IsSome, is_some, slice_get}
 use Rattle.std.proofs.lemmas.Bool.{cases_lt, cases_eq}
-use Rattle.std.proofs.lemmas.Option.{slice_get_within, slice_get-map}
+use Rattle.std.proofs.lemmas.Option.{slice_get_within, slice_get-get_or, slice_get-map}
 use Rattle.byte_images.specs.First.{FirstToFail}
 use Rattle.byte_images.proofs.FirstLaws.{one_first_check}
 use Rattle.defmt_grammar.specs.declared.language.Language.{Language}
@@ -12,8 +12,8 @@ use Rattle.defmt_intern.specs.Entries as map
 use Rattle.defmt_intern.specs.Table.{Map, InsertRefused, EntryRefused, IsStamp}
 use Rattle.defmt_intern.proofs.EntriesLaws.{get-empty_of, same_map}
 use Rattle.defmt_intern.proofs.TableLaws.{here, apart}
-use Rattle.elf_section.specs.Symbol.{PlainSymbol, plain, plain_all}
-use Rattle.elf_section.specs.declared.symbols.Symbol.{Symbol}
+use Rattle.elf_section.specs.Symbol.{PlainSymbol, plain_ref, plain_refs}
+use Rattle.elf_section.specs.declared.symbols.SymbolRef.{SymbolRef}
 use Rattle.elf_table.specs.Names.{At, NameCheck, has_entry, is_small, is_single, is_short, is_one_stamp, place, cause_of, Holds, IsTableOf, NamesRefused, Made, SaysNone, StepRefused, Puts}
 use Rattle.elf_table.specs.Said.{Says}
 use Rattle.elf_table.proofs.SaidLaws.{one_said}
@@ -250,5 +250,5 @@ one_check language symbols a b x y = one_first_check same_check a b x y
 
 -- ---- the code's lists
 
-pub symbol_at : (symbols : List Symbol) (p : ℕ) (s : Symbol) → slice_get symbols p ≡ Some s → At (plain_all symbols) p (plain s)
-symbol_at symbols p s at = slice_get-map plain symbols p ∙ ap (option_map plain) at
+pub symbol_at : (symbols : List SymbolRef) (p : ℕ) (d : SymbolRef) → p < length symbols → At (plain_refs symbols) p (plain_ref (get_or symbols p d))
+symbol_at symbols p d l = slice_get-map plain_ref symbols p ∙ ap (option_map plain_ref) (slice_get-get_or symbols p d l)

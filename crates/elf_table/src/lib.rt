@@ -7,6 +7,7 @@
 mod fault;
 mod members;
 mod names;
+mod quick;
 mod reading;
 mod writing;
 

@@ -15,8 +15,8 @@ pub struct Texts<'a> {
     pub disambiguator: Option<&'a str>,
 }
 
-// What stands at a name once a member was read.
-fn later<'a>(name: &str, key: &str, text: &'a str, before: Option<&'a str>) -> Option<&'a str>
+/// What stands at a name once a member was read.
+pub fn later<'a>(name: &str, key: &str, text: &'a str, before: Option<&'a str>) -> Option<&'a str>
     ensures { option_copied result
         ≡ later name.now key.now text.now (option_copied before.entry) }
 {

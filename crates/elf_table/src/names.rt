@@ -1,10 +1,14 @@
-//! Names whose members are all strings, as `symbol_name` and defmt's macros write them, are read a token at a time, with no tree of them.
-//! Every other name is read by `read_name`.
+//! Names whose members are all strings, as `symbol_name` and defmt's macros write them, are read with no tree of them: at once where they
+//! have no spaces and escapes, else a token at a time. Every other name is read by `read_name`.
 
-ghost use Rattle.std.specs.Prelude.{◌≡◌, IfOk, IfSome};
+ghost use Rattle.std.specs.Prelude.{◌≡◌, ℕ, List, IfOk, IfSome};
+ghost use Rattle.std.specs.Str.{IsUtf8};
+ghost use Rattle.json.specs.Lex.{tokens};
+ghost use Rattle.elf_table.specs.Members.{IsObjectOf};
 ghost use Rattle.defmt_intern.specs.Name.{Names, ReadsName};
 
 use crate::members::{Texts, object_texts};
+use crate::quick::quick_texts;
 use defmt_grammar::Text;
 use defmt_intern::{Entry, NameFault, Tag, read_name};
 use dl_io::Memory;
@@ -22,22 +26,17 @@ fn copy_of(alloc: Global, text: &str) -> Result<Text, Memory>
     }
 }
 
-// The entry that a name says whose members are all strings.
-fn plain_entry(alloc: Global, scratch: &mut Scratch, name: &[u8]) -> Result<Option<Entry>, Memory>
-    ensures { IfOk result (λ r. IfSome r (Names name.now)) }
+// The entry of an object's texts, where none of the four is missing.
+fn entry_with(alloc: Global, texts: Texts<'_>) -> Result<Option<Entry>, Memory>
+    ensures { IfOk result (λ r. IfSome r (λ entry. (name : List ℕ) → IsUtf8 name
+        → IsObjectOf (tokens name) texts.entry → Names name entry)) }
 {
-    let Ok(name) = str::from_utf8(name) else {
-        return Ok(None);
-    };
-    let mut reader = Reader::new(name, scratch)?;
-    let Some(
-        Texts {
-            package: Some(package),
-            tag: Some(tag),
-            text: Some(text),
-            disambiguator: Some(disambiguator),
-        },
-    ) = object_texts(&mut reader)
+    let Texts {
+        package: Some(package),
+        tag: Some(tag),
+        text: Some(text),
+        disambiguator: Some(disambiguator),
+    } = texts
     else {
         return Ok(None);
     };
@@ -47,6 +46,23 @@ fn plain_entry(alloc: Global, scratch: &mut Scratch, name: &[u8]) -> Result<Opti
         text: copy_of(alloc, text)?,
         disambiguator: copy_of(alloc, disambiguator)?,
     }))
+}
+
+// The entry that a name says whose members are all strings.
+fn plain_entry(alloc: Global, scratch: &mut Scratch, name: &[u8]) -> Result<Option<Entry>, Memory>
+    ensures { IfOk result (λ r. IfSome r (Names name.now)) }
+{
+    let Ok(name) = str::from_utf8(name) else {
+        return Ok(None);
+    };
+    if let Some(texts) = quick_texts(name) {
+        return entry_with(alloc, texts);
+    }
+    let mut reader = Reader::new(name, scratch)?;
+    match object_texts(&mut reader) {
+        Some(texts) => entry_with(alloc, texts),
+        None => Ok(None),
+    }
 }
 
 /// The entry that a name says, as [`read_name`] answers.

@@ -6,7 +6,7 @@ ghost use Rattle.defmt_intern.specs.Body.{body_of};
 ghost use Rattle.defmt_intern.specs.declared.parsed.Parsed.TheVariants.{Unsupported};
 ghost use Rattle.defmt_intern.specs.declared.table.Table.{Table as AnyTable};
 ghost use Rattle.elf_section.specs.Checks.{Refusal, Refused};
-ghost use Rattle.elf_section.specs.Symbol.{plain, plain_all};
+ghost use Rattle.elf_section.specs.Symbol.{plain_ref, plain_refs};
 ghost use Rattle.elf_table.specs.Names.{ReadsTable, AnswersOnly, NamesTable, Reads, SymbolRefused, Steps, Makes, in_full};
 ghost use Rattle.elf_table.specs.Said.{unread};
 ghost use Rattle.elf_table.specs.declared.fault.LoadFault.TheVariants.{Elf as OfElf, Names as OfNames};
@@ -15,7 +15,7 @@ use crate::fault::{Cause, LoadFault, StepFault};
 use crate::names::entry_of;
 use defmt_grammar::{Language, Text};
 use defmt_intern::{Entry, NameFault, Profile, Table, TableFault, Tag};
-use elf_section::{ElfFault, Symbol, read_listing};
+use elf_section::{ElfFault, SymbolRef, read_listing};
 use json::Scratch;
 use std::alloc::Global;
 
@@ -55,12 +55,12 @@ fn put_symbol(
     alloc: Global,
     scratch: &mut Scratch,
     table: &mut Table,
-    symbol: &Symbol,
+    symbol: &SymbolRef<'_>,
 ) -> Result<(), StepFault>
-    ensures steps { Steps table.old.entries (plain symbol.now) result table.new.entries }
+    ensures steps { Steps table.old.entries (plain_ref symbol.now) result table.new.entries }
     ensures profile { table.new.profile ≡ table.old.profile }
 {
-    let entry = said(alloc, scratch, table.language(), symbol.name.as_slice())?;
+    let entry = said(alloc, scratch, table.language(), symbol.name)?;
     if symbol.value > 65535 {
         return Err(StepFault::Refused {
             cause: Cause::Index,
@@ -78,12 +78,12 @@ fn put_symbol(
 // The table of these symbols and this profile, in a language.
 fn table_of(
     alloc: Global,
-    symbols: &[Symbol],
+    symbols: &[SymbolRef<'_>],
     profile: Profile,
     language: Language,
 ) -> Result<Table, LoadFault>
     requires { length symbols.now < 2 ^ 32 }
-    ensures { Makes language (plain_all symbols.now) profile result }
+    ensures { Makes language (plain_refs symbols.now) profile result }
 {
     let mut table = Table::of_language(alloc, language);
     table.set_profile(profile);
