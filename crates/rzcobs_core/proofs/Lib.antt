@@ -7,4 +7,5 @@ pub mod OneReading
 pub mod Padding
 pub mod Several
 pub mod Sizes
+pub mod Spreading
 pub mod Steps

@@ -1,11 +1,17 @@
 -- What the parts of the decoder do, which reads a code from its end.
-use Rattle.std.specs.Prelude.{◌≡◌, ◌+◌, ◌*◌, ◌/◌, ◌%◌, ◌≤◌, ◌==◌, ℕ, zero, suc, List, ◌++◌, length, drop, if◌then◌else◌}
+use Rattle.std.specs.Prelude.{◌≡◌, ◌+◌, ◌*◌, ◌/◌, ◌%◌, ◌≤◌, ◌==◌, ℕ, zero, suc, List, [], ◌∷◌, ◌++◌, length, drop, slice_index, if◌then◌else◌}
 use Rattle.rzcobs_core.specs.Blocks.{IsBlock}
 
 -- how many of the lowest n bits are clear
 unfoldable pub clear_bits : ℕ → ℕ → ℕ
 clear_bits zero code = 0
 clear_bits (suc n) code = (if code % 2 == 1 then 0 else 1) + clear_bits n (code / 2)
+
+-- n bytes: a zero where a bit of the code byte is set, from the lowest on, and elsewhere the next stored byte
+unfoldable pub spread : ℕ → ℕ → List ℕ → List ℕ
+spread zero code stored = []
+spread (suc n) code stored =
+    if code % 2 == 1 then 0 ∷ spread n (code / 2) stored else slice_index stored 0 ∷ spread n (code / 2) (drop 1 stored)
 
 -- The last bytes of a list were put in front of what stood at the buffer's end.
 pub record ReadsRun (before : List ℕ) (stored : ℕ) (out : List ℕ) (at : ℕ) (front after : List ℕ) (begin : ℕ) : Type 0 where

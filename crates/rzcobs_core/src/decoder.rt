@@ -1,9 +1,14 @@
 //! A piece read as a code, from its end.
 ghost use Rattle.std.specs.Prelude.{◌≡◌, ◌≢◌, ◌+◌, ◌*◌, ◌-◌, ◌<◌, ◌≤◌, ℕ, length, take, drop, All, IfOk, IsErr, MatchOption, MatchBool, slice_index, ◌++◌, ◌∷◌, []};
 ghost use Rattle.rzcobs_core.specs.Blocks.{Blocks, IsNoCode, zero_bits, nonzero};
-ghost use Rattle.rzcobs_core.specs.Reading.{clear_bits, ReadsRun, ReadsLast, EndsInNoBlock};
+ghost use Rattle.rzcobs_core.specs.Reading.{clear_bits, spread, ReadsRun, ReadsLast, EndsInNoBlock};
 
+use crate::spreads::SPREADS;
 use memchr::memchr;
+use std::simd::prelude::*;
+
+// How many bytes are read at once.
+const LANES: usize = 16;
 
 /// No sequence of blocks is the piece.
 #[derive(Clone, Copy, Debug)]
@@ -54,6 +59,34 @@ pub fn decode_zeroless_to_end(piece: &[u8], out: &mut [u8]) -> Result<usize, Mal
     Ok(at)
 }
 
+/// The same of the first bytes of some, as many as are named, of which none is zero. So a piece is read where it stands in a
+/// stream: by what stands behind it, whatever that is, more than one byte is read at once.
+#[inline(never)]
+pub fn decode_front_to_end(bytes: &[u8], size: usize, out: &mut [u8]) -> Result<usize, Malformed>
+    requires size { size ≤ length bytes.now }
+    requires room { 7 * size + 9 ≤ length out.old }
+    requires none { All (λ b. b ≢ 0) (take size bytes.now) }
+    ensures found { IfOk result
+        (λ begin. (begin ≤ length out.new) × Blocks (take size bytes.now) (drop begin out.new)) }
+    ensures malformed { IsErr result → IsNoCode (take size bytes.now) }
+{
+    if bytes.len() - size < LANES {
+        return decode_zeroless_to_end(&bytes[..size], out);
+    }
+    let mut rest = size;
+    let mut at = out.len();
+    'blocks: while rest > 0 {
+        match read_last_of(bytes, rest, out, at) {
+            None => return Err(Malformed),
+            Some((front, begin)) => {
+                rest = front;
+                at = begin;
+            }
+        }
+    }
+    Ok(at)
+}
+
 // Whether some byte is zero.
 fn has_zero(bytes: &[u8]) -> bool
     ensures { MatchBool result
@@ -84,6 +117,62 @@ fn read_last<'a>(piece: &'a [u8], out: &mut [u8], at: usize) -> Option<(&'a [u8]
         return read_zero_after(before, code, out, at);
     }
     read_none_zero(before, out, at)
+}
+
+// The same of the first bytes of some, behind which there are others; what is answered first is how many bytes stand before the block.
+#[inline(always)]
+fn read_last_of(bytes: &[u8], rest: usize, out: &mut [u8], at: usize) -> Option<(usize, usize)>
+    requires none { All (λ b. b ≢ 0) (take rest bytes.now) }
+    requires some { 0 < rest }
+    requires behind { rest + LANES ≤ length bytes.now }
+    requires within { at ≤ length out.old }
+    requires room { 7 * rest + 9 ≤ at }
+    ensures { MatchOption result (EndsInNoBlock (take rest bytes.now))
+        (λ r. ReadsLast (take rest bytes.now) out.old at (take r.0 bytes.now) out.new r.1) }
+{
+    let before = rest - 1;
+    let code = bytes[before];
+    if code >= 128 {
+        return read_long_of(bytes, rest, out, at);
+    }
+    let stored = stored_of(code);
+    if before < stored {
+        return None;
+    }
+    let front = before - stored;
+    put_spread(code, bytes, front, out, at);
+    Some((front, at - 7))
+}
+
+// The same of a last block of any form. It stands apart, since most blocks are short.
+#[inline(never)]
+fn read_long_of(bytes: &[u8], rest: usize, out: &mut [u8], at: usize) -> Option<(usize, usize)>
+    requires none { All (λ b. b ≢ 0) (take rest bytes.now) }
+    requires size { rest ≤ length bytes.now }
+    requires within { at ≤ length out.old }
+    requires room { 7 * rest ≤ at }
+    ensures { MatchOption result (EndsInNoBlock (take rest bytes.now))
+        (λ r. ReadsLast (take rest bytes.now) out.old at (take r.0 bytes.now) out.new r.1) }
+{
+    let (front, begin) = read_last(&bytes[..rest], out, at)?;
+    Some((front.len(), begin))
+}
+
+// Puts the seven bytes of a block of the first form in front of the place: sixteen bytes are read from the first stored one on, and
+// each goes to where the code byte tells. In front of the seven stand nine zeros.
+#[inline(always)]
+fn put_spread(code: u8, bytes: &[u8], front: usize, out: &mut [u8], at: usize)
+    requires small { code < 128 }
+    requires lanes { front + LANES ≤ length bytes.now }
+    requires place { LANES ≤ at }
+    requires within { at ≤ length out.old }
+    ensures put { drop (at - 7) out.new
+        ≡ spread 7 code (take 16 (drop front bytes.now)) ++ drop at out.old }
+    ensures long { length out.new ≡ length out.old }
+{
+    let places = u8x16::from_slice(&SPREADS[code as usize]);
+    let all = u8x16::from_slice(&bytes[front..]).swizzle_dyn(places);
+    all.copy_to_slice(&mut out[at - LANES..]);
 }
 
 // Reads a last block of the first form.

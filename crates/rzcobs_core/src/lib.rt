@@ -16,9 +16,10 @@
 mod decoder;
 mod encoder;
 mod laws;
+mod spreads;
 mod whole;
 
-pub use decoder::{Malformed, decode, decode_zeroless_to_end};
+pub use decoder::{Malformed, decode, decode_front_to_end, decode_zeroless_to_end};
 pub use encoder::{Encoder, bound};
 pub use laws::{canonical_reading, canonical_size, no_zero_in_code, one_reading, reading_size};
 pub use whole::encode;
