@@ -7,4 +7,5 @@ pub mod FrameCodes
 pub mod Decides
 pub mod Agree
 pub mod InFrames
+mod Near
 mod Whole

@@ -1,10 +1,10 @@
 //! What a piece stands for.
-ghost use Rattle.std.specs.Prelude.{◌≡◌, ◌≤◌, ◌*◌, List, ℕ, Some, None, false, length, take, drop, option_map, IfSome};
+ghost use Rattle.std.specs.Prelude.{◌≡◌, ◌≤◌, ◌+◌, ◌*◌, List, ℕ, Some, None, false, length, take, drop, option_map, IfSome};
 ghost use Rattle.rzcobs_core.specs.Blocks.{Blocks, IsNoCode};
 ghost use Rattle.defmt_framing.specs.Cut.{has_zero};
 ghost use Rattle.defmt_framing.specs.Decoded.{decoded};
 
-use rzcobs_core::{Malformed, decode, decode_zeroless_to_end};
+use rzcobs_core::{Malformed, decode, decode_front_to_end, decode_zeroless_to_end};
 
 /// What a piece stands for as a function of it, and as a sequence of blocks, agree.
 pub fn decoded_is()
@@ -40,6 +40,22 @@ pub fn decode_zeroless_piece(piece: &[u8], out: &mut [u8]) -> Option<usize>
     ensures within { IfSome result (λ begin. begin ≤ length out.new) }
 {
     match decode_zeroless_to_end(piece, out) {
+        Ok(begin) => Some(begin),
+        Err(Malformed) => None,
+    }
+}
+
+/// The same of a piece that stands in front of some bytes and has so many of them. The buffer has nine bytes more
+/// than seven times as many as the piece.
+#[inline(always)]
+pub fn decode_piece_in_front(bytes: &[u8], size: usize, out: &mut [u8]) -> Option<usize>
+    requires size { size ≤ length bytes.now }
+    requires room { 7 * size + 9 ≤ length out.old }
+    requires none { has_zero (take size bytes.now) ≡ false }
+    ensures decoded { decoded (take size bytes.now) ≡ option_map (λ begin. drop begin out.new) result }
+    ensures within { IfSome result (λ begin. begin ≤ length out.new) }
+{
+    match decode_front_to_end(bytes, size, out) {
         Ok(begin) => Some(begin),
         Err(Malformed) => None,
     }

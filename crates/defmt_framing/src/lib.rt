@@ -16,7 +16,7 @@ mod notice;
 mod places;
 mod teller;
 
-pub use decoded::{decode_piece, decode_zeroless_piece, decoded_is};
+pub use decoded::{decode_piece, decode_piece_in_front, decode_zeroless_piece, decoded_is};
 pub use framer::Framer;
 pub use laws::{
     always_laid_out, any_cutting, cut_between_frames, cut_by_places, cut_within_a_frame,

@@ -1,4 +1,4 @@
-use Rattle.std.proofs.Common.{◌≡◌, ◌+◌, ℕ, length, true, sym, ap, subst, arith}
+use Rattle.std.proofs.Common.{◌≡◌, ℕ, true, sym, ap, subst, arith}
 use Rattle.defmt_framing.specs.Framing.{Framing, Stands, is_between}
 use Rattle.defmt_framing.proofs.Between.{passed}
 use Rattle.defmt_framing.proofs.framer.Framer.pass_pieces.Goals as goal
