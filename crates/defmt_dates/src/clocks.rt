@@ -3,7 +3,7 @@
 ghost use Rattle.std.specs.Prelude.{◌≡◌, ◌≤◌, length};
 ghost use Rattle.defmt_dates.specs.Texts.{whole_days, clock_of_seconds, clock_of_millis, clock_of_micros};
 
-use crate::bytes::{TimeText, millionths, put, put_decimal, thousandths};
+use crate::bytes::{TimeText, divided, millionths, put, put_decimal, thousandths};
 use crate::times::{DAY, time_bytes};
 
 // The whole days, where there are any.
@@ -12,11 +12,11 @@ fn whole_days(seconds: u128) -> TimeText
     ensures short { length result.items ≤ 35 }
 {
     let mut text = TimeText::new();
-    let day = u128::from(DAY);
-    if seconds < day {
+    if seconds < u128::from(DAY) {
         return text;
     }
-    put_decimal(&mut text, seconds / day);
+    let (days, _) = divided(seconds, DAY);
+    put_decimal(&mut text, days);
     put(&mut text, b":");
     text
 }
@@ -27,7 +27,8 @@ fn clock(seconds: u128) -> TimeText
     ensures short { length result.items ≤ 43 }
 {
     let mut text = whole_days(seconds);
-    put(&mut text, &time_bytes((seconds % u128::from(DAY)) as u64));
+    let (_, rest) = divided(seconds, DAY);
+    put(&mut text, &time_bytes(rest));
     text
 }
 
@@ -42,8 +43,9 @@ pub fn clock_of_seconds(seconds: u128) -> TimeText
 pub fn clock_of_millis(millis: u128) -> TimeText
     ensures { result.items ≡ clock_of_millis millis }
 {
-    let mut text = clock(millis / 1_000);
-    put(&mut text, &thousandths((millis % 1_000) as u64));
+    let (seconds, parts) = divided(millis, 1_000);
+    let mut text = clock(seconds);
+    put(&mut text, &thousandths(parts));
     text
 }
 
@@ -51,7 +53,8 @@ pub fn clock_of_millis(millis: u128) -> TimeText
 pub fn clock_of_micros(micros: u128) -> TimeText
     ensures { result.items ≡ clock_of_micros micros }
 {
-    let mut text = clock(micros / 1_000_000);
-    put(&mut text, &millionths((micros % 1_000_000) as u64));
+    let (seconds, parts) = divided(micros, 1_000_000);
+    let mut text = clock(seconds);
+    put(&mut text, &millionths(parts));
     text
 }

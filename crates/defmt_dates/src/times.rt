@@ -3,7 +3,7 @@
 ghost use Rattle.std.specs.Prelude.{◌≡◌, ◌<◌, ◌≤◌, length};
 ghost use Rattle.defmt_dates.specs.Texts.{day_text, time_text, early_text, date_time, date_of_seconds, date_of_millis};
 
-use crate::bytes::{TimeText, digit, put, put_decimal, thousandths};
+use crate::bytes::{TimeText, digit, divided, put, put_decimal, put_fraction, thousandths};
 use crate::calendar::{Date, date_after};
 
 const MINUTE: u64 = 60;
@@ -63,7 +63,7 @@ fn early(seconds: u64, fraction: &[u8]) -> TimeText
     put(&mut text, &day_bytes(date_after(seconds / DAY)));
     put(&mut text, b"T");
     put(&mut text, &time_bytes(seconds % DAY));
-    put(&mut text, fraction);
+    put_fraction(&mut text, fraction);
     put(&mut text, b"Z");
     text
 }
@@ -92,9 +92,6 @@ pub fn date_of_seconds(seconds: u128) -> TimeText
 pub fn date_of_millis(millis: u128) -> TimeText
     ensures { result.items ≡ date_of_millis millis }
 {
-    date_time(
-        millis / 1_000,
-        &thousandths((millis % 1_000) as u64),
-        millis,
-    )
+    let (seconds, parts) = divided(millis, 1_000);
+    date_time(seconds, &thousandths(parts), millis)
 }
