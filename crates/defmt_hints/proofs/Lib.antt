@@ -8,6 +8,7 @@ pub mod Elements
 pub mod Escaping
 pub mod Filling
 pub mod Fractions
+pub mod Overlapping
 pub mod PairLaws
 pub mod PartsLaws
 pub mod Places

@@ -12,18 +12,17 @@ use crate::texts::put;
 use defmt_grammar::Base;
 use itoa::write_digits;
 
+static LOWER: [u8; 16] = *b"0123456789abcdef";
+
+static UPPER: [u8; 16] = *b"0123456789ABCDEF";
+
 // The character of a digit below 16.
 pub(crate) fn glyph(digit: u8, upper: bool) -> u8
     requires { digit < 16 }
     ensures { result ≡ digit_glyph upper digit }
 {
-    if digit < 10 {
-        b'0' + digit
-    } else if upper {
-        b'A' + (digit - 10)
-    } else {
-        b'a' + (digit - 10)
-    }
+    let place = digit as usize;
+    if upper { UPPER[place] } else { LOWER[place] }
 }
 
 // The number of digits, none of 0.
