@@ -7,7 +7,6 @@ pub mod Fronting
 pub mod Insides
 pub mod Leading
 pub mod Onward
-pub mod Overlapping
 pub mod Parting
 pub mod Places
 pub mod Placing

@@ -23,6 +23,15 @@ pub(crate) struct Progress {
     pub written: usize,
 }
 
+// What a call answered, as it is. A call's answer stands in memory; read from there at once, it leaves the answers that are made
+// without a call in registers.
+#[inline(always)]
+pub(crate) fn read_at_once(after: Option<Progress>) -> Option<Progress>
+    ensures { result ≡ after }
+{
+    Some(after?)
+}
+
 // An unsigned number.
 #[inline(always)]
 pub(crate) fn pass_uint(
@@ -215,9 +224,9 @@ pub(crate) fn pass_value(
         Kind::Str => pass_str(hint, bytes, before, out),
         Kind::Bytes => pass_bytes(hint, bytes, before, out),
         Kind::ByteArray(count) => pass_array(count, hint, bytes, before, out),
-        Kind::Float(size) => pass_float(size, bytes, before, out),
-        Kind::Debug => pass_shown(bytes, before, out),
-        Kind::Display => pass_shown(bytes, before, out),
+        Kind::Float(size) => read_at_once(pass_float(size, bytes, before, out)),
+        Kind::Debug => read_at_once(pass_shown(bytes, before, out)),
+        Kind::Display => read_at_once(pass_shown(bytes, before, out)),
         _ => None,
     }
 }

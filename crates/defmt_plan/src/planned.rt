@@ -14,7 +14,7 @@ ghost use Rattle.defmt_plan.specs.Told.{Fronts, PassesArguments, StampPasses, Te
 use crate::ends::put_short;
 use crate::forms::{Forms, forms_of};
 use crate::inside::pass_steps;
-use crate::leaves::{Progress, pass_uint};
+use crate::leaves::{Progress, pass_uint, read_at_once};
 use crate::message::{Origin, Parts, read_head};
 use crate::numbers::numbers_of;
 use crate::plan::{Plan, StampPlan, plans_of, stamp_plan};
@@ -162,6 +162,11 @@ impl PlannedTable {
         &self.table
     }
 
+    /// Lets the table and its plans go, without a walk to free them: for a program that is about to end.
+    pub fn forget(self) {
+        std::mem::forget(self);
+    }
+
     // The plan of the string at an index, where it has one.
     #[inline(always)]
     fn plan(&self, index: u16) -> Option<&Plan>
@@ -191,7 +196,7 @@ impl PlannedTable {
         match &self.stamp {
             StampPlan::Missing => Some(before),
             StampPlan::Number(size, hint) => pass_uint(*size, *hint, bytes, before, out),
-            StampPlan::Steps(steps) => run_all(steps, bytes, from, out, at),
+            StampPlan::Steps(steps) => read_at_once(run_all(steps, bytes, from, out, at)),
             StampPlan::Unusual => None,
         }
     }
@@ -213,7 +218,7 @@ impl PlannedTable {
             out.old at out.new }
     {
         if plan.nested {
-            pass_nested(&self.forms, plan, bytes, from, out, at)
+            read_at_once(pass_nested(&self.forms, plan, bytes, from, out, at))
         } else {
             run(&plan.steps, bytes, from, out, at)
         }

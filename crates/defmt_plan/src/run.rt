@@ -10,7 +10,7 @@ ghost use Rattle.defmt_plan.specs.Told.{PassesArguments};
 
 use crate::bits::pass_field;
 use crate::ends::put_short;
-use crate::leaves::{Progress, pass_uint, pass_value};
+use crate::leaves::{Progress, pass_uint, pass_value, read_at_once};
 use crate::steps::Step;
 use defmt_grammar::{Hint, IntSize, Kind};
 
@@ -30,8 +30,12 @@ fn stride(step: &Step, bytes: &[u8], before: Progress, out: &mut [u8]) -> Option
             })
         }
         Step::Value(kind, hint) => pass_value(*kind, *hint, bytes, before, out),
-        Step::Peek(field, hint) => pass_field(*field, *hint, false, bytes, before, out),
-        Step::Bits(field, hint) => pass_field(*field, *hint, true, bytes, before, out),
+        Step::Peek(field, hint) => {
+            read_at_once(pass_field(*field, *hint, false, bytes, before, out))
+        }
+        Step::Bits(field, hint) => {
+            read_at_once(pass_field(*field, *hint, true, bytes, before, out))
+        }
     }
 }
 
@@ -102,6 +106,6 @@ pub(crate) fn run(
     }
     match lone_number(steps) {
         Some((size, hint)) => pass_uint(size, hint, bytes, before, out),
-        None => run_all(steps, bytes, from, out, at),
+        None => read_at_once(run_all(steps, bytes, from, out, at)),
     }
 }

@@ -1,6 +1,6 @@
 use Rattle.std.proofs.Common.{◌-◌, ◌∙◌, length}
 use Rattle.std.proofs.lemmas.List.{take_rest}
-use Rattle.defmt_plan.proofs.Overlapping.{ends_written}
+use Rattle.defmt_hints.proofs.Overlapping.{ends_written}
 use Rattle.defmt_plan.proofs.ends.write_ends.Goals as goal
 
 pub returns : goal.returns

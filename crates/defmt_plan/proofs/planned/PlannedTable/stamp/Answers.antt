@@ -23,6 +23,6 @@ returns-in-Number c =
 
 pub returns-in-Steps : goal.returns-in-Steps
 returns-in-Steps c =
-    stamp_steps c.run_all.result c.args.self.now.entries c.in-Steps.steps.items c.args.bytes.now c.args.from c.args.out.now c.args.at c.run_all.new.out
+    rw c.read_at_once.ensures (stamp_steps c.run_all.result c.args.self.now.entries c.in-Steps.steps.items c.args.bytes.now c.args.from c.args.out.now c.args.at c.run_all.new.out
     (rw c.in-Steps.is at (subst (λ (t : Catalog). SaysStamp t.entries c.self.inside.stamp) c.self.view_is c.self.invariant.0))
-    (rw c.deref.ensures.value at c.run_all.ensures)
+    (rw c.deref.ensures.value at c.run_all.ensures))

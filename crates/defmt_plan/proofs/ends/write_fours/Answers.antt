@@ -1,0 +1,5 @@
+use Rattle.defmt_hints.proofs.Overlapping.{lanes_written}
+use Rattle.defmt_plan.proofs.ends.write_fours.Goals as goal
+
+pub returns : goal.returns
+returns c = lanes_written c.args.out.now c.args.text.now c.args.at 4 c.requires.within c.requires.count.0 c.requires.count.1
