@@ -103,8 +103,7 @@ impl<'t> Host<'t> {
         ensures none { IfNone result (self.new ≡ self.old) }
     {
         let (start, size) = self.framer.whole_piece(bytes)?;
-        let piece = &bytes[start..start + size];
-        let (origin, count) = self.reader.line(piece, text, at)?;
+        let (origin, count) = self.reader.line(&bytes[start..], size, text, at)?;
         self.framer.pass_piece::<Event>(bytes, start, size);
         Some((start + size + 1, origin, count))
     }

@@ -17,7 +17,9 @@ use crate::notices::{line_behind, notice_behind, notice_in_front, origin_of};
 use crate::room::{line_room, make_room, room_behind};
 use defmt_eager::{EagerFault, parted_line};
 use defmt_encode::{COBS, Heard, LONG, WIDE};
-use defmt_framing::{Framer, Notice, Teller, decode_piece, decode_zeroless_piece};
+use defmt_framing::{
+    Framer, Notice, Teller, decode_piece, decode_piece_in_front, decode_zeroless_piece,
+};
 use defmt_grammar::Text;
 use defmt_intern::Table;
 use defmt_plan::{Origin, PlannedTable};
@@ -95,33 +97,35 @@ impl<'t> Reader<'t> {
         self.table.table()
     }
 
-    // The line of a piece without a zero, where a plan writes it behind a place of the buffer. What stands in front of the place
-    // stays.
+    // The line of a piece without a zero that stands in front of some bytes, where a plan writes it behind a place of the buffer. What
+    // stands in front of the place stays.
     #[tactic(auto, unfolding(crate::specs::Event::tells))]
     #[inline(always)]
     pub(crate) fn line(
         &mut self,
-        piece: &[u8],
+        bytes: &[u8],
+        size: usize,
         text: &mut Vec<u8>,
         at: usize,
     ) -> Option<(Origin, usize)>
         requires place { at ≤ length text.old.items }
-        requires short { length piece.now ≤ 65536 }
-        requires none { has_zero piece.now ≡ false }
+        requires size { size ≤ length bytes.now }
+        requires short { size ≤ 65536 }
+        requires none { has_zero (take size bytes.now) ≡ false }
         ensures line { IfSome result (λ line. IsNotice (drop at text.new.items)
-            ((tells self.old).piece piece.now) (notices.Line line.0 line.1)) }
+            ((tells self.old).piece (take size bytes.now)) (notices.Line line.0 line.1)) }
         ensures front { take at text.new.items ≡ take at text.old.items }
         ensures same { self.new ≡ self.old }
     {
-        if make_room(&mut self.buffer, 7 * piece.len()).is_err() {
+        if make_room(&mut self.buffer, 7 * size + 9).is_err() {
             return None;
         }
-        let begin = decode_zeroless_piece(piece, &mut self.buffer)?;
+        let begin = decode_piece_in_front(bytes, size, &mut self.buffer)?;
         let code = &self.buffer[begin..];
         let Ok(end) = room_behind(text, at) else {
             return None;
         };
-        line_behind(self.table, code, piece.len() as u32, text, at, end)
+        line_behind(self.table, code, size as u32, text, at, end)
     }
 
     // Hears a piece without a zero, which bytes have whole, whatever it tells. The text of a line may stand behind a place of the

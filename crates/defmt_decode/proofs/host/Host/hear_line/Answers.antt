@@ -1,14 +1,10 @@
 use Rattle.std.proofs.Common.{◌+◌, ℕ, List, Option, Some, take, drop, sym, ◌∙◌, ap, subst}
-use Rattle.defmt_framing.specs.Cut.{has_zero}
+use Rattle.std.proofs.lemmas.List.{take_rest}
 use Rattle.defmt_framing.specs.Framing.{Hears, Stands}
 use Rattle.defmt_decode.specs.Event.{line_with, tells}
 use Rattle.defmt_decode.specs.Hearing.{Hearing}
 use Rattle.defmt_decode.specs.declared.event.Event.{Event}
-use Rattle.defmt_decode.proofs.Behind.{cut_piece}
 use Rattle.defmt_decode.proofs.host.Host.hear_line.Goals as goal
-
-pub line-requires-clause-none : goal.line-requires-clause-none
-line-requires-clause-none c = ap has_zero (cut_piece c.args.bytes.now c.in_ok-start.start c.in_ok-start.size) ∙ c.in_ok-start.ensures.none
 
 pub returns-clause-hears : goal.returns-clause-hears
 returns-clause-hears c =
@@ -17,5 +13,5 @@ returns-clause-hears c =
     let buffer : List ℕ = drop c.args.at c.line.new.text.items in
     subst (λ (h : Hearing). (stream : List ℕ) → Stands h.framing stream → Hears (tells h.table) c.pass_piece.new.self stream (take (start + size + 1) c.args.bytes.now) (Some (line_with c.in_ok-origin.origin (take c.in_ok-origin.count buffer)))) c.self.view_is
     (λ stream st. subst (λ (told : Option Event). Hears (tells c.self.inside.reader) c.pass_piece.new.self stream (take (start + size + 1) c.args.bytes.now) told)
-    (sym (c.in_ok-origin.ensures.line.told ∙ ap (λ (p : List ℕ). Some ((tells c.self.inside.reader).piece p)) (cut_piece c.args.bytes.now start size)))
+    (sym (c.in_ok-origin.ensures.line.told ∙ ap (λ (l : List ℕ). Some ((tells c.self.inside.reader).piece (take size l))) (take_rest c.args.bytes.now start)))
     (c.pass_piece.ensures (tells c.self.inside.reader) stream st))
