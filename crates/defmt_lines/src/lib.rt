@@ -19,7 +19,7 @@ pub use cause::Cause;
 pub use content::{ActionLine, EntryLine, Line, Words};
 pub use cut::{next_line, next_text_line};
 pub use form::Form;
-pub use line::{one_line, read_line, read_text_line};
+pub use line::{one_line, read_line, read_statement, read_text_line};
 pub use orders::Orders;
 pub use settings::{RingMode, Settings, one_setting};
 pub use verdict::{judge, one_verdict, parse_text, some_verdict};

@@ -3,8 +3,9 @@
 ghost use Rattle.std.specs.Prelude.{◌≡◌, ◌<◌, ◌++◌, ℕ, List, true, IfSome, codes, option_copied, option_map};
 ghost use Rattle.std.specs.Fmt.{decimal};
 ghost use Rattle.defmt_grammar.specs.Cut.{cut, parts_of};
-ghost use Rattle.defmt_lines.specs.Line.{Line as Said, Says, act_of, by_form, entry_of, field_and_rest, is_blank, is_string_tag, line_of, line_of_text, one_field, one_word, tag_of, text_of, two_fields, two_words, line_by_word};
+ghost use Rattle.defmt_lines.specs.Line.{Line as Said, Says, act, act_of, by_form, entry_of, field_and_rest, is_blank, is_string_tag, line_of, line_of_text, one_field, one_word, tag_of, text_of, two_fields, two_words, line_by_word};
 ghost use Rattle.defmt_lines.specs.LineView.{line_view};
+ghost use Rattle.defmt_lines.specs.declared.form.Form.TheVariants.{Statement as StatementForm};
 
 use crate::content::{ActionLine, EntryLine, Line, Words};
 use crate::form::{Form, form_of};
@@ -42,27 +43,25 @@ fn line_of(line: &[u8]) -> Line<'_>
     line_of_text(text)
 }
 
-// The same of a text. Most lines are statements of a writer of one digit.
-fn line_of_text(text: &str) -> Line<'_>
-    ensures { line_view result ≡ line_of_text text.now }
+/// The statement that a line is, where its front tells, as that of most lines does. Of other lines nothing is said.
+#[inline(always)]
+pub fn read_statement(line: &str) -> Option<ActionLine<'_>>
+    ensures { IfSome result
+        (λ a. Says line.now (act StatementForm a.writer a.field.now a.rest.now)) }
 {
-    let Some((writer, behind)) = statement_front(text) else {
-        return any_line_of_text(text);
+    let Some((writer, behind)) = statement_front(line) else {
+        return None;
     };
     let (field, rest) = field_and_rest(behind);
-    Line::Act(
-        Form::Statement,
-        ActionLine {
-            writer: Some(writer),
-            field,
-            rest,
-        },
-    )
+    Some(ActionLine {
+        writer: Some(writer),
+        field,
+        rest,
+    })
 }
 
-// The same of any text.
-#[inline(never)]
-fn any_line_of_text(text: &str) -> Line<'_>
+// What a line says that is a text.
+fn line_of_text(text: &str) -> Line<'_>
     ensures { line_view result ≡ line_of_text text.now }
 {
     if is_blank(text.as_bytes()) {

@@ -1,5 +1,5 @@
 //! What the writers of a script that is read do: statements, and texts for terminals.
-ghost use Rattle.std.specs.Prelude.{◌≡◌, ◌≤◌, ◌<◌, length, nat_lt, OnOk, IfOk, true};
+ghost use Rattle.std.specs.Prelude.{◌≡◌, ◌≤◌, ◌<◌, length, nat_lt, OnOk, IfOk, true, unwrap_or};
 ghost use Rattle.defmt_lines.specs.Form.{StringsAreOver};
 ghost use Rattle.defmt_lines.specs.Line.{act};
 ghost use Rattle.defmt_lines.specs.declared.form.Form.TheVariants.{Say as SayForm, Statement as StatementForm};
@@ -71,7 +71,7 @@ impl Reading {
             (act form line.entry.writer line.entry.field.now line.entry.rest.now) result self.new }
     {
         match form {
-            Form::Statement => self.take_statement(line),
+            Form::Statement => self.take_statement(line.writer, line.field, line.rest),
             Form::Say => self.take_text(line),
             Form::Language
             | Form::Ring
@@ -85,17 +85,18 @@ impl Reading {
     }
 
     // The writer of a statement, and the index of its name, which is a message's: there is room.
-    fn admit_statement(&self, line: &ActionLine<'_>) -> Result<(u8, u16), Cause>
-        ensures value { result ≡ admits_statement self.now line.now.writer line.now.field.now }
+    fn admit_statement(&self, writer: Option<u8>, name: &str) -> Result<(u8, u16), Cause>
+        requires { unwrap_or writer 0 < 8 }
+        ensures value { result ≡ admits_statement self.now writer name.now }
         ensures writer { IfOk result (λ p. p.0 < 8) }
         ensures message { IfOk result (λ p. is_message self.now.script.table p.1 ≡ true) }
         ensures room { IfOk result
             (λ p. count_statements self.now.script < statements_limit) }
     {
-        let Some(writer) = line.writer else {
+        let Some(writer) = writer else {
             return Err(Cause::Writer);
         };
-        let Some(index) = self.names.get(line.field) else {
+        let Some(index) = self.names.get(name) else {
             return Err(Cause::Name);
         };
         if !is_message(&self.table, index) {
@@ -107,18 +108,23 @@ impl Reading {
         Ok((writer, index))
     }
 
-    // Takes a statement: the field is the name of its string, and the rest are its arguments.
-    fn take_statement(&mut self, line: ActionLine<'_>) -> Result<(), LineFault>
-        ensures { TakesLine self.old
-            (act StatementForm line.entry.writer line.entry.field.now line.entry.rest.now)
-            result self.new }
+    // Takes a statement of the string with this name: the text spells its arguments.
+    #[inline(never)]
+    pub(crate) fn take_statement(
+        &mut self,
+        writer: Option<u8>,
+        name: &str,
+        args: &str,
+    ) -> Result<(), LineFault>
+        requires { unwrap_or writer 0 < 8 }
+        ensures { TakesLine self.old (act StatementForm writer name.now args.now) result self.new }
     {
         self.close()?;
-        let (writer, index) = match self.admit_statement(&line) {
+        let (writer, index) = match self.admit_statement(writer, name) {
             Ok(admitted) => admitted,
             Err(cause) => return Err(LineFault::Refused(cause)),
         };
-        match arguments_of(self.alloc, &self.names, &self.table, index, line.rest)? {
+        match arguments_of(self.alloc, &self.names, &self.table, index, args)? {
             Ok(args) => self.put_statement(writer, Statement { index, args }),
             Err(inner) => Err(LineFault::Refused(Cause::Args(inner))),
         }

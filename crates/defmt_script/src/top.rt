@@ -1,7 +1,8 @@
 //! The reading of a script.
 
 ghost use Rattle.std.specs.Prelude.{◌≡◌, ◌<◌, ◌^◌, ℕ, List, Result, length};
-ghost use Rattle.defmt_script.specs.Answers.{Answers, GivesOnly, fault_of};
+ghost use Rattle.defmt_lines.specs.Line.{Line as Said, Says};
+ghost use Rattle.defmt_script.specs.Answers.{Answers, GivesOnly, TakesLine, fault_of};
 ghost use Rattle.defmt_script.specs.Reads.{Reads};
 ghost use Rattle.defmt_script.specs.Script.{Refusal, Script as Read};
 
@@ -9,7 +10,7 @@ use crate::fault::{LineFault, ScriptFault};
 use crate::reading::Reading;
 use crate::script::Script;
 use defmt_lines::{
-    next_line, next_text_line, one_verdict, read_line, read_text_line, some_verdict,
+    next_line, next_text_line, one_verdict, read_line, read_statement, read_text_line, some_verdict,
 };
 use std::alloc::Global;
 use std::str;
@@ -72,6 +73,25 @@ fn read_lines(alloc: Global, text: &[u8]) -> Result<Script, ScriptFault>
     }
 }
 
+// Takes a line that is known to be UTF-8: most are statements.
+#[inline(always)]
+fn take_text_line(reading: &mut Reading, line: &str) -> Result<(), LineFault>
+    ensures { (said : Said) × Says line.now said × TakesLine reading.old said result reading.new }
+{
+    match read_statement(line) {
+        Some(line) => reading.take_statement(line.writer, line.field, line.rest),
+        None => take_any_line(reading, line),
+    }
+}
+
+// The same of any line.
+#[inline(never)]
+fn take_any_line(reading: &mut Reading, line: &str) -> Result<(), LineFault>
+    ensures { (said : Said) × Says line.now said × TakesLine reading.old said result reading.new }
+{
+    reading.take_line(read_text_line(line))
+}
+
 // A script that is UTF-8.
 fn read_text(alloc: Global, text: &str) -> Result<Script, ScriptFault>
     requires { length text.now < 2 ^ 32 }
@@ -83,7 +103,7 @@ fn read_text(alloc: Global, text: &str) -> Result<Script, ScriptFault>
     while !rest.is_empty() {
         let (line, after) = next_text_line(rest);
         number += 1;
-        match reading.take_line(read_text_line(line)) {
+        match take_text_line(&mut reading, line) {
             Ok(()) => {}
             Err(fault) => return Err(fault_of(number, fault)),
         }

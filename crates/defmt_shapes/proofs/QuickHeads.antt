@@ -4,9 +4,10 @@ use Rattle.std.specs.Char.{digit_value}
 use Rattle.std.specs.Str.{IsUtf8, IsCharBoundary}
 use Rattle.std.proofs.lemmas.Str.{IsCharBoundary-after_ascii}
 use Rattle.std.specs.Str.Parse.{AllDigits, digits_value}
-use Rattle.std.proofs.lemmas.Int.Digits.{digits_more, digits_value_more}
+use Rattle.std.proofs.lemmas.Int.Digits.{digits_more, digits_value_more, digits_value-lt}
 use Rattle.std.proofs.lemmas.Bool.{le-ltb, lt-ltb}
-use Rattle.std.proofs.lemmas.List.{take-append-drop}
+use Rattle.std.proofs.lemmas.List.{get_or-take, length-take, take-append-drop}
+use native.Mathlib.Nat.{pow-le-pow_right}
 use Rattle.defmt_grammar.specs.declared.language.Language.{Language}
 use Rattle.defmt_shapes.specs.Shape.{EndsThere, HeadShape, SpellsBytes, SpellsQuoted, decimal, negative, quoted, bytes}
 
@@ -35,6 +36,19 @@ digit_more text items i number digit u same lt low high is h =
       digits = digits_more 10 text i within h.digits small;
       value = digits_value_more 10 text i within ∙ ap (λ (n : ℕ). digits_value 10 (take i text) * 10 + n) value ∙ ap (λ (n : ℕ). n * 10 + digit) h.value;
     }
+
+-- so many digits stand for a number below this one
+pub digits_few : (text : List ℕ) (i number : ℕ) → i ≤ 18 → DigitsTo text i number → number < 1000000000000000000
+digits_few text i number le h =
+    let short : length (take i text) ≤ 18 = omega (arith, length-take i text) in
+    omega (arith, h.value, digits_value-lt 10 (take i text) h.digits, pow-le-pow_right {n = 10} (omega arith) short)
+
+-- the same of a digit that is read from a front of the text
+pub digit_of_front : (text front : List ℕ) (k i number digit : ℕ) → IsUtf8 text → front ≡ take k text → i < k → i < length text → 48 ≤ get_or front i 0 → get_or front i 0 ≤ 57 → digit ≡ get_or front i 0 - 48
+    → DigitsTo text i number → DigitsTo text (i + 1) (number * 10 + digit)
+digit_of_front text front k i number digit u is lt within low high value h =
+    let at : get_or front i 0 ≡ get_or text i 0 = ap (λ (t : List ℕ). get_or t i 0) is ∙ get_or-take k text i 0 lt in
+    digit_more text text i number digit u refl within (omega (arith, at, low)) (omega (arith, at, high)) (value ∙ ap (λ (n : ℕ). n - 48) at) h
 
 pub decimal_there : (lang : Language) (text : List ℕ) (at number : ℕ) (front rest : List ℕ) → AllDigits 10 (take at text) → digits_value 10 (take at text) ≡ number → front ≡ take at text → rest ≡ drop at text → 0 < length front → EndsThere rest → HeadShape lang text (decimal number) rest
 decimal_there lang text at number front rest all value f b some ends = record {

@@ -115,11 +115,7 @@ fn push_quoted<'a>(alloc: Global, text: &'a str, args: &mut Args) -> Result<Opti
 fn copy_of(alloc: Global, text: &str) -> Result<Text, Memory>
     ensures { IfOk result (λ copy. copy ≡ text.now) }
 {
-    let mut copy = Text::new(alloc);
-    match copy.push_str(text) {
-        Ok(()) => Ok(copy),
-        Err(_) => Err(Memory),
-    }
+    Ok(Text::from_string(String::from_str(alloc, text)?))
 }
 
 // The same of bytes.

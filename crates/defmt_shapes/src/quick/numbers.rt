@@ -1,6 +1,6 @@
 //! Decimal numbers.
 
-ghost use Rattle.std.specs.Prelude.{◌≡◌, ◌<◌, ◌≤◌, ℕ, List, take, length, slice_index_or, IfSome, MatchOption};
+ghost use Rattle.std.specs.Prelude.{◌≡◌, ◌⊎◌, ◌-◌, ◌<◌, ◌≤◌, ℕ, List, take, length, slice_index_or, IfSome, MatchOption};
 ghost use Rattle.std.specs.Char.{digit_value};
 ghost use Rattle.std.specs.Str.{IsUtf8, IsCharBoundary};
 ghost use Rattle.std.specs.Str.Parse.{AllDigits, digits_value};
@@ -12,6 +12,22 @@ use crate::parts::{behind, ends_there};
 // A number up to this one has room for a digit more in 64 bits.
 const MOST: u64 = 1_844_674_407_370_955_159;
 
+// So many digits have room in 64 bits.
+const DIGITS: usize = 19;
+
+// The value of a decimal digit.
+#[inline(always)]
+fn digit_of(byte: u8) -> Option<u8>
+    ensures { MatchOption result ((byte < 48) ⊎ (57 < byte))
+        (λ digit. (48 ≤ byte) × (byte ≤ 57) × (digit ≡ byte - 48)) }
+{
+    let digit = byte.wrapping_sub(b'0');
+    if digit > 9 {
+        return None;
+    }
+    Some(digit)
+}
+
 /// The number of decimal digits that the text begins with, and what follows it. Numbers from 18,446,744,073,709,551,600 on are left.
 pub fn quick_decimal(text: &str) -> Option<(u64, &str)>
     ensures value { (language : Language) → MatchOption result
@@ -20,10 +36,33 @@ pub fn quick_decimal(text: &str) -> Option<(u64, &str)>
         (λ p. HeadShape language text.now (decimal p.0) p.1.now) }
     ensures utf8 { IfSome result (λ p. IsUtf8 p.1.now) }
 {
+    let front = &text.as_bytes()[..text.len().min(DIGITS)];
     let mut number = 0u64;
-    for (i, byte) in text.as_bytes().iter().enumerate() {
-        if *byte < b'0' || *byte > b'9' {
+    for (i, byte) in front.iter().enumerate() {
+        let Some(digit) = digit_of(*byte) else {
             return number_before(text, i, number);
+        };
+        number = number * 10 + u64::from(digit);
+    }
+    if text.len() > DIGITS {
+        return long_decimal(text);
+    }
+    number_before(text, text.len(), number)
+}
+
+// The same of a number that may have more digits.
+#[inline(never)]
+fn long_decimal(text: &str) -> Option<(u64, &str)>
+    ensures value { (language : Language) → MatchOption result
+        ((n : ℕ) (rest : List ℕ) → HeadShape language text.now (decimal n) rest
+        → 18446744073709551600 ≤ n)
+        (λ p. HeadShape language text.now (decimal p.0) p.1.now) }
+    ensures utf8 { IfSome result (λ p. IsUtf8 p.1.now) }
+{
+    let mut number = 0u64;
+    for (at, byte) in text.as_bytes().iter().enumerate() {
+        if *byte < b'0' || *byte > b'9' {
+            return number_before(text, at, number);
         }
         if number > MOST {
             return None;
