@@ -85,7 +85,11 @@ impl<'s, B: Books, Q: Quota, T: Work<Q>, C: Books, P: Quota, X: Work<P>> Stage<
     X,
 > {
     /// The work of logging, the work of saying, and what the writers have to say.
-    pub fn new(log: &'s Shared<B, Q, T>, booth: &'s Shared<C, P, X>, speech: &'s Speech) -> Self {
+    pub fn new(log: &'s Shared<B, Q, T>, booth: &'s Shared<C, P, X>, speech: &'s Speech) -> Self
+        ensures log { result.log.now ≡ log.now }
+        ensures booth { result.booth.now ≡ booth.now }
+        ensures speech { result.speech.now ≡ speech.now }
+    {
         Stage { log, booth, speech }
     }
 }
