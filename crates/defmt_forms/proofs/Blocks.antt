@@ -1,13 +1,13 @@
 -- Texts that are looked through block by block.
-use Rattle.std.proofs.Common.{◌≡◌, ◌≤◌, ◌<◌, ◌+◌, ◌-◌, ◌==◌, ◌&&◌, ◌||◌, ℕ, Bool, true, false, not, List, [], ◌∷◌, ◌++◌, length, take, drop, refl, sym, ◌∙◌, ap, arith}
+use Rattle.std.proofs.Common.{◌≡◌, ◌≤◌, ◌+◌, ◌-◌, ◌==◌, ◌&&◌, ◌||◌, ℕ, Bool, true, false, not, List, [], ◌∷◌, ◌++◌, length, take, drop, refl, sym, ◌∙◌, ap, arith}
 use Rattle.std.specs.List.{list_all}
-use Rattle.std.specs.Prelude.{nat_lt}
+use Rattle.std.specs.Prelude.{nat_le, nat_lt}
 use Rattle.std.proofs.lemmas.Bool.Decides.{nat_tests}
 use Rattle.std.proofs.lemmas.Bool.{and_parts, false≢true}
 use Rattle.std.proofs.lemmas.List.{append_assoc, drop-append-le, length-append, take-append-drop}
 use Rattle.std.proofs.lemmas.List.Folds.{list_all-append}
 use Rattle.json.specs.Print.{escape}
-use Rattle.defmt_forms.specs.Tamed.{is_bare, is_plain, is_printable, is_quiet}
+use Rattle.defmt_forms.specs.Tamed.{is_bare, is_other, is_plain, is_printable, is_quiet}
 use Rattle.defmt_forms.specs.Terminal.{tame}
 use Rattle.defmt_forms.proofs.Runs.{all_bare, all_plain}
 
@@ -46,7 +46,7 @@ module _ (test : ℕ → Bool) (text : List ℕ) where
   }
 
   -- less than a block is left
-  pub passed_all : (rest : List ℕ) (so : Bool) → 16 ≤ length text → length rest < 16 → Passed test text rest so → so ≡ true → list_all test text ≡ true
+  pub passed_all : (rest : List ℕ) (so : Bool) → 16 ≤ length text → length rest ≤ 16 → Passed test text rest so → so ≡ true → list_all test text ≡ true
   passed_all rest so long short it held =
       let n : ℕ = length text - 16 in
       let sum : length text ≡ length it.front + length rest = ap length it.whole ∙ length-append it.front rest in
@@ -61,6 +61,19 @@ module _ (test : ℕ → Bool) (text : List ℕ) where
       (sym (list_all-append test (take count text) (drop count text)) ∙ ap (list_all test) (take-append-drop count text) ∙ h)
 
 -- ---- texts in JSON
+
+not_low : (byte : ℕ) → nat_le 32 byte ≡ true → not (nat_lt byte 32) ≡ true
+not_low byte e = grind (arith, nat_tests)
+
+-- no byte of a text needs an escape, where none is low, a quote or a backslash
+pub bare_by : (text : List ℕ) → list_all (nat_le 32) text ≡ true → list_all (is_other 34) text ≡ true → list_all (is_other 92) text ≡ true
+    → list_all is_bare text ≡ true
+bare_by [] low quote slash = refl
+bare_by (c ∷ cs) low quote slash =
+    let l = and_parts (nat_le 32 c) (list_all (nat_le 32) cs) low in
+    let q = and_parts (is_other 34 c) (list_all (is_other 34) cs) quote in
+    let s = and_parts (is_other 92 c) (list_all (is_other 92) cs) slash in
+    both (is_bare c) (list_all is_bare cs) (both (not (nat_lt c 32)) _ (not_low c l.0) (both (is_other 34 c) (is_other 92 c) q.0 s.0)) (bare_by cs l.1 q.1 s.1)
 
 pub bare_front : (text : List ℕ) (count : ℕ) → list_all is_bare text ≡ true → escape (take count text) ≡ take count text
 bare_front text count h = all_bare (take count text) (parted is_bare text count h).0

@@ -6,6 +6,10 @@ use Rattle.defmt_forms.specs.Terminal.{is_control, is_upper_control, tame}
 abbrev pub is_bare : ℕ → Bool
 is_bare byte = not (nat_lt byte 32) && (not (byte == 34) && not (byte == 92))
 
+-- any byte but this
+abbrev pub is_other : ℕ → ℕ → Bool
+is_other one byte = not (byte == one)
+
 -- a character of ASCII and no control character
 abbrev pub is_printable : ℕ → Bool
 is_printable byte = nat_le 32 byte && nat_lt byte 127

@@ -1,17 +1,27 @@
 -- Lines by what those of one statement have in common, for private clauses.
-use Rattle.std.specs.Prelude.{◌≡◌, ◌≤◌, ◌+◌, ℕ, Bool, List, [], ◌∷◌, ◌++◌, length, codes, Option, Some, None, option_map, if◌then◌else◌}
+use Rattle.std.specs.Prelude.{◌≡◌, ◌≤◌, ◌+◌, ℕ, Bool, IfSome, List, [], ◌∷◌, ◌++◌, length, codes, Option, Some, None, option_map, if◌then◌else◌}
 use Rattle.std.specs.Fmt.{decimal}
 use Rattle.defmt_forms.specs.Json.{line_object, optional_member}
 use Rattle.defmt_forms.specs.Names.{level_name, place_part}
+use Rattle.defmt_forms.specs.Placed.{Holds}
 use Rattle.defmt_forms.specs.Terminal.{color_line, tame}
+use Rattle.defmt_forms.specs.declared.pieces.Blocks.{Blocks}
 use Rattle.defmt_forms.specs.declared.template.Template.{Template}
 use Rattle.defmt_hooks.specs.declared.level.Level.{Level}
 use Rattle.json.specs.Print.{escape}
 
--- a template knows its size, which is small
+-- each piece of a template stands in its block
+pub record AreBlocks (head between before behind : List ℕ) (blocks : Blocks) : Type 0 where
+  pub head_is : Holds blocks.head head
+  pub between_is : Holds blocks.between between
+  pub before_is : Holds blocks.before before
+  pub behind_is : Holds blocks.behind behind
+
+-- a template knows its size, which is small, and its pieces stand in its blocks, where it has some
 pub record IsSized (t : Template) : Type 0 where
   pub sum : t.size ≡ length t.head.items + (length t.between.items + (length t.before.items + length t.behind.items))
   pub small : t.size ≤ 32768
+  pub blocks : IfSome t.blocks (AreBlocks t.head.items t.between.items t.before.items t.behind.items)
 
 -- it has these pieces
 pub record IsMade (t : Template) (stamped : Bool) (head between before behind : List ℕ) : Type 0 where

@@ -8,10 +8,13 @@
 #![tactic(auto)]
 
 mod color;
+mod escaping;
 mod looks;
 mod making;
 mod names;
 mod objects;
+mod pieces;
+mod placing;
 mod plain;
 mod quoted;
 mod tame;
@@ -25,6 +28,7 @@ pub use objects::{
     add_json_fault, add_json_front, add_json_gap, add_json_line, add_json_loss, add_json_tail,
     objects_are_lines,
 };
+pub use placing::{place_color, place_json, place_plain};
 pub use plain::add_plain_line;
 pub use quoted::add_quoted;
 pub use tame::{add_tame, tame_has_no_controls};

@@ -1,7 +1,7 @@
 //! Texts that are looked through sixteen bytes at once.
-ghost use Rattle.std.specs.Prelude.{◌≡◌, ℕ, true, take, drop};
+ghost use Rattle.std.specs.Prelude.{◌≡◌, ℕ, true, nat_le, take, drop};
 ghost use Rattle.std.specs.List.{list_all};
-ghost use Rattle.defmt_forms.specs.Tamed.{is_bare, is_printable, is_quiet};
+ghost use Rattle.defmt_forms.specs.Tamed.{is_bare, is_other, is_printable, is_quiet};
 ghost use Rattle.defmt_forms.specs.Terminal.{tame};
 ghost use Rattle.json.specs.Print.{escape};
 
@@ -21,24 +21,53 @@ pub(crate) fn are_bare(text: &[u8]) -> bool
     let Some((_, last)) = text.split_last_chunk::<16>() else {
         return is_each_bare(text);
     };
+    if !is_block_bare(last) {
+        return false;
+    }
     let mut rest = text;
-    let mut bare = is_block_bare(last);
     'blocks: while let Some((block, behind)) = rest.split_first_chunk::<16>() {
-        bare &= is_block_bare(block);
+        if !is_block_bare(block) {
+            return false;
+        }
         rest = behind;
     }
-    bare
+    true
 }
 
 #[inline(always)]
 fn is_block_bare(block: &[u8; 16]) -> bool
-    ensures { result ≡ list_all is_bare block.now }
+    ensures { result ≡ true → list_all is_bare block.now ≡ true }
 {
-    let mut bare = true;
-    for byte in block {
-        bare &= is_bare(*byte);
+    if !has_no_controls(block) {
+        return false;
     }
-    bare
+    let unquoted = has_none(block, b'"');
+    if !unquoted {
+        return false;
+    }
+    has_none(block, b'\\')
+}
+
+#[inline(always)]
+fn has_no_controls(block: &[u8; 16]) -> bool
+    ensures { result ≡ list_all (nat_le 32) block.now }
+{
+    let mut high = true;
+    for byte in block {
+        high &= *byte >= 0x20;
+    }
+    high
+}
+
+#[inline(always)]
+fn has_none(block: &[u8; 16], one: u8) -> bool
+    ensures { result ≡ list_all (is_other one) block.now }
+{
+    let mut other = true;
+    for byte in block {
+        other &= !(*byte == one);
+    }
+    other
 }
 
 // The same of fewer bytes than a block has.
@@ -80,30 +109,41 @@ fn are_quiet(text: &[u8]) -> bool
     is_each_quiet(text)
 }
 
-// Whether each byte is a character of ASCII and no control character, of a text of at least sixteen.
+/// Whether each byte is a character of ASCII and no control character, of a text of at least sixteen. So each is quiet.
 #[inline(always)]
-fn are_printable(text: &[u8]) -> bool
-    ensures { result ≡ true → list_all is_printable text.now ≡ true }
+pub(crate) fn are_printable(text: &[u8]) -> bool
+    ensures { result ≡ true → list_all is_quiet text.now ≡ true }
 {
     let Some((_, last)) = text.split_last_chunk::<16>() else {
         return false;
     };
-    let mut rest = text;
-    let mut printable = is_block_printable(last);
-    'blocks: while let Some((block, behind)) = rest.split_first_chunk::<16>() {
-        printable &= is_block_printable(block);
+    let Some((first, behind)) = text.split_first_chunk::<16>() else {
+        return false;
+    };
+    if !are_both_printable(first, last) {
+        return false;
+    }
+    let mut rest = behind;
+    'blocks: while rest.len() > 16 {
+        let Some((block, behind)) = rest.split_first_chunk::<16>() else {
+            return false;
+        };
+        if !are_both_printable(block, block) {
+            return false;
+        }
         rest = behind;
     }
-    printable
+    true
 }
 
 #[inline(always)]
-fn is_block_printable(block: &[u8; 16]) -> bool
-    ensures { result ≡ list_all is_printable block.now }
+fn are_both_printable(first: &[u8; 16], second: &[u8; 16]) -> bool
+    ensures first { result ≡ true → list_all is_printable first.now ≡ true }
+    ensures second { result ≡ true → list_all is_printable second.now ≡ true }
 {
     let mut printable = true;
-    for byte in block {
-        printable &= is_printable(*byte);
+    for i in 0..16 {
+        printable &= is_printable(first[i]) & is_printable(second[i]);
     }
     printable
 }
@@ -116,7 +156,7 @@ fn is_printable(byte: u8) -> bool
 }
 
 #[inline(never)]
-fn is_each_quiet(text: &[u8]) -> bool
+pub(crate) fn is_each_quiet(text: &[u8]) -> bool
     ensures { result ≡ list_all is_quiet text.now }
 {
     let mut quiet = true;

@@ -4,11 +4,12 @@ ghost use Rattle.std.specs.Fmt.{decimal};
 ghost use Rattle.std.specs.Option.{option_copied};
 ghost use Rattle.defmt_forms.specs.Json.{optional_member};
 ghost use Rattle.defmt_forms.specs.Names.{level_name, place_part};
-ghost use Rattle.defmt_forms.specs.Template.{IsColor, IsJson, IsMade, IsPlain, IsSized, object_before, object_behind, object_head};
+ghost use Rattle.defmt_forms.specs.Template.{AreBlocks, IsColor, IsJson, IsMade, IsPlain, IsSized, object_before, object_behind, object_head};
 ghost use Rattle.defmt_forms.specs.Terminal.{level_part, tame};
 
 use crate::color::{add_level as add_color_level, add_place as add_color_place};
 use crate::objects::{add_level, add_number, add_place, add_text};
+use crate::pieces::{Blocks, block_of};
 use crate::plain::add_plain_line;
 use crate::template::Template;
 use defmt_hooks::Level;
@@ -17,6 +18,9 @@ use std::alloc::Global;
 
 // So many bytes a piece of a template has at most.
 const LIMIT: usize = 8_192;
+
+// So many in a block.
+const BLOCK: usize = 64;
 
 /// The template of plain lines with this place in the sources. There is none where it would be long.
 pub fn plain_template(alloc: Global, place: Option<&str>) -> Result<Option<Template>, Memory>
@@ -163,6 +167,12 @@ fn of_pieces(
         return None;
     }
     let size = head.len() + between.len() + before.len() + behind.len();
+    let blocks = blocks_of(
+        head.as_slice(),
+        between.as_slice(),
+        before.as_slice(),
+        behind.as_slice(),
+    );
     Some(Template {
         stamped,
         head,
@@ -170,6 +180,22 @@ fn of_pieces(
         before,
         behind,
         size,
+        blocks,
+    })
+}
+
+// The pieces in blocks. There are none where a piece is longer than a block.
+fn blocks_of(head: &[u8], between: &[u8], before: &[u8], behind: &[u8]) -> Option<Blocks>
+    ensures { IfSome result (AreBlocks head.now between.now before.now behind.now) }
+{
+    if head.len() > BLOCK || between.len() > BLOCK || before.len() > BLOCK || behind.len() > BLOCK {
+        return None;
+    }
+    Some(Blocks {
+        head: block_of(head),
+        between: block_of(between),
+        before: block_of(before),
+        behind: block_of(behind),
     })
 }
 

@@ -5,6 +5,7 @@ ghost use Rattle.defmt_forms.specs.Template.{IsSized, color_by, json_by, plain_b
 ghost use Rattle.defmt_forms.specs.Terminal.{tame};
 ghost use Rattle.json.specs.Print.{escape};
 
+use crate::pieces::Blocks;
 use crate::quoted::put_escaped;
 use dl_io::{Bytes, Memory};
 use itoa::Buffer;
@@ -22,6 +23,8 @@ pub struct Template {
     pub(crate) behind: Bytes,
     // How many bytes these are together.
     pub(crate) size: usize,
+    // The same pieces in blocks, where each is short.
+    pub(crate) blocks: Option<Blocks>,
 }
 
 impl Template {

@@ -1,10 +1,10 @@
-use Rattle.std.proofs.Common.{length}
+use Rattle.std.proofs.Common.{length, true}
 use Rattle.defmt_forms.proofs.Blocks.{Passed}
 use Rattle.defmt_forms.specs.Tamed.{is_printable}
 use Rattle.defmt_forms.proofs.looks.are_printable.Given as goal
 
 abbrev pub invariant-blocks-2 : goal.invariant-blocks-2
-invariant-blocks-2 l = Passed is_printable l.fn.text l.rest l.printable
+invariant-blocks-2 l = Passed is_printable l.fn.text l.rest true
 
 abbrev pub decreases-blocks-2 : goal.decreases-blocks-2
 decreases-blocks-2 l = length l.rest
