@@ -1,14 +1,14 @@
 -- A whole recording, heard part by part.
 use Rattle.std.proofs.Common.{◌≡◌, ◌≤◌, ◌+◌, ℕ, List, [], ◌++◌, length, take, refl, sym, ◌∙◌, ap, append_assoc, arith, length-append, length-take, subst}
 use Rattle.std.specs.Prelude.{Option, Some, None, option_to_list}
-use Rattle.std.specs.Io.KnownBytes.{Appends, Consumes, IsAtEnd, Keeps}
+use Rattle.std.specs.Io.KnownBytes.{Appends, Consumes, IsAtEnd, prepend_known}
 use Rattle.std.proofs.lemmas.List.{append-nil, take_at}
 use Rattle.dl_io.specs.Outside.{Rose, Took}
 use Rattle.dl_io.proofs.Streams.{appends_then, appends_none, consumes_then, consumes_none}
 use Rattle.defmt_framing.specs.Told.{Tells, begun, events}
 use Rattle.defmt_framing.specs.Framing.{Framing, Stands}
 use Rattle.defmt_listen.specs.Streams.{Input, Output}
-use Rattle.defmt_listen.specs.Heard.{Reports, lines, lines_from, state_behind, faults, faults_among, HeardAll, HeardTo, HeardBegun, HeardTooMuch, HeardFront, HeardPart, HeardSome, Breaks, BreaksPart, ReadsNo}
+use Rattle.defmt_listen.specs.Heard.{Reports, lines, lines_from, state_behind, faults, faults_among, HeardAll, HeardTo, HeardBegun, HeardTooMuch, HeardFront, HeardPart, HeardSome, Breaks, BreaksPart, Reporting}
 use Rattle.defmt_listen.specs.declared.fault.ListenFault.{ListenFault}
 use Rattle.defmt_listen.specs.declared.fault.ListenFault.TheVariants.{Source, Sink, Long, Memory}
 use Rattle.defmt_listen.proofs.Fronts.{Front, then_front, longer_front, lines-append, behind-append, faults-append, events_go, begun_nothing, rest_of, no_rest}
@@ -25,11 +25,38 @@ pub record Listening {S E : Type 0} (r : Reports S E) (state_now : S) (now : Fra
   pub counted : count ≡ faults r (begun r.tells bytes)
   pub few : count ≤ taken
 
-keeps_none : (a b c : Option (List ℕ)) (bytes : List ℕ) → Consumes a b bytes → Keeps b c → Consumes a c bytes
-keeps_none None b c bytes took same = tt
-keeps_none (Some xs) None c bytes took same = absurd took
-keeps_none (Some xs) (Some ys) None bytes took same = absurd same
-keeps_none (Some xs) (Some ys) (Some zs) bytes took same = took ∙ ap (λ (l : List ℕ). bytes ++ l) (sym same)
+-- ---- bytes that were read ahead
+
+-- none were
+prepend_nil : (left : Option (List ℕ)) → prepend_known [] left ≡ left
+prepend_nil None = refl
+prepend_nil (Some xs) = refl
+
+pub drained : (ahead : List ℕ) (left : Option (List ℕ)) → ahead ≡ [] → prepend_known ahead left ≡ left
+drained ahead left none = ap (λ (l : List ℕ). prepend_known l left) none ∙ prepend_nil left
+
+pub none_ahead : (a b : Option (List ℕ)) (bytes same : List ℕ) → same ≡ bytes → Consumes a b bytes → Consumes (prepend_known [] a) (prepend_known [] b) same
+none_ahead None b bytes same is took = tt
+none_ahead (Some xs) None bytes same is took = absurd took
+none_ahead (Some xs) (Some ys) bytes same is took = took ∙ ap (λ (l : List ℕ). l ++ ys) (sym is)
+
+-- they were taken too
+pub consumes_ahead : (a b : Option (List ℕ)) (bytes ahead : List ℕ) → Consumes a (prepend_known ahead b) bytes → Consumes a b (bytes ++ ahead)
+consumes_ahead None b bytes ahead took = tt
+consumes_ahead (Some xs) None bytes ahead took = absurd took
+consumes_ahead (Some xs) (Some ys) bytes ahead took = took ∙ sym (append_assoc bytes ahead ys)
+
+-- a front of the bytes that were heard is one of these too
+pub some_ahead : {S E : Type 0} {tells : Tells E} {reporting : Reporting S E} {state : S} {output : Output} {stream bytes : List ℕ} (ahead : List ℕ)
+    → HeardSome tells reporting state output stream bytes → HeardSome tells reporting state output stream (bytes ++ ahead)
+some_ahead {bytes = bytes} ahead some = record {
+  front = some.front;
+  rest = some.rest ++ ahead;
+  told = some.told;
+  is = ap (λ (l : List ℕ). l ++ ahead) some.is ∙ append_assoc some.front some.rest ahead;
+  tells_all = some.tells_all;
+  written = some.written;
+}
 
 module _ {S E : Type 0} (r : Reports S E) (left held : Option (List ℕ)) where
   -- the lines of some events, and then those of others from the state behind them
@@ -91,10 +118,6 @@ module _ {S E : Type 0} (r : Reports S E) (left held : Option (List ℕ)) where
       (more state_now state_after now after left_now left_after output taken count count_after (take size buf) so took (omega (arith, size_is, within)) heard_here few_here)
 
 module _ {S E : Type 0} (r : Reports S E) (input : Input) (output : Output) (state_now : S) (now : Framing) (left_now : Option (List ℕ)) (taken count : ℕ) where
-  -- the source fails
-  pub source : Listening r state_now now input.left left_now output.held output.held_after taken count → Keeps left_now input.left_after → HeardBegun r input output
-  source so same = record { bytes = so.bytes; taken = keeps_none input.left left_now input.left_after so.bytes so.took same; within = omega (arith, so.size, so.within); written = so.written }
-
   -- one byte more than the limit
   pub long : Listening r state_now now input.left left_now output.held output.held_after taken count → taken ≡ r.limit
       → Took left_now input.left_after (λ (l : List ℕ). length l ≡ 1) → HeardTooMuch r input output
@@ -212,17 +235,12 @@ breaks_part r input output middle Memory why front later = front
 breaks_part r input output middle Source why front later = absurd why
 breaks_part r input output middle Long why front later = absurd why
 
-pub breaks_read : {S E : Type 0} (r : Reports S E) (input : Input) (output : Output) (state_now : S) (now : Framing) (left_now : Option (List ℕ)) (middle taken count : ℕ) (fault : ListenFault)
-    → Listening r state_now now input.left left_now output.held output.held_after taken count → input.faults ≤ middle
-    → ReadsNo r.limit (record input { left = left_now; faults = middle }) taken fault → Breaks r input output fault
-breaks_read r input output state_now now left_now middle taken count Source so later why =
-    (source r input output state_now now left_now taken count so why.1, rose_later input.faults middle input.faults_after later why.0)
-breaks_read r input output state_now now left_now middle taken count Long so later why = long r input output state_now now left_now taken count so why.0 why.1
-breaks_read r input output state_now now left_now middle taken count Sink so later why = absurd why
-breaks_read r input output state_now now left_now middle taken count Memory so later why = absurd why
+pub breaks_long : {S E : Type 0} (r : Reports S E) (input : Input) (output : Output) (state_now : S) (now : Framing) (left_now : Option (List ℕ)) (taken count : ℕ) (fault : ListenFault)
+    → fault ≡ Long → Listening r state_now now input.left left_now output.held output.held_after taken count → taken ≡ r.limit
+    → Took left_now input.left_after (λ (l : List ℕ). length l ≡ 1) → Breaks r input output fault
+breaks_long r input output state_now now left_now taken count fault is so full one = subst (Breaks r input output) (sym is) (long r input output state_now now left_now taken count so full one)
 
 -- the source failed behind a part that was heard
-pub breaks_behind : {S E : Type 0} (r : Reports S E) (input : Input) (output : Output) (state_now : S) (now : Framing) (middle taken count : ℕ)
-    → Listening r state_now now input.left input.left_after output.held output.held_after taken count → input.faults ≤ middle → Rose middle input.faults_after → Breaks r input output Source
-breaks_behind r input output state_now now middle taken count so later rose =
-    (record { bytes = so.bytes; taken = so.took; within = omega (arith, so.size, so.within); written = so.written }, rose_later input.faults middle input.faults_after later rose)
+pub breaks_behind : {S E : Type 0} (r : Reports S E) (input : Input) (output : Output) (state_now : S) (now : Framing) (taken count : ℕ)
+    → Listening r state_now now input.left input.left_after output.held output.held_after taken count → Rose input.faults input.faults_after → Breaks r input output Source
+breaks_behind r input output state_now now taken count so rose = (record { bytes = so.bytes; taken = so.took; within = omega (arith, so.size, so.within); written = so.written }, rose)

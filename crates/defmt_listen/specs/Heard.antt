@@ -1,11 +1,13 @@
 -- What is heard in a recording, and what is written of it.
 use Rattle.std.specs.Prelude.{◌≡◌, ◌≤◌, ◌<◌, ◌+◌, ℕ, Bool, Option, List, [], ◌∷◌, ◌++◌, length, take, filter, option_to_list}
-use Rattle.std.specs.Io.KnownBytes.{Appends, Consumes, IsAtEnd, Keeps}
-use Rattle.dl_io.specs.Outside.{Rose, Took}
+use Rattle.std.specs.Io.KnownBytes.{Appends, Consumes, IsAtEnd}
+use Rattle.dl_io.specs.Outside.{Rose}
 use Rattle.defmt_framing.specs.Calls.{HeardAs}
 use Rattle.defmt_framing.specs.Told.{Tells, events, begun}
 use Rattle.defmt_framing.specs.Framing.{Framing, Stands, Hears}
 use Rattle.defmt_listen.specs.Streams.{Input, Output, Wrote, WroteFront, IsRest}
+use Rattle.defmt_listen.specs.declared.crew.Behind.{Behind}
+use Rattle.defmt_listen.specs.declared.crew.Behind.TheVariants.{More, End, Fault}
 use Rattle.defmt_listen.specs.declared.fault.ListenFault.{ListenFault}
 use Rattle.defmt_listen.specs.declared.fault.ListenFault.TheVariants.{Source, Sink, Long, Memory}
 use Rattle.defmt_listen.specs.declared.reporter.Passing.{Passing}
@@ -167,9 +169,14 @@ BreaksPart sink Memory = Unit {0}
 BreaksPart sink Source = ⊥
 BreaksPart sink Long = ⊥
 
--- why no further bytes were read behind so many, of at most so many
-abbrev pub ReadsNo : ℕ → Input → ℕ → ListenFault → Type 0
-ReadsNo limit input count Source = Rose input.faults input.faults_after × Keeps input.left input.left_after
-ReadsNo limit input count Long = (count ≡ limit) × Took input.left input.left_after (λ more. length more ≡ 1)
-ReadsNo limit input count Sink = ⊥
-ReadsNo limit input count Memory = ⊥
+-- nothing is read ahead where nothing more comes
+abbrev pub IsDrained : List ℕ → Behind → Type 0
+IsDrained ahead More = Unit {0}
+IsDrained ahead End = ahead ≡ []
+IsDrained ahead Fault = ahead ≡ []
+
+-- this is so of the source, which had failed so often before
+abbrev pub IsMet : ℕ → Option (List ℕ) → ℕ → Behind → Type 0
+IsMet count left faults More = Unit {0}
+IsMet count left faults End = IsAtEnd left
+IsMet count left faults Fault = Rose count faults

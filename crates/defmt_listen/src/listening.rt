@@ -1,9 +1,9 @@
 //! A whole recording is heard.
-ghost use Rattle.std.specs.Prelude.{◌≡◌, ◌≤◌, ◌<◌, ◌+◌, ◌^◌, [], length, take, IfOk, IfErr};
-ghost use Rattle.std.specs.Io.KnownBytes.{Consumes, IsAtEnd};
-ghost use Rattle.dl_io.specs.Outside.{Rose};
+ghost use Rattle.std.specs.Prelude.{◌≡◌, ◌≤◌, ◌<◌, ◌+◌, ◌^◌, ℕ, [], length, take, IfOk, IfErr};
+ghost use Rattle.std.specs.Io.KnownBytes.{Consumes, prepend_known};
+ghost use Rattle.dl_io.specs.Outside.{Took};
 ghost use Rattle.defmt_framing.specs.Framing.{Stands};
-ghost use Rattle.defmt_listen.specs.Heard.{HeardAll, HeardTo, Breaks, ReadsNo, TakesTurns, recording_limit};
+ghost use Rattle.defmt_listen.specs.Heard.{HeardAll, HeardTo, Breaks, IsDrained, IsMet, TakesTurns, recording_limit};
 ghost use Rattle.defmt_listen.specs.Streams.{input_of, output_of};
 
 use crate::crew::{Alone, Behind, Crew, Portion};
@@ -126,6 +126,8 @@ pub fn listen_by<
     requires stands { Stands (L.framing listener) [] }
     requires few { limit + 1 < 2 ^ 64 }
     requires suits { C.suits crew.old listener reporter }
+    requires ahead { C.ahead crew.old ≡ [] }
+    requires known { C.knows (S.faults src.old) crew.old src.old }
     requires turns { TakesTurns
         (record {
           tells = L.tells listener;
@@ -203,30 +205,34 @@ fn widen(buf: &mut Vec<u8>, count: usize, most: usize)
 
 // Reads the next part, behind so many bytes that were taken, of at most so many.
 fn next_part<C: Crew<S, K, L, R>, S: Turns<K>, K: Sink, L: Listener, R: Reporter<L>>(
-    crew: &C,
+    crew: &mut C,
     src: &mut S,
     out: &K,
-    buf: &mut [u8],
+    buf: &mut Vec<u8>,
     taken: usize,
     limit: usize,
 ) -> Result<Portion, ListenFault>
-    requires turn { C.may src.old out.now }
-    requires room { 0 < length buf.old }
-    requires within { taken ≤ limit }
-    ensures within { IfOk result
-        (λ part. (part.count ≤ length buf.new) × (taken + part.count ≤ limit)) }
-    ensures bytes { IfOk result
-        (λ part. Consumes (S.left src.old) (S.left src.new) (take part.count buf.new)) }
+    requires turn { C.ahead crew.old ≡ [] → C.may src.old out.now }
+    requires buffer { 0 < length buf.old.items }
+    requires within { taken + length (C.ahead crew.old) ≤ limit }
+    ensures buffer { 0 < length buf.new.items }
+    ensures within { IfOk result (λ part. (part.count ≤ length buf.new.items)
+        × (taken + part.count + length (C.ahead crew.new) ≤ limit)) }
+    ensures bytes { IfOk result (λ part. Consumes (prepend_known (C.ahead crew.old) (S.left src.old))
+        (prepend_known (C.ahead crew.new) (S.left src.new)) (take part.count buf.new.items)) }
     ensures more { IfOk result (λ part. part.behind ≡ Behind.More → 0 < part.count) }
-    ensures end { IfOk result (λ part. part.behind ≡ Behind.End → IsAtEnd (S.left src.new)) }
-    ensures fault { IfOk result (λ part. part.behind ≡ Behind.Fault
-        → Rose (S.faults src.old) (S.faults src.new)) }
-    ensures refused { IfErr result
-        (λ fault. ReadsNo limit (input_of S.left S.faults src.old src.new) taken fault) }
+    ensures drained { IfOk result (λ part. IsDrained (C.ahead crew.new) part.behind) }
+    ensures known { IfOk result (λ part. (count : ℕ) → C.knows count crew.old src.old
+        → C.knows count crew.new src.new
+        × IsMet count (S.left src.new) (S.faults src.new) part.behind) }
+    ensures suits { (listener : L) (reporter : R) → C.suits crew.old listener reporter
+        → C.suits crew.new listener reporter }
+    ensures long { IfErr result (λ fault. (fault ≡ ListenFault.Long) × (taken ≡ limit)
+        × Took (prepend_known (C.ahead crew.old) (S.left src.old)) (S.left src.new)
+        (λ more. length more ≡ 1)) }
     ensures later { S.faults src.old ≤ S.faults src.new }
 {
-    let most = buf.len().min(limit - taken).max(1);
-    let part = crew.read(src, out, &mut buf[..most]);
+    let part = crew.read(src, out, buf, limit - taken);
     if taken == limit && part.count > 0 {
         return Err(ListenFault::Long);
     }

@@ -161,8 +161,37 @@ fn add_line_told<L: Listener, R: Reporter<L>>(
     }
 }
 
-// The same of a line of which the reporter is asked what it appends.
+// The same of a line of which the reporter is asked what is printed: it does that where the text stands, or appends it.
+#[inline(always)]
 fn add_asked<L: Listener, R: Reporter<L>>(
+    reporter: &mut R,
+    report: &mut Report,
+    origin: L::Origin,
+    size: usize,
+) -> Result<(), Memory>
+    requires within { report.old.end + size ≤ length report.old.text.items }
+    requires known { L.known (take size (drop report.old.end report.old.text.items)) }
+    ensures lines { OnOk result (gathered report.new ≡ gathered report.old ++ R.reporting.line
+        reporter.old (L.line origin (take size (drop report.old.end report.old.text.items)))) }
+    ensures within { OnOk result (IsGathered report.new) }
+    ensures moved { OnOk result (reporter.new ≡ R.reporting.after reporter.old
+        (L.line origin (take size (drop report.old.end report.old.text.items)))) }
+    ensures fine { OnOk result (R.reporting.is_fault
+        (L.line origin (take size (drop report.old.end report.old.text.items))) ≡ false) }
+    ensures faults { report.new.faults ≡ report.old.faults }
+{
+    match reporter.print_in_place(&origin, &mut report.text, report.end, size) {
+        Some(end) => {
+            report.end = end;
+            Ok(())
+        }
+        None => add_appended::<L, R>(reporter, report, origin, size),
+    }
+}
+
+// The same of a line that the reporter appends.
+#[inline(never)]
+fn add_appended<L: Listener, R: Reporter<L>>(
     reporter: &mut R,
     report: &mut Report,
     origin: L::Origin,

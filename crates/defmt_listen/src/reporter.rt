@@ -1,6 +1,6 @@
 //! Who reports events.
 
-ghost use Rattle.std.specs.Prelude.{◌≡◌, ◌++◌, ◌∷◌, [], ℕ, List, false, OnOk, OnErr};
+ghost use Rattle.std.specs.Prelude.{◌≡◌, ◌≤◌, ◌+◌, ◌++◌, ◌∷◌, [], ℕ, List, false, length, take, drop, IfNone, IfSome, OnOk, OnErr};
 ghost use Rattle.defmt_listen.specs.Heard.{IsSettled, Reporting};
 
 use crate::listener::Listener;
@@ -65,6 +65,32 @@ pub trait Reporter<L: Listener> {
     {
         let _ = origin;
         Passing::Asked
+    }
+
+    /// Makes of the text of a line with this origin, which stands behind a place of a buffer, what is printed of it, where that is cheap, and
+    /// answers where that ends. What stands in front of the place stays. Then the reporter goes on behind that line, which is no fault;
+    /// else all is as before.
+    fn print_in_place(
+        &mut self,
+        origin: &L::Origin,
+        text: &mut [u8],
+        at: usize,
+        size: usize,
+    ) -> Option<usize>
+        requires { at + size ≤ length text.old }
+        ensures within { IfSome result (λ end. end ≤ length text.new) }
+        ensures printed { IfSome result (λ end. take end text.new ≡ take at text.old
+            ++ reporting.line self.old (L.line origin.now (take size (drop at text.old)))) }
+        ensures moved { IfSome result (λ _. self.new
+            ≡ reporting.after self.old (L.line origin.now (take size (drop at text.old)))) }
+        ensures fine { IfSome result (λ _. reporting.is_fault
+            (L.line origin.now (take size (drop at text.old))) ≡ false) }
+        ensures text { IfNone result (text.new ≡ text.old) }
+        ensures same { IfNone result (self.new ≡ self.old) }
+    {
+        let _ = origin;
+        let _ = (text.len(), at, size);
+        None
     }
 
     /// Whether an event is a fault of the recording.
