@@ -30,15 +30,20 @@ pub fn decode<S: Source, F: Shelf, K: Sink>(
 {
     let name = options.table.as_str();
     match load(alloc, name, options.language, &options.places, shelf) {
-        Ok((table, places)) => print_events(
-            alloc,
-            &options.style,
-            &places,
-            options.live,
-            src,
-            out,
-            &table,
-        ),
+        Ok((table, places)) => {
+            let fault = print_events(
+                alloc,
+                &options.style,
+                &places,
+                options.live,
+                src,
+                out,
+                &table,
+            );
+            // (the program ends behind this)
+            table.forget();
+            fault
+        }
         Err(fault) => fault,
     }
 }

@@ -38,7 +38,12 @@ pub fn dump<S: Source, F: Shelf, K: Sink>(
 {
     let name = options.table.as_str();
     match load(alloc, name, options.language, &options.places, shelf) {
-        Ok((table, places)) => show(alloc, options, &places, src, out, &table),
+        Ok((table, places)) => {
+            let fault = show(alloc, options, &places, src, out, &table);
+            // (the program ends behind this)
+            table.forget();
+            fault
+        }
         Err(fault) => fault,
     }
 }

@@ -72,9 +72,5 @@ fn text_of(alloc: Global, bytes: &[u8]) -> Result<Text, Memory>
     let Ok(text) = str::from_utf8(bytes) else {
         unreachable!();
     };
-    let mut copy = Text::new(alloc);
-    match copy.push_str(text) {
-        Ok(()) => Ok(copy),
-        Err(_) => Err(Memory),
-    }
+    Ok(Text::from_string(String::from_str(alloc, text)?))
 }

@@ -11,6 +11,7 @@
 //! status 9 (program_tests, `decode`).
 #![tactic(auto)]
 
+mod counting;
 mod decoding;
 mod dumping;
 mod fault;

@@ -66,6 +66,8 @@ pub fn print_with<'a, C: Crew<S, K, HostListener<'a>, Styled<'a>>, S: Source, K:
 ) -> Fault
     requires suits { C.suits crew.old listener reporter }
     requires anywhere { (source : _) (sink : _) → C.may source sink }
+    requires ahead { C.ahead crew.old ≡ [] }
+    requires known { C.knows (S.faults src.old) crew.old src.old }
     requires stands { Stands listener.host.framing [] }
     requires fresh { reporter ≡ reel reporter.look None 0 0 }
     requires same { fail_on ≡ reporter.look.style.fail_on }

@@ -14,7 +14,7 @@ use defmt_places::Places;
 use defmt_words::Form;
 use dl_io::{Bytes, Memory};
 
-/// Appends the line of a statement and a newline, by the parts of its text. On want of memory a front of it may have been appended.
+/// Appends the line of a statement and a newline, by the parts of its text. On want of memory it isn't said what was appended.
 pub fn add_statement(
     form: Form,
     table: &Table,

@@ -1,16 +1,15 @@
 //! A reporter that prints in a style.
-ghost use Rattle.std.specs.Prelude.{◌≡◌, ◌≤◌, ◌+◌, ◌++◌, ◌∷◌, [], ℕ, List, None, true, false, min, IfOk, OnErr, OnOk};
+ghost use Rattle.std.specs.Prelude.{◌≡◌, ◌≤◌, ◌+◌, ◌++◌, ◌∷◌, [], ℕ, List, None, true, false, length, take, drop, IfNone, IfOk, IfSome, OnErr, OnOk};
 ghost use Rattle.std.specs.Str.{IsUtf8};
 ghost use Rattle.defmt_listen.specs.Heard.{IsSettled};
 ghost use Rattle.defmt_recording.specs.Output.{is_fault};
-ghost use Rattle.dl_io.specs.Outside.{last_count};
 ghost use Rattle.defmt_recording.specs.Styled.{by_style, counted, is_cut, look_by, reel, reel_behind, styled_line};
 ghost use Rattle.defmt_decode.specs.Event.{line_with};
 
 use crate::host_listener::HostListener;
 use crate::output::{counted, gap_between, is_cut, is_fault, last_behind};
 use crate::styles::{add_styled_line, add_styled_text, fails_at, is_failing, prints_index};
-use crate::templates::{add_by_template, learn, template_at};
+use crate::templates::{add_by_template, learn, place_by_template, template_at};
 use defmt_decode::{Event, Origin};
 use defmt_forms::Template;
 use defmt_intern::Table;
@@ -25,12 +24,12 @@ use std::marker::Model;
 /// since the last. Counts the lines that make the program fail, and the fronts and tails.
 #[derive(Drop)]
 pub struct Styled<'a> {
-    style: &'a Style,
-    table: &'a Table,
-    places: &'a Places,
-    last: Option<u16>,
-    failing: u64,
-    cuts: u64,
+    pub(crate) style: &'a Style,
+    pub(crate) table: &'a Table,
+    pub(crate) places: &'a Places,
+    pub(crate) last: Option<u16>,
+    pub(crate) failing: u64,
+    pub(crate) cuts: u64,
     // Whether each line's text and a newline are printed of it, where it is printed: a plain one without places, of which none is counted.
     whole: bool,
     // What is printed of one event without a template, before it is appended.
@@ -75,54 +74,6 @@ impl<'a> Styled<'a> {
         }
     }
 
-    /// How many lines were printed that make the program fail; the last value of its type where there are more.
-    pub fn failing(&self) -> u64
-        ensures { result ≡ self.now.failing }
-    {
-        self.failing
-    }
-
-    /// How many fronts and tails there were; the last value of its type where there are more.
-    pub fn cuts(&self) -> u64
-        ensures { result ≡ self.now.cuts }
-    {
-        self.cuts
-    }
-
-    /// A reporter by the same style, table and places, which saw no event yet. Takes no memory.
-    pub fn beside(&self, alloc: Global) -> Styled<'a>
-        ensures { result ≡ reel self.now.look None 0 0 }
-    {
-        Styled::new(alloc, self.style, self.table, self.places)
-    }
-
-    /// The place of the last line.
-    pub fn last(&self) -> Option<u16>
-        ensures { result ≡ self.now.last }
-    {
-        self.last
-    }
-
-    /// Counts anew from nothing.
-    pub fn count_anew(&mut self)
-        ensures { self.new ≡ reel self.old.look self.old.last 0 0 }
-    {
-        self.failing = 0;
-        self.cuts = 0;
-    }
-
-    /// Goes on behind what another was told that began where this one stands, and counted from nothing.
-    pub fn go_on_as(&mut self, other: &Styled<'_>)
-        ensures behind { self.new ≡ reel self.old.look other.now.last
-            (min (self.old.failing + other.now.failing) last_count)
-            (min (self.old.cuts + other.now.cuts) last_count) }
-        ensures small { (self.old.failing ≤ last_count) × (self.old.cuts ≤ last_count) }
-    {
-        self.last = other.last;
-        self.failing = self.failing.saturating_add(other.failing);
-        self.cuts = self.cuts.saturating_add(other.cuts);
-    }
-
     // Goes on behind an event.
     fn go_on(&mut self, event: &Event)
         ensures { self.new ≡ reel_behind self.old event.now }
@@ -152,10 +103,13 @@ impl<'a> Styled<'a> {
         }
     }
 
-    // Makes the template of an index, where there is none.
+    // Makes the template of an index, where there is none and lines are printed by one.
     fn learn(&mut self, alloc: Global, index: u16) -> Result<(), Memory>
         ensures { self.new ≡ self.old }
     {
+        if self.whole {
+            return Ok(());
+        }
         learn(
             alloc,
             self.style.form,
@@ -194,18 +148,44 @@ impl<'a> Styled<'a> {
             &mut self.line,
         )?;
         out.extend_from_slice(self.line.as_slice())?;
-        self.go_on_behind(&origin, text);
+        self.go_on_behind(&origin);
         Ok(())
     }
 
-    // Goes on behind the line with this text.
-    #[tactic(auto, unfolding(crate::specs::Styled::is_failing, crate::specs::Styled::is_cut, crate::specs::Output::last_behind))]
-    fn go_on_behind(&mut self, origin: &Origin, text: &[u8])
-        ensures { self.new ≡ reel_behind self.old (line_with origin.now text.now) }
+    // Makes of the text of a line what is printed of it, where it stands, and answers where that ends, if its template tells that or nothing is
+    // printed, and none is missing in front of it. Else nothing was done.
+    #[inline(always)]
+    fn place_known(&self, origin: &Origin, text: &mut [u8], at: usize, size: usize) -> Option<usize>
+        requires { at + size ≤ length text.old }
+        ensures within { IfSome result (λ end. end ≤ length text.new) }
+        ensures printed { IfSome result (λ end. take end text.new ≡ take at text.old
+            ++ styled_line self.now.look self.now.last
+            (line_with origin.now (take size (drop at text.old)))) }
+        ensures text { IfNone result (text.new ≡ text.old) }
     {
-        let _ = text;
+        if gap_between(self.last, origin.place) != 0 {
+            return None;
+        }
+        if !prints_index(self.style, self.table, origin.index) {
+            return Some(at);
+        }
+        match template_at(&self.templates, origin.index) {
+            Some(template) => {
+                place_by_template(self.style.form, template, &origin.parts, text, at, size)
+            }
+            None => None,
+        }
+    }
+
+    // Goes on behind a line with this origin.
+    #[tactic(auto, unfolding(crate::specs::Styled::is_failing, crate::specs::Styled::is_cut, crate::specs::Output::last_behind))]
+    fn go_on_behind(&mut self, origin: &Origin)
+        ensures { (text : List ℕ) → self.new ≡ reel_behind self.old (line_with origin.now text) }
+    {
         self.last = origin.place;
-        self.failing = counted(self.failing, fails_at(self.style, self.table, origin.index));
+        if fails_at(self.style, self.table, origin.index) {
+            self.failing = self.failing.saturating_add(1);
+        }
     }
 }
 
@@ -251,10 +231,35 @@ impl<'a, 't> Reporter<HostListener<'t>> for Styled<'a> {
         ensures same { OnErr result (self.new ≡ self.old) }
     {
         if self.add_known(&origin, text, out)? {
-            self.go_on_behind(&origin, text);
+            self.go_on_behind(&origin);
             return Ok(());
         }
         self.add_any(alloc, origin, text, out)
+    }
+
+    #[inline(never)]
+    fn print_in_place(
+        &mut self,
+        origin: &Origin,
+        text: &mut [u8],
+        at: usize,
+        size: usize,
+    ) -> Option<usize>
+        requires { at + size ≤ length text.old }
+        ensures within { IfSome result (λ end. end ≤ length text.new) }
+        ensures printed { IfSome result (λ end. take end text.new ≡ take at text.old
+            ++ styled_line self.old.look self.old.last
+            (line_with origin.now (take size (drop at text.old)))) }
+        ensures moved { IfSome result (λ _. self.new
+            ≡ reel_behind self.old (line_with origin.now (take size (drop at text.old)))) }
+        ensures fine { IfSome result (λ _. is_fault
+            (line_with origin.now (take size (drop at text.old))) ≡ false) }
+        ensures text { IfNone result (text.new ≡ text.old) }
+        ensures same { IfNone result (self.new ≡ self.old) }
+    {
+        let end = self.place_known(origin, text, at, size)?;
+        self.go_on_behind(origin);
+        Some(end)
     }
 
     fn passes(&mut self, origin: &Origin) -> Passing

@@ -16,7 +16,7 @@ use dl_io::{Bytes, Memory};
 use std::alloc::Global;
 
 /// Appends what is printed of an event: its line, nothing of a line that rules don't show, and in front of it how many frames are
-/// missing since the last line, which has this place. On want of memory a front of it may have been appended.
+/// missing since the last line, which has this place. On want of memory it isn't said what was appended.
 #[tactic(auto, unfolding(crate::specs::Styled::styled_line, crate::specs::Styled::shown_text))]
 pub fn add_styled_line(
     alloc: Global,

@@ -1,6 +1,7 @@
 //! The lines of statements by their templates.
-ghost use Rattle.std.specs.Prelude.{◌≡◌, ◌≤◌, ◌++◌, ◌&&◌, None, false, true, length, is_some, slice_index_or, IfOk, IfSome, OnOk, OnErr, if◌then◌else◌};
+ghost use Rattle.std.specs.Prelude.{◌≡◌, ◌≤◌, ◌+◌, ◌++◌, ◌&&◌, None, false, true, length, take, drop, is_some, slice_index_or, IfNone, IfOk, IfSome, OnOk, OnErr, if◌then◌else◌};
 ghost use Rattle.std.specs.Option.{option_copied};
+ghost use Rattle.defmt_forms.specs.Placed.{Placed};
 ghost use Rattle.defmt_forms.specs.Template.{IsSized};
 ghost use Rattle.defmt_recording.specs.Templates.{AreTemplates, IsTemplate, SameSlots, filled};
 ghost use Rattle.defmt_words.specs.declared.style.Form.TheVariants.{Color, Json};
@@ -8,7 +9,8 @@ ghost use Rattle.defmt_words.specs.declared.style.Form.TheVariants.{Color, Json}
 use crate::statement::{behind, front, level_at, package_at};
 use defmt_decode::Parts;
 use defmt_forms::{
-    Template, color_template, is_bare_text, is_quiet_text, json_template, plain_template,
+    Template, color_template, is_bare_text, is_quiet_text, json_template, place_color, place_json,
+    place_plain, plain_template,
 };
 use defmt_hooks::Level;
 use defmt_intern::Table;
@@ -134,6 +136,32 @@ pub fn add_by_template(
         }
         Form::Color => add_color(template, parts, text, out),
         Form::Json => add_json(template, parts, text, out),
+    }
+}
+
+/// Makes the line of a statement and a newline by its template of its text, which stands behind a place of a buffer, there, and answers where
+/// that ends. Where it doesn't, the buffer is as before.
+#[inline(always)]
+pub fn place_by_template(
+    form: Form,
+    template: &Template,
+    parts: &Parts,
+    text: &mut [u8],
+    at: usize,
+    size: usize,
+) -> Option<usize>
+    requires sized { IsSized template.now }
+    requires within { at + size ≤ length text.old }
+    ensures some { IfSome result (λ end. Placed text.old at text.new end
+        (filled form template.now parts.now (take size (drop at text.old)))) }
+    ensures none { IfNone result (text.new ≡ text.old) }
+{
+    let stamp = stamp_size(template, parts) as usize;
+    let front = parts.front as usize;
+    match form {
+        Form::Plain => place_plain(template, text, at, size),
+        Form::Color => place_color(template, text, at, size, stamp, front),
+        Form::Json => place_json(template, parts.bytes, text, at, size, stamp, front),
     }
 }
 

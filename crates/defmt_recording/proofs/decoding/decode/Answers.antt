@@ -8,7 +8,7 @@ pub returns-in-Ok-clause-decodes : goal.returns-in-Ok-clause-decodes
 returns-in-Ok-clause-decodes g c =
     let shelf = files_of g.F.Shelf.files g.F.Shelf.faults c.args.shelf.now c.load.new.shelf in
     let loaded = subst (λ (name : List ℕ). Loaded c.args.options.now.language shelf name c.in-Ok.table) c.as_str-name.ensures.text c.in-Ok.ensures.loaded in
-    inr (c.in-Ok.table, c.in-Ok.places, loaded, c.in-Ok.ensures.places, c.print_events.ensures.hears)
+    inr (c.in-Ok.table, c.in-Ok.places, loaded, c.in-Ok.ensures.places, c.print_events-fault.ensures.hears)
 
 pub returns-in-Err-clause-decodes : goal.returns-in-Err-clause-decodes
 returns-in-Err-clause-decodes g c =

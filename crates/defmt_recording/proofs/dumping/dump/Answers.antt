@@ -8,7 +8,7 @@ pub returns-in-Ok-clause-dumps : goal.returns-in-Ok-clause-dumps
 returns-in-Ok-clause-dumps g c =
     let shelf = files_of g.F.Shelf.files g.F.Shelf.faults c.args.shelf.now c.load.new.shelf in
     let loaded = subst (λ (name : List ℕ). Loaded c.args.options.now.language shelf name c.in-Ok.table) c.as_str-name.ensures.text c.in-Ok.ensures.loaded in
-    inr (c.in-Ok.table, c.in-Ok.places, loaded, c.in-Ok.ensures.places, c.show.ensures.shows)
+    inr (c.in-Ok.table, c.in-Ok.places, loaded, c.in-Ok.ensures.places, c.show-fault.ensures.shows)
 
 pub returns-in-Err-clause-dumps : goal.returns-in-Err-clause-dumps
 returns-in-Err-clause-dumps g c =
