@@ -1,5 +1,5 @@
 -- What a reporter prints of events does not depend on its counts, which add up.
-use Rattle.std.proofs.Common.{◌≡◌, ◌≤◌, ◌+◌, ℕ, min, List, [], ◌∷◌, ◌++◌, refl, sym, ◌∙◌, ap, subst, arith}
+use Rattle.std.proofs.Common.{◌≡◌, ◌≤◌, ◌+◌, ℕ, min, List, [], ◌∷◌, ◌++◌, refl, sym, ◌∙◌, ap, arith}
 use Rattle.std.specs.Prelude.{Option}
 use Rattle.dl_io.specs.Outside.{last_count}
 use Rattle.defmt_decode.specs.declared.event.Event.{Event}
@@ -42,13 +42,20 @@ module _ (s : Reel) (es : List Event) (failing_fits : s.failing ≤ last_count) 
       (cuts_is s es ∙ tally_is is_cut es s.cuts cuts_fit
       ∙ omega (arith, cuts_is (reel s.look s.last 0 0) es, tally_is is_cut es 0 (omega arith)))
 
-  pub goes_behind : (last : Option ℕ) (other after : Reel) → s.last ≡ last → other ≡ state_behind by_style (reel s.look last 0 0) es
-      → after ≡ reel s.look other.last (min (s.failing + other.failing) last_count) (min (s.cuts + other.cuts) last_count)
+  pub goes_behind : (last last_after : Option ℕ) (failing cuts : ℕ) (after : Reel) → s.last ≡ last
+      → last_after ≡ (state_behind by_style (reel s.look last 0 0) es).last
+      → failing ≡ (state_behind by_style (reel s.look last 0 0) es).failing → cuts ≡ (state_behind by_style (reel s.look last 0 0) es).cuts
+      → after ≡ reel s.look last_after (min (s.failing + failing) last_count) (min (s.cuts + cuts) last_count)
       → after ≡ state_behind by_style s es
   unfolding behind_is from_none
-  goes_behind last other after last_is other_is after_is =
-      let same : other ≡ from_none = other_is ∙ ap (λ (o : Option ℕ). state_behind by_style (reel s.look o 0 0) es) (sym last_is) in
-      after_is ∙ ap (λ (o : Reel). reel s.look o.last (min (s.failing + o.failing) last_count) (min (s.cuts + o.cuts) last_count)) same ∙ sym behind_is
+  goes_behind last last_after failing cuts after last_is place_is failing_is cuts_is after_is =
+      let other : Reel = state_behind by_style (reel s.look last 0 0) es in
+      let same : other ≡ from_none = ap (λ (o : Option ℕ). state_behind by_style (reel s.look o 0 0) es) (sym last_is) in
+      after_is
+      ∙ ap (λ (o : Option ℕ). reel s.look o (min (s.failing + failing) last_count) (min (s.cuts + cuts) last_count)) place_is
+      ∙ ap (λ (n : ℕ). reel s.look other.last (min (s.failing + n) last_count) (min (s.cuts + cuts) last_count)) failing_is
+      ∙ ap (λ (n : ℕ). reel s.look other.last (min (s.failing + other.failing) last_count) (min (s.cuts + n) last_count)) cuts_is
+      ∙ ap (λ (o : Reel). reel s.look o.last (min (s.failing + o.failing) last_count) (min (s.cuts + o.cuts) last_count)) same ∙ sym behind_is
 
   pub lines_are : (last : Option ℕ) (lines : List ℕ) → s.last ≡ last → lines ≡ lines_from by_style (reel s.look last 0 0) es → lines ≡ lines_from by_style s es
   lines_are last lines last_is is =

@@ -1,4 +1,5 @@
 pub mod Counting
 pub mod Crossing
+pub mod Queue
 pub mod Stretches
 pub mod Telling

@@ -1,5 +1,5 @@
 -- What a block of a part told, and what is known of who heard it.
-use Rattle.std.specs.Prelude.{◌≡◌, ◌≤◌, ◌-◌, ℕ, false, List, [], ◌∷◌, length, take, drop, All, IfSome, Option}
+use Rattle.std.specs.Prelude.{◌≡◌, ◌≤◌, ◌-◌, ℕ, false, List, [], ◌∷◌, length, take, drop, IfSome, Option}
 use Rattle.defmt_blocks.specs.declared.side.Block.{Block}
 use Rattle.defmt_blocks.specs.declared.side.Side.{Side}
 use Rattle.defmt_decode.specs.Event.{tells}
@@ -41,19 +41,9 @@ pub record ToldBlock (look : Look) (t : Tells Event) (part : List ℕ) (side : S
 abbrev pub IsTold : Look → Tells Event → List ℕ → Side → Type 0
 IsTold look t part side = IfSome side.block (λ block. ToldBlock look t part side block)
 
-abbrev pub AreKin : Look → Tells Event → List Side → Type 0
-AreKin look t sides = All (λ side. IsKin look t side) sides
-
-abbrev pub AreTold : Look → Tells Event → List ℕ → List Side → Type 0
-AreTold look t part sides = All (λ side. IsTold look t part side) sides
-
 -- the listener has heard a stream
 abbrev pub IsHearing : HostListener → Type 0
 IsHearing listener = (stream : List ℕ) × Stands listener.host.framing stream
-
--- the sides are kin to who hears and prints
-abbrev pub Suits : List Side → HostListener → Reel → Type 0
-Suits sides listener reporter = AreKin reporter.look (tells listener.host.table) sides × IsHearing listener
 
 -- The listener has heard a zero alone, the reporter has counted nothing yet, and the report is empty.
 pub record IsOnItsWay (look : Look) (t : Tells Event) (listener : HostListener) (reporter : Reel) (report : Report) : Type 0 where
@@ -63,3 +53,57 @@ pub record IsOnItsWay (look : Look) (t : Tells Event) (listener : HostListener) 
   pub within : IsGathered report
   pub empty : gathered report ≡ []
   pub none : report.faults ≡ 0
+
+-- ---- what a side says of its block, as a fact that a message keeps
+
+-- What bytes tell comes to: the lines, the reporter's place and counts behind them, and how many events are faults.
+pub record Says : Type 0 where
+  pub lines : List ℕ
+  pub last : Option ℕ
+  pub failing : ℕ
+  pub cuts : ℕ
+  pub faults : ℕ
+
+abbrev pub Agrees : Says → Says → Type 0
+Agrees a b = (a.lines ≡ b.lines) × (a.last ≡ b.last) × (a.failing ≡ b.failing) × (a.cuts ≡ b.cuts) × (a.faults ≡ b.faults)
+
+-- so it is of bytes behind a zero, and behind the line with this place
+abbrev pub told_says : Look → Tells Event → Option ℕ → List ℕ → Says
+told_says look t last bytes = record {
+  lines = lines_from by_style (reel look last 0 0) (begun t (0 ∷ bytes));
+  last = (state_behind by_style (reel look last 0 0) (begun t (0 ∷ bytes))).last;
+  failing = (state_behind by_style (reel look last 0 0) (begun t (0 ∷ bytes))).failing;
+  cuts = (state_behind by_style (reel look last 0 0) (begun t (0 ∷ bytes))).cuts;
+  faults = faults_among by_style (begun t (0 ∷ bytes));
+}
+
+-- and of what a side printed and counted
+abbrev pub side_says : Side → Says
+side_says side = record {
+  lines = side.lines.text.items;
+  last = side.reporter.last;
+  failing = side.reporter.failing;
+  cuts = side.reporter.cuts;
+  faults = side.report.faults;
+}
+
+-- a side said of its block what is said so, and the block ends with a zero
+abbrev pub SaidBlock : (Option ℕ → List ℕ → Says) → List ℕ → Side → Block → Type 0
+SaidBlock says part side block =
+    Agrees (side_says side) (says block.last (bytes_of part block)) × (block.from ≤ block.to) × (block.to ≤ length part)
+    × (tail (0 ∷ bytes_of part block) ≡ []) × (side.report.faults ≤ length (bytes_of part block))
+
+abbrev pub IsSaid : (Option ℕ → List ℕ → Says) → List ℕ → Side → Type 0
+IsSaid says part side = IfSome side.block (λ block. SaidBlock says part side block)
+
+-- by this look and these tells, so is said of all bytes
+abbrev pub SaysAs : (Option ℕ → List ℕ → Says) → Look → Tells Event → Type 0
+SaysAs says look t = (last : Option ℕ) (bytes : List ℕ) → Agrees (told_says look t last bytes) (says last bytes)
+
+-- a side says so, unless memory was wanting
+abbrev pub IsSaying : (Option ℕ → List ℕ → Says) → Side → Type 0
+IsSaying says side = side.lost ≡ false → SaysAs says side.reporter.look (tells side.listener.host.table)
+
+-- so do this reporter and this listener, which has heard a stream
+abbrev pub Suits : (Option ℕ → List ℕ → Says) → HostListener → Reel → Type 0
+Suits says listener reporter = SaysAs says reporter.look (tells listener.host.table) × IsHearing listener

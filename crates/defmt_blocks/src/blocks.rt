@@ -1,110 +1,128 @@
-//! A crew that hears the blocks of a part side by side.
-ghost use Rattle.std.specs.Prelude.{◌≡◌, ◌≤◌, ◌<◌, ◌+◌, ◌^◌, ℕ, List, [], length, take, IfErr, IfOk, OnErr, OnOk};
-ghost use Rattle.std.specs.Io.KnownBytes.{Consumes, IsAtEnd};
-ghost use Rattle.std.specs.Thread.{IsSync};
+//! A crew that has threads hear the blocks of a recording ahead.
+ghost use Rattle.std.specs.Prelude.{◌≡◌, ◌≤◌, ◌<◌, ◌+◌, ◌^◌, ℕ, List, [], length, max, take, IfErr, OnErr, OnOk};
+ghost use Rattle.std.specs.Io.KnownBytes.{Consumes, prepend_known};
 ghost use Rattle.dl_io.specs.Outside.{Rose};
 ghost use Rattle.defmt_framing.specs.Framing.{Stands};
 ghost use Rattle.defmt_listen.specs.Gathered.{gathered, IsGathered};
-ghost use Rattle.defmt_listen.specs.Heard.{BreaksPart, HeardPart, HeardSome};
+ghost use Rattle.defmt_listen.specs.Heard.{BreaksPart, HeardPart, HeardSome, IsDrained, IsMet};
 ghost use Rattle.defmt_listen.specs.Streams.{output_of};
-ghost use Rattle.defmt_blocks.specs.Blocks.{AreKin, AreTold, IsKin, IsTold, Suits};
+ghost use Rattle.defmt_blocks.specs.Blocks.{Suits};
+ghost use Rattle.defmt_blocks.specs.Queue.{KnowsOf, bytes_in};
 ghost use Rattle.defmt_decode.specs.Event.{tells};
-ghost use Rattle.defmt_decode.specs.declared.event.Event.{Event};
-ghost use Rattle.defmt_framing.specs.Told.{Tells};
-ghost use Rattle.defmt_recording.specs.Styled.{Look, by_style};
+ghost use Rattle.defmt_recording.specs.Styled.{by_style};
 
-use crate::cuts::Cuts;
-use crate::joining::join_sides;
-use crate::side::Side;
-use defmt_decode::PlannedTable;
-use defmt_listen::{Behind, Crew, ListenFault, Portion, Report, fill};
+use crate::ahead::{Ahead, fill_front};
+use crate::joining::hear_told;
+use crate::pool::Pool;
+use crate::sent::Kin;
+use defmt_listen::{Behind, Crew, ListenFault, Portion, Report};
 use defmt_recording::{HostListener, Styled};
-use dl_io::{Memory, Sink, Source};
-use std::alloc::Global;
-use std::thread::{Threads, for_each_mut};
+use dl_io::{Sink, Source};
+use std::sync::Wait;
 
-/// Sides that hear the blocks of each part, each by a thread of its own where one can be made.
+/// Reads blocks ahead, has threads hear them, and takes over what they told.
 #[derive(Drop)]
-pub struct Blocks<'a, 'r, T> {
-    rt: &'r T,
-    cuts: Cuts,
-    pub(crate) sides: Vec<Side<'a>>,
+pub struct Blocks<'a, 'r, G: Kin, R> {
+    pub(crate) pool: Pool<'a, 'r, G, R>,
+    pub(crate) ahead: Ahead,
+    // The most bytes of a block.
+    pub(crate) block: usize,
+    // Whether the threads were sent what is heard next.
+    pub(crate) sent: bool,
 }
 
-impl<'a, 'r, T: Threads + Sync> Blocks<'a, 'r, T> {
-    /// So many sides of a table, which print as this reporter.
-    pub(crate) fn new(
-        rt: &'r T,
-        alloc: Global,
-        cuts: Cuts,
-        jobs: u32,
-        table: &'a PlannedTable,
-        reporter: &Styled<'a>,
-    ) -> Result<Self, Memory>
-        ensures { IfOk result (λ crew. AreKin reporter.now.look (tells table.now) crew.sides.items) }
-    {
-        Ok(Blocks {
-            rt,
-            cuts,
-            sides: sides_of(alloc, jobs, table, reporter)?,
-        })
-    }
-}
-
-fn sides_of<'a>(
-    alloc: Global,
-    jobs: u32,
-    table: &'a PlannedTable,
-    reporter: &Styled<'a>,
-) -> Result<Vec<Side<'a>>, Memory>
-    ensures { IfOk result (λ sides. AreKin reporter.now.look (tells table.now) sides.items) }
+// Reads blocks until no buffer is left, and sends each to the threads.
+fn read_ahead<G: Kin, R: Wait, S: Source>(
+    ahead: &mut Ahead,
+    pool: &mut Pool<'_, '_, G, R>,
+    src: &mut S,
+    room: usize,
+)
+    requires { ahead.old.size ≤ room }
+    ensures within { ahead.new.size ≤ room }
+    ensures bytes { Consumes (prepend_known (bytes_in ahead.old.parts.items) (S.left src.old))
+        (prepend_known (bytes_in ahead.new.parts.items) (S.left src.new)) [] }
+    ensures known { (count : ℕ) → KnowsOf count ahead.old.behind (S.left src.old) (S.faults src.old)
+        → KnowsOf count ahead.new.behind (S.left src.new) (S.faults src.new) }
+    ensures later { S.faults src.old ≤ S.faults src.new }
 {
-    let mut sides = Vec::new(alloc);
-    'jobs: for _ in 0..jobs {
-        sides.push(Side::new(alloc, table, reporter))?;
+    'blocks: for _ in 0..ahead.left() {
+        if !ahead.add(src, room) {
+            break 'blocks;
+        }
+        pool.send(ahead.last());
     }
-    Ok(sides)
 }
 
-// Cuts a part, and has each side hear a block of it.
-fn hear_aside<T: Threads + Sync>(rt: &T, cuts: Cuts, sides: &mut [Side<'_>], part: &[u8])
-    ensures kin { (look : Look) (t : Tells Event) → AreKin look t sides.old
-        → AreKin look t sides.new }
-    ensures told { (look : Look) (t : Tells Event) → AreKin look t sides.old
-        → AreTold look t part.now sides.new }
+// Reads what no buffer was left for, or tells what comes behind all that was read.
+fn read_on<S: Source>(behind: Behind, src: &mut S, buf: &mut Vec<u8>, room: usize) -> Portion
+    requires { 0 < length buf.old.items }
+    ensures buffer { 0 < length buf.new.items }
+    ensures within { result.count ≤ length buf.new.items }
+    ensures bytes { Consumes (S.left src.old) (S.left src.new) (take result.count buf.new.items) }
+    ensures room { result.count ≤ max room 1 }
+    ensures more { result.behind ≡ Behind.More → 0 < result.count }
+    ensures known { (count : ℕ) → count ≤ S.faults src.old
+        → IsMet count (S.left src.old) (S.faults src.old) behind
+        → IsMet count (S.left src.new) (S.faults src.new) behind
+        × IsMet count (S.left src.new) (S.faults src.new) result.behind }
+    ensures later { S.faults src.old ≤ S.faults src.new }
 {
-    let count = sides.len();
-    if count == 0 {
-        return;
+    match behind {
+        Behind::More => {
+            let most = buf.len().min(room).max(1);
+            fill_front(src, buf, most)
+        }
+        Behind::End | Behind::Fault => Portion { count: 0, behind },
     }
-    let hear = |number: usize, side: &mut Side<'_>|
-        ensures { (look : Look) (t : Tells Event) → IsKin look t side.entry.now
-            → IsKin look t side.exit.now × IsTold look t part.entry.now side.exit.now }
-    { side.hear_block(part, &cuts, count, number) };
-    for_each_mut(rt, sides, count, &hear);
 }
 
-impl<'a, 'r, T: Threads + Sync, S: Source, K: Sink> Crew<S, K, HostListener<'a>, Styled<'a>>
-    for Blocks<'a, 'r, T> {
-    ghost suits = { λ crew listener reporter. IsSync T.row × Suits crew.sides.items listener reporter };
+impl<'a, 'r, G: Kin, R: Wait, S: Source, K: Sink> Crew<S, K, HostListener<'a>, Styled<'a>>
+    for Blocks<'a, 'r, G, R> {
+    ghost suits = { λ _ listener reporter. Suits G.says listener reporter };
 
     ghost may = { λ _ _. Unit {0} };
 
+    ghost ahead = { λ crew. bytes_in crew.ahead.parts.items };
+
+    ghost knows = { λ count crew src. KnowsOf count crew.ahead.behind (S.left src) (S.faults src) };
+
     fn most(&self) -> usize {
-        self.cuts.most(self.sides.len())
+        self.block
     }
 
-    fn read(&self, src: &mut S, _: &K, buf: &mut [u8]) -> Portion
-        requires { 0 < length buf.old }
-        ensures within { result.count ≤ length buf.new }
-        ensures bytes { Consumes (S.left src.old) (S.left src.new) (take result.count buf.new) }
+    fn read(&mut self, src: &mut S, _: &K, buf: &mut Vec<u8>, room: usize) -> Portion
+        requires buffer { 0 < length buf.old.items }
+        requires within { length (bytes_in self.old.ahead.parts.items) ≤ room }
+        ensures buffer { 0 < length buf.new.items }
+        ensures within { result.count ≤ length buf.new.items }
+        ensures bytes { Consumes (prepend_known (bytes_in self.old.ahead.parts.items) (S.left src.old))
+            (prepend_known (bytes_in self.new.ahead.parts.items) (S.left src.new))
+            (take result.count buf.new.items) }
+        ensures room { result.count + length (bytes_in self.new.ahead.parts.items) ≤ max room 1 }
         ensures more { result.behind ≡ Behind.More → 0 < result.count }
-        ensures end { result.behind ≡ Behind.End → IsAtEnd (S.left src.new) }
-        ensures fault { result.behind ≡ Behind.Fault
-            → Rose (S.faults src.old) (S.faults src.new) }
+        ensures drained { IsDrained (bytes_in self.new.ahead.parts.items) result.behind }
+        ensures known { (count : ℕ) → KnowsOf count self.old.ahead.behind (S.left src.old) (S.faults src.old)
+            → KnowsOf count self.new.ahead.behind (S.left src.new) (S.faults src.new)
+            × IsMet count (S.left src.new) (S.faults src.new) result.behind }
+        ensures suits { (listener : _) (reporter : _) → Suits G.says listener reporter
+            → Suits G.says listener reporter }
         ensures later { S.faults src.old ≤ S.faults src.new }
     {
-        fill(src, buf)
+        read_ahead(&mut self.ahead, &mut self.pool, src, room);
+        match self.ahead.give(buf) {
+            Some(count) => {
+                self.sent = true;
+                Portion {
+                    count,
+                    behind: Behind::More,
+                }
+            }
+            None => {
+                self.sent = false;
+                read_on(self.ahead.behind, src, buf, room)
+            }
+        }
     }
 
     fn hear(
@@ -115,7 +133,7 @@ impl<'a, 'r, T: Threads + Sync, S: Source, K: Sink> Crew<S, K, HostListener<'a>,
         report: &mut Report,
         bytes: &[u8],
     ) -> Result<(), ListenFault>
-        requires suits { IsSync T.row × Suits self.old.sides.items listener.old reporter.old }
+        requires suits { Suits G.says listener.old reporter.old }
         requires within { IsGathered report.old }
         requires empty { gathered report.old ≡ [] }
         requires few { report.old.faults + length bytes.now < 2 ^ 64 }
@@ -134,10 +152,19 @@ impl<'a, 'r, T: Threads + Sync, S: Source, K: Sink> Crew<S, K, HostListener<'a>,
         ensures fault { IfErr result
             (λ fault. BreaksPart (Rose (K.faults out.old) (K.faults out.new)) fault) }
         ensures same { OnOk result (tells listener.new.host.table ≡ tells listener.old.host.table) }
-        ensures suits { OnOk result (IsSync T.row × Suits self.new.sides.items listener.new reporter.new) }
+        ensures suits { OnOk result (Suits G.says listener.new reporter.new) }
+        ensures ahead { OnOk result (bytes_in self.new.ahead.parts.items
+            ≡ bytes_in self.old.ahead.parts.items) }
+        ensures known { OnOk result ((count : ℕ) (src : S)
+            → KnowsOf count self.old.ahead.behind (S.left src) (S.faults src)
+            → KnowsOf count self.new.ahead.behind (S.left src) (S.faults src)) }
         ensures later { K.faults out.old ≤ K.faults out.new }
     {
-        hear_aside(self.rt, self.cuts, &mut self.sides, bytes);
-        join_sides(listener, reporter, out, report, bytes, &self.sides)
+        let side = if self.sent { self.pool.next() } else { None };
+        let heard = hear_told(listener, reporter, out, report, bytes, &side);
+        if let Some(side) = side {
+            self.pool.give_back(side);
+        }
+        heard
     }
 }

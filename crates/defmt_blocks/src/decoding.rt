@@ -2,28 +2,26 @@
 ghost use Rattle.std.specs.Prelude.{◌≡◌, ◌≤◌};
 ghost use Rattle.defmt_listen.specs.Streams.{input_of, output_of};
 ghost use Rattle.defmt_recording.specs.Calls.{files_of};
-ghost use Rattle.defmt_recording.specs.Decoding.{Decodes, Hears};
-ghost use Rattle.defmt_recording.specs.Styled.{look_by};
+ghost use Rattle.defmt_recording.specs.Decoding.{Decodes};
 
-use crate::blocks::Blocks;
+use crate::beside::print_cut;
 use crate::cuts::Cuts;
-use defmt_decode::{Host, PlannedTable};
-use defmt_places::Places;
-use defmt_recording::{Fault, HostListener, Styled, decode as decode_in_turns, load, print_with};
-use defmt_words::{DecodeOptions, Style};
+use defmt_recording::{Fault, decode as decode_in_turns, load};
+use defmt_words::DecodeOptions;
 use dl_io::{Shelf, Sink, Source};
 use std::alloc::Global;
+use std::sync::Wait;
 use std::thread::Threads;
 
-// A block is decoded in some ten milliseconds, and a thread is started in far less than one.
+// A block is decoded in a few milliseconds, and is sent to a thread and back in far less than one.
 const CUTS: Cuts = Cuts {
-    block: 1_048_576,
-    before: 4_096,
+    block: 262_144,
+    before: 1_024,
 };
 
 /// Prints the events of the recording that the source gives, as `decode` of defmt_recording does; with `--jobs` parts of it are decoded
 /// by so many threads, or here where none can be made.
-pub fn decode<S: Source, F: Shelf, K: Sink, R: Threads + Sync>(
+pub fn decode<S: Source, F: Shelf, K: Sink, R: Threads + Wait + Sync>(
     rt: &R,
     alloc: Global,
     options: &DecodeOptions,
@@ -46,7 +44,7 @@ pub fn decode<S: Source, F: Shelf, K: Sink, R: Threads + Sync>(
 }
 
 /// The same by so many threads, with each part cut so.
-pub fn decode_cut<S: Source, F: Shelf, K: Sink, R: Threads + Sync>(
+pub fn decode_cut<S: Source, F: Shelf, K: Sink, R: Threads + Wait + Sync>(
     rt: &R,
     alloc: Global,
     jobs: u32,
@@ -80,41 +78,4 @@ pub fn decode_cut<S: Source, F: Shelf, K: Sink, R: Threads + Sync>(
         ),
         Err(fault) => fault,
     }
-}
-
-fn print_cut<S: Source, K: Sink, R: Threads + Sync>(
-    rt: &R,
-    alloc: Global,
-    jobs: u32,
-    cuts: Cuts,
-    style: &Style,
-    places: &Places,
-    live: bool,
-    src: &mut S,
-    out: &mut K,
-    table: &PlannedTable,
-) -> Fault
-    ensures hears { Hears (look_by style.now table.now.entries places.now) live table.now
-        (input_of S.left S.faults src.old src.new)
-        (output_of K.held K.faults out.old out.new) result }
-    ensures source_count { S.faults src.old ≤ S.faults src.new }
-    ensures sink_count { K.faults out.old ≤ K.faults out.new }
-{
-    let reporter = Styled::new(alloc, style, table.table(), places);
-    let mut crew = match Blocks::new(rt, alloc, cuts, jobs, table, &reporter) {
-        Ok(crew) => crew,
-        Err(_) => return Fault::Memory,
-    };
-    let host = Host::new(alloc, table);
-    let listener = HostListener { host };
-    print_with(
-        &mut crew,
-        alloc,
-        style.fail_on,
-        live,
-        src,
-        out,
-        listener,
-        reporter,
-    )
 }

@@ -1,7 +1,7 @@
 //! What blocks told is put together.
 ghost use Rattle.std.specs.Prelude.{◌≡◌, ◌≤◌, ◌<◌, ◌+◌, ◌-◌, ◌^◌, ℕ, List, [], Some, true, length, take, drop, IfOk, IfErr, OnOk, OnErr};
 ghost use Rattle.dl_io.specs.Outside.{Rose};
-ghost use Rattle.defmt_blocks.specs.Blocks.{AreTold, IsHearing, IsTold, ToldBlock, bytes_of};
+ghost use Rattle.defmt_blocks.specs.Blocks.{IsHearing, IsSaid, SaidBlock, Suits, bytes_of, told_says};
 ghost use Rattle.defmt_decode.specs.Event.{tells};
 ghost use Rattle.defmt_framing.specs.Framing.{Stands, is_between};
 ghost use Rattle.defmt_listen.specs.Gathered.{gathered, IsGathered};
@@ -9,6 +9,7 @@ ghost use Rattle.defmt_listen.specs.Heard.{BreaksPart, HeardPart, HeardSome};
 ghost use Rattle.defmt_listen.specs.Streams.{output_of};
 ghost use Rattle.defmt_recording.specs.Styled.{by_style};
 
+use crate::sent::{Kin, Sent};
 use crate::side::{Block, Side};
 use defmt_listen::{ListenFault, Report, hear_part};
 use defmt_recording::{HostListener, Styled};
@@ -34,7 +35,7 @@ fn take_over<K: Sink>(
 ) -> Result<(), ListenFault>
     requires between { is_between listener.old.host.framing ≡ true }
     requires last { reporter.old.last ≡ block.now.last }
-    requires told { ToldBlock reporter.old.look (tells listener.old.host.table) part.now side.now block.now }
+    requires said { SaidBlock (told_says reporter.old.look (tells listener.old.host.table)) part.now side.now block.now }
     requires few { report.old.faults + (block.now.to - block.now.from) < 2 ^ 64 }
     ensures heard { OnOk result
         ((stream : List ℕ) → Stands listener.old.host.framing stream → HeardPart
@@ -64,7 +65,7 @@ fn take_over<K: Sink>(
     }
 }
 
-// Hears what stands in front of a block, and takes the block over where it goes on there. Answers up to which place of the part
+// Hears what stands in front of a side's block, and takes the block over where it goes on there. Answers up to which place of the part
 // all is heard.
 fn join_side<K: Sink>(
     listener: &mut HostListener<'_>,
@@ -72,22 +73,20 @@ fn join_side<K: Sink>(
     out: &mut K,
     report: &mut Report,
     part: &[u8],
-    at: usize,
     side: &Side<'_>,
 ) -> Result<usize, ListenFault>
-    requires told { IsTold reporter.old.look (tells listener.old.host.table) part.now side.now }
+    requires said { IsSaid (told_says reporter.old.look (tells listener.old.host.table)) part.now side.now }
     requires hearing { IsHearing listener.old }
-    requires place { at ≤ length part.now }
     requires within { IsGathered report.old }
     requires empty { gathered report.old ≡ [] }
-    requires few { report.old.faults + (length part.now - at) < 2 ^ 64 }
-    ensures place { IfOk result (λ place. (at ≤ place) × (place ≤ length part.now)) }
+    requires few { report.old.faults + length part.now < 2 ^ 64 }
+    ensures place { IfOk result (λ place. place ≤ length part.now) }
     ensures heard { IfOk result (λ place.
         (stream : List ℕ) → Stands listener.old.host.framing stream → HeardPart
         (tells listener.old.host.table) by_style listener.new.host.framing reporter.old reporter.new
         (output_of K.held K.faults out.old out.new)
-        stream (take (place - at) (drop at part.now)) report.old.faults report.new.faults) }
-    ensures few { IfOk result (λ place. report.new.faults ≤ report.old.faults + (place - at)) }
+        stream (take place part.now) report.old.faults report.new.faults) }
+    ensures few { IfOk result (λ place. report.new.faults ≤ report.old.faults + place) }
     ensures within { OnOk result (IsGathered report.new) }
     ensures empty { OnOk result (gathered report.new ≡ []) }
     ensures look { OnOk result (reporter.new.look ≡ reporter.old.look) }
@@ -95,18 +94,15 @@ fn join_side<K: Sink>(
     ensures some { OnErr result
         ((stream : List ℕ) → Stands listener.old.host.framing stream → HeardSome
         (tells listener.old.host.table) by_style reporter.old
-        (output_of K.held K.faults out.old out.new) stream (drop at part.now)) }
+        (output_of K.held K.faults out.old out.new) stream part.now) }
     ensures fault { IfErr result
         (λ fault. BreaksPart (Rose (K.faults out.old) (K.faults out.new)) fault) }
     ensures later { K.faults out.old ≤ K.faults out.new }
 {
     let Some(block) = side.block else {
-        return Ok(at);
+        return Ok(0);
     };
-    if block.from < at {
-        return Ok(at);
-    }
-    hear_part(listener, reporter, out, report, &part[at..block.from])?;
+    hear_part(listener, reporter, out, report, &part[..block.from])?;
     if !goes_on(listener, reporter, &block) {
         return Ok(block.from);
     }
@@ -114,16 +110,16 @@ fn join_side<K: Sink>(
     Ok(block.to)
 }
 
-/// Hears a part by what its blocks told, and what they leave by itself.
-pub(crate) fn join_sides<K: Sink>(
+// Hears a block by what a side told of it, and what that leaves by itself.
+fn join_block<K: Sink>(
     listener: &mut HostListener<'_>,
     reporter: &mut Styled<'_>,
     out: &mut K,
     report: &mut Report,
     part: &[u8],
-    sides: &[Side<'_>],
+    side: &Side<'_>,
 ) -> Result<(), ListenFault>
-    requires told { AreTold reporter.old.look (tells listener.old.host.table) part.now sides.now }
+    requires said { IsSaid (told_says reporter.old.look (tells listener.old.host.table)) part.now side.now }
     requires hearing { IsHearing listener.old }
     requires within { IsGathered report.old }
     requires empty { gathered report.old ≡ [] }
@@ -146,9 +142,45 @@ pub(crate) fn join_sides<K: Sink>(
         (λ fault. BreaksPart (Rose (K.faults out.old) (K.faults out.new)) fault) }
     ensures later { K.faults out.old ≤ K.faults out.new }
 {
-    let mut at = 0;
-    for side in sides {
-        at = join_side(listener, reporter, out, report, part, at, side)?;
-    }
+    let at = join_side(listener, reporter, out, report, part, side)?;
     hear_part(listener, reporter, out, report, &part[at..])
+}
+
+/// Hears a block, by what a side told of these very bytes if there is one.
+pub(crate) fn hear_told<G: Kin, K: Sink>(
+    listener: &mut HostListener<'_>,
+    reporter: &mut Styled<'_>,
+    out: &mut K,
+    report: &mut Report,
+    part: &[u8],
+    sent: &Option<Sent<'_, G>>,
+) -> Result<(), ListenFault>
+    requires suits { Suits G.says listener.old reporter.old }
+    requires within { IsGathered report.old }
+    requires empty { gathered report.old ≡ [] }
+    requires few { report.old.faults + length part.now < 2 ^ 64 }
+    ensures heard { OnOk result
+        ((stream : List ℕ) → Stands listener.old.host.framing stream → HeardPart
+        (tells listener.old.host.table) by_style listener.new.host.framing reporter.old reporter.new
+        (output_of K.held K.faults out.old out.new)
+        stream part.now report.old.faults report.new.faults) }
+    ensures few { OnOk result (report.new.faults ≤ report.old.faults + length part.now) }
+    ensures within { OnOk result (IsGathered report.new) }
+    ensures empty { OnOk result (gathered report.new ≡ []) }
+    ensures look { OnOk result (reporter.new.look ≡ reporter.old.look) }
+    ensures same { OnOk result (tells listener.new.host.table ≡ tells listener.old.host.table) }
+    ensures some { OnErr result
+        ((stream : List ℕ) → Stands listener.old.host.framing stream → HeardSome
+        (tells listener.old.host.table) by_style reporter.old
+        (output_of K.held K.faults out.old out.new) stream part.now) }
+    ensures fault { IfErr result
+        (λ fault. BreaksPart (Rose (K.faults out.old) (K.faults out.new)) fault) }
+    ensures later { K.faults out.old ≤ K.faults out.new }
+{
+    match sent {
+        Some(sent) if sent.part.as_slice() == part => {
+            join_block(listener, reporter, out, report, part, &sent.side)
+        }
+        _ => hear_part(listener, reporter, out, report, part),
+    }
 }

@@ -11,13 +11,17 @@
 //! wherever it is cut (program_tests, `blocks`).
 #![tactic(auto)]
 
+mod ahead;
+mod beside;
 mod blocks;
 mod cuts;
 mod decoding;
 mod joining;
 mod lines;
+mod part;
+mod pool;
+mod sent;
 mod side;
 
-pub use blocks::Blocks;
 pub use cuts::Cuts;
 pub use decoding::{decode, decode_cut};

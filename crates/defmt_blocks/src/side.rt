@@ -1,5 +1,5 @@
 //! One block of a part, heard by a host of its own.
-ghost use Rattle.std.specs.Prelude.{◌≡◌, ◌≤◌, ◌∷◌, [], true, length, IfOk, OnOk};
+ghost use Rattle.std.specs.Prelude.{◌≡◌, ◌≤◌, ◌∷◌, [], None, false, true, length, IfOk, IfSome, OnOk};
 ghost use Rattle.defmt_blocks.specs.Blocks.{IsKin, IsOnItsWay, IsTold, TellsOf};
 ghost use Rattle.defmt_framing.specs.Framing.{Stands};
 ghost use Rattle.defmt_decode.specs.Event.{tells};
@@ -8,7 +8,7 @@ ghost use Rattle.defmt_framing.specs.Told.{Tells};
 ghost use Rattle.defmt_listen.specs.Gathered.{gathered, IsGathered};
 ghost use Rattle.defmt_recording.specs.Styled.{Look, reel};
 
-use crate::cuts::Cuts;
+use crate::cuts::{Cuts, end_of};
 use crate::lines::Lines;
 use defmt_decode::{Host, PlannedTable};
 use defmt_listen::{ListenFault, Nowhere, Report, hear_part};
@@ -38,7 +38,8 @@ pub struct Side<'a> {
 impl<'a> Side<'a> {
     /// A host of this table, and a reporter that prints as this one. Takes no memory.
     pub(crate) fn new(alloc: Global, table: &'a PlannedTable, reporter: &Styled<'a>) -> Side<'a>
-        ensures { IsKin reporter.now.look (tells table.now) result }
+        ensures kin { IsKin reporter.now.look (tells table.now) result }
+        ensures none { result.block ≡ None }
     {
         let host = Host::new(alloc, table);
         Side {
@@ -51,16 +52,26 @@ impl<'a> Side<'a> {
         }
     }
 
-    /// Hears block `number` of `count` of a part.
-    pub(crate) fn hear_block(&mut self, part: &[u8], cuts: &Cuts, count: usize, number: usize)
+    /// Knows of no block.
+    pub(crate) fn forget(&mut self)
+        ensures none { self.new.block ≡ None }
+        ensures look { self.new.reporter ≡ self.old.reporter }
+        ensures table { self.new.listener ≡ self.old.listener }
+        ensures lost { self.new.lost ≡ self.old.lost }
+    {
+        self.block = None;
+    }
+
+    /// Hears a block.
+    pub(crate) fn hear_block(&mut self, part: &[u8], cuts: &Cuts)
         ensures kin { (look : Look) (t : Tells Event) → IsKin look t self.old
             → IsKin look t self.new }
         ensures told { (look : Look) (t : Tells Event) → IsKin look t self.old
             → IsTold look t part.now self.new }
+        ensures known { IfSome self.new.block (λ _. self.old.lost ≡ false) }
+        ensures still { self.new.lost ≡ false → self.old.lost ≡ false }
     {
-        let from = cuts.place(part, count, number);
-        let to = cuts.place(part, count, number.saturating_add(1));
-        self.hear(part, from, to, cuts.before);
+        self.hear(part, cuts.start(part), end_of(part), cuts.before);
     }
 
     // Hears the bytes of a part from a place to another, behind what so many bytes before them tell.
@@ -70,6 +81,8 @@ impl<'a> Side<'a> {
             → IsKin look t self.new }
         ensures told { (look : Look) (t : Tells Event) → IsKin look t self.old
             → IsTold look t part.now self.new }
+        ensures known { IfSome self.new.block (λ _. self.old.lost ≡ false) }
+        ensures still { self.new.lost ≡ false → self.old.lost ≡ false }
     {
         self.block = None;
         if self.lost || from >= to {

@@ -1,7 +1,7 @@
-use Rattle.std.proofs.Common.{◌≡◌, ◌∷◌, [], ◌∙◌, ap, sym}
+use Rattle.std.proofs.Common.{◌∷◌, [], ◌∙◌, ap, sym}
 use Rattle.std.specs.Prelude.{Option}
 use Rattle.defmt_decode.specs.Event.{tells}
-use Rattle.defmt_recording.specs.Styled.{Look, Reel, reel}
+use Rattle.defmt_recording.specs.Styled.{Look, reel}
 use Rattle.defmt_blocks.proofs.Telling.{tells_from}
 use Rattle.defmt_blocks.proofs.side.Side.tell.Goals as goal
 
