@@ -9,10 +9,12 @@ ghost use Rattle.defmt_words.specs.Words.{job as job_in};
 use defmt_run::{Fault, OpenGate, session};
 use dl_io::{Failed, Shelf, Sink, Source, write_all};
 use std::alloc::Global;
+use std::mem;
 use std::sync::Wait;
 use std::thread::Threads;
 
-/// Does what the words ask for, as [`session`] does, writes the words of a fault to `errors`, and answers the status.
+/// Does what the words ask for, as [`session`] does, writes the words of a fault to `errors`, and answers the status. The program
+/// ends then, so what is told of a run isn't taken apart event by event: its memory is forgotten.
 pub fn answer<S: Source, F: Shelf, K: Sink, E: Sink, R: Threads + Wait + Sync>(
     rt: &R,
     alloc: Global,
@@ -29,7 +31,9 @@ pub fn answer<S: Source, F: Shelf, K: Sink, E: Sink, R: Threads + Wait + Sync>(
 {
     let outcome = session(rt, alloc, words, src, shelf, out, &OpenGate);
     say(alloc, outcome.fault, errors);
-    outcome.status
+    let status = outcome.status;
+    mem::forget(outcome);
+    status
 }
 
 /// Tells that memory is wanting before anything is done, and answers the status of that.

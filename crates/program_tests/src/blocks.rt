@@ -287,11 +287,15 @@ fn long_recordings_are_told_block_by_block(rt: HostRuntime) -> Result<(), Fail> 
     each_block(&rt, rt.alloc(), LONG, 2, &Kind::LongSideBySide)
 }
 
-// Parts of some bytes are read, with as many blocks as there are sides, from one byte a block to the whole recording.
+// Blocks of some bytes are read, by one side to four, from one byte a block to the whole recording.
 #[test]
 fn blocks_of_any_size_tell_what_a_whole_recording_tells(rt: HostRuntime) -> Result<(), Fail> {
     each_block(&rt, rt.alloc(), RECORDINGS, 16, &Kind::Cut)?;
+    each_block(&rt, rt.alloc(), DECODED, 4, &Kind::Cut)
+}
+
+#[test]
+fn blocks_of_any_size_tell_the_same_in_each_form(rt: HostRuntime) -> Result<(), Fail> {
     each_block(&rt, rt.alloc(), FORMS, 12, &Kind::Cut)?;
-    each_block(&rt, rt.alloc(), DECODED, 4, &Kind::Cut)?;
     each_block(&rt, rt.alloc(), SHORT, 2, &Kind::Cut)
 }
