@@ -1,6 +1,9 @@
 /* Deferred logging, the one file to compile into a firmware. What is proved is in defmtl_core.h; here are the control block,
  * the walk over a call's arguments, and the lock round what all writers share. */
 #define DEFMTL_PORT_FUNCTIONS
+#ifdef __cplusplus
+#error "defmtl: compile defmtl.c as C11, and link it with your files of C++"
+#endif
 #include "defmtl.h"
 #include "defmtl_core.h"
 
@@ -46,6 +49,7 @@ static void defmtl_each(struct defmtl_frame *f, uint32_t ops, va_list *args) {
         case DEFMTL_B8: defmtl_long(f, va_arg(*args, uint64_t)); break;
         case DEFMTL_TEXT: {
             const char *text = va_arg(*args, const char *);
+            if (!text) text = "(null)";
             defmtl_counted(f, (const uint8_t *)text, defmtl_length(text));
             break;
         }

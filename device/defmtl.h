@@ -30,6 +30,9 @@
 #ifndef DEFMTL_UP
 #define DEFMTL_UP 0 /* the up-buffer that this file logs to */
 #endif
+#ifndef DEFMTL_UNIT
+#define DEFMTL_UNIT file /* a word of this file's own: by g++ with -flto statements' names for the assembler have it */
+#endif
 
 #ifdef __cplusplus
 #define DEFMTL_ASSERT static_assert

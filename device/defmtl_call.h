@@ -5,27 +5,46 @@
 
 /* ---- arguments that are no plain values */
 
+/* What is no literal, or points to another type than it should, is given to a statement as what is no argument: so the compiler tells at the
+ * statement which argument is wrong. */
+#ifdef __cplusplus
+#define DEFMTL_SLICE(from, n) defmtl_text::slice(from, n)
+#define DEFMTL_FMT(name, from) defmtl_text::value<name##_defmtl_self>(&name##_defmtl, from)
+#define DEFMTL_LIST_OF(name, from, n) defmtl_text::list<name##_defmtl_self>(&name##_defmtl, from, n)
+#else
+#define DEFMTL_IF_TYPE(name, from, then) \
+    __builtin_choose_expr(__builtin_types_compatible_p(__typeof__(*from), name##_defmtl_self), then, (void *)0)
+#define DEFMTL_SLICE(from, n) __builtin_choose_expr(__extension__ sizeof(*from) == 1, defmtl_make_slice(from, n), (void *)0)
+#define DEFMTL_FMT(name, from) DEFMTL_IF_TYPE(name, from, defmtl_make_value(&name##_defmtl, (const void *)from))
+#define DEFMTL_LIST_OF(name, from, n) DEFMTL_IF_TYPE(name, from, defmtl_make_list(&name##_defmtl, (const void *)from, n))
+#endif
+
 /* Bytes at a place, for {=[u8]}. */
-#define SLICE(from, n) defmtl_make_slice((from), (uint32_t)(n))
+#define SLICE(from, n) DEFMTL_SLICE((from), (uint32_t)(n))
 /* A number of 128 bits by its two halves, for {=u128} and {=i128}. */
 #define WIDE(high, low) defmtl_make_wide((uint64_t)(high), (uint64_t)(low))
 /* A value whose type was declared with DEFMTL_FORMAT, DEFMTL_ENUM or DEFMTL_UNION under this name, for {=?}. */
-#define FMT(name, from) defmtl_make_value(&name##_defmtl, (name##_defmtl_self *)(from))
+#define FMT(name, ...) DEFMTL_FMT(name, (__VA_ARGS__))
 /* n such values that stand one behind the other, for {=[?]} and {=[?; N]}. */
-#define LIST(name, from, n) defmtl_make_list(&name##_defmtl, (name##_defmtl_self *)(from), (uint32_t)(n))
+#define LIST(name, from, n) DEFMTL_LIST_OF(name, (from), (uint32_t)(n))
 /* A text that isn't sent but for its index, for {=istr}. In a function alone. */
 #define ISTR(text) DEFMTL_ISTR(__COUNTER__, text)
 #define DEFMTL_ISTR(n, text) DEFMTL_ISTR_(n, text)
 #define DEFMTL_ISTR_(n, text)                                                                                          \
     __extension__({                                                                                                    \
+        DEFMTL_READ_ISTR(text)                                                                                         \
         DEFMTL_ISTR_ENTRY(n, text)                                                                                     \
         struct defmtl_istr defmtl_interned = {DEFMTL_ISTR_INDEX(n)};                                                   \
         defmtl_interned;                                                                                               \
     })
 
 /* ---- each of up to eight arguments */
-#define DEFMTL_COUNT_(t, a, b, c, d, e, f, g, h, i, j, k, l, m, o, p, q, n, ...) n
-#define DEFMTL_COUNT(...) DEFMTL_COUNT_(__VA_ARGS__, MANY, MANY, MANY, MANY, MANY, MANY, MANY, MANY, 8, 7, 6, 5, 4, 3, 2, 1, 0, ~)
+#define DEFMTL_COUNT_(t, a, b, c, d, e, f, g, h, i1, i2, i3, i4, i5, i6, i7, i8, j1, j2, j3, j4, j5, j6, j7, j8, k1, k2, k3, k4, k5, k6, k7, k8, \
+                      l1, l2, l3, l4, l5, l6, l7, l8, m1, m2, m3, m4, m5, m6, m7, m8, n, ...) n
+#define DEFMTL_COUNT(...) \
+    DEFMTL_COUNT_(__VA_ARGS__, MANY, MANY, MANY, MANY, MANY, MANY, MANY, MANY, MANY, MANY, MANY, MANY, MANY, MANY, MANY, MANY, MANY, MANY, MANY, MANY, \
+                  MANY, MANY, MANY, MANY, MANY, MANY, MANY, MANY, MANY, MANY, MANY, MANY, MANY, MANY, MANY, MANY, MANY, MANY, MANY, MANY, \
+                  8, 7, 6, 5, 4, 3, 2, 1, 0, ~)
 #define DEFMTL_OP(i) ((uint32_t)defmtl_P##i << 4 * i)
 #define DEFMTL_A(i, a) , DEFMTL_ARG(i, a)
 #define DEFMTL_ALL_0(...)
@@ -141,7 +160,18 @@
     name##_defmtl_self *self = (name##_defmtl_self *)defmtl_from;                                                      \
     (void)name##_defmtl;                                                                                               \
     (void)self;
-#define DEFMTL_PUT(t, k, v, j, ...)                                                                                    \
+#define DEFMTL_PUT(t, k, v, j, ...) DEFMTL_PUT_##k(t, k, v, j, ##__VA_ARGS__)
+#define DEFMTL_PUT_MANY(...) { DEFMTL_ASSERT(0, DEFMTL_TOLD_MANY); }
+#define DEFMTL_PUT_0 DEFMTL_PUTS
+#define DEFMTL_PUT_1 DEFMTL_PUTS
+#define DEFMTL_PUT_2 DEFMTL_PUTS
+#define DEFMTL_PUT_3 DEFMTL_PUTS
+#define DEFMTL_PUT_4 DEFMTL_PUTS
+#define DEFMTL_PUT_5 DEFMTL_PUTS
+#define DEFMTL_PUT_6 DEFMTL_PUTS
+#define DEFMTL_PUT_7 DEFMTL_PUTS
+#define DEFMTL_PUT_8 DEFMTL_PUTS
+#define DEFMTL_PUTS(t, k, v, j, ...)                                                                                   \
     {                                                                                                                  \
         DEFMTL_READ_VARIANT(t, k, v, j)                                                                                \
         DEFMTL_ALL_##k(DEFMTL_CHECK, ##__VA_ARGS__)                                                                    \

@@ -21,7 +21,8 @@
     to##_1 = DEFMTL_FIND(t, defmtl_size, '{', p), to##_2 = DEFMTL_FIND(t, defmtl_size, '}', p), to = to##_1 < to##_2 ? to##_1 : to##_2,
 #define DEFMTL_FIND_BARS(t, to, p)                                                                                     \
     DEFMTL_FIND_BRACES(t, to##_3, p) to##_4 = DEFMTL_FIND(t, defmtl_size, '|', p), to = to##_3 < to##_4 ? to##_3 : to##_4,
-#define DEFMTL_PAIRS(t, p) (t[p] == t[p + 1] && t[p] != '|') * 2
+#define DEFMTL_PAIRS_BRACES(t, p) (t[p] == t[p + 1]) * 2
+#define DEFMTL_PAIRS_BARS(t, p) (t[p] == t[p + 1] && t[p] != '|') * 2
 #define DEFMTL_OPENS(t, p) (t[p] == '{' && t[p + 1] != '{')
 #define DEFMTL_WITHOUT(s, c) !__builtin_strchr(s, *c)
 #else
@@ -31,7 +32,8 @@
 #define DEFMTL_NEXT(t, c, s, p) p + (int)__builtin_strcspn(&t[p], s)
 #define DEFMTL_FIND_BRACES(t, to, p) to = p + (int)__builtin_strcspn(&t[p], "{}"),
 #define DEFMTL_FIND_BARS(t, to, p) to = p + (int)__builtin_strcspn(&t[p], "{}|"),
-#define DEFMTL_PAIRS(t, p) ((int)__builtin_strspn(&t[p], "{") & -2) + ((int)__builtin_strspn(&t[p], "}") & -2)
+#define DEFMTL_PAIRS_BRACES(t, p) ((int)__builtin_strspn(&t[p], "{") & -2) + ((int)__builtin_strspn(&t[p], "}") & -2)
+#define DEFMTL_PAIRS_BARS(t, p) DEFMTL_PAIRS_BRACES(t, p)
 #define DEFMTL_OPENS(t, p) __builtin_strspn(&t[p], "{") == 1
 #define DEFMTL_WITHOUT(s, c) __builtin_strcspn(s, c) == sizeof(s) - 1
 #endif
@@ -66,8 +68,8 @@
  * g the kind, N its number or the mask of the bytes of bit fields, and was what the position had.
  * Over all steps: kinds, five bits a position; numbers, eight bits a position; bad. */
 #define DEFMTL_PLACE(t, set)                                                                                           \
-    DEFMTL_FIND_##set(t, defmtl_a, defmtl_q) defmtl_b = defmtl_a + DEFMTL_PAIRS(t, defmtl_a),                          \
-    DEFMTL_FIND_##set(t, defmtl_a2, defmtl_b) defmtl_b2 = defmtl_a2 + DEFMTL_PAIRS(t, defmtl_a2),                      \
+    DEFMTL_FIND_##set(t, defmtl_a, defmtl_q) defmtl_b = defmtl_a + DEFMTL_PAIRS_##set(t, defmtl_a),                          \
+    DEFMTL_FIND_##set(t, defmtl_a2, defmtl_b) defmtl_b2 = defmtl_a2 + DEFMTL_PAIRS_##set(t, defmtl_a2),                      \
     DEFMTL_FIND_##set(t, defmtl_p, defmtl_b2) defmtl_v = DEFMTL_OPENS(t, defmtl_p)
 #define DEFMTL_STEP(t, set)                                                                                            \
     {                                                                                                                  \
@@ -187,6 +189,16 @@
         }                                                                                                              \
     }}}}}}}
 #define DEFMTL_READ_SPELLING(t) DEFMTL_SPELLED(DEFMTL_STRING(t) "\"\\")
+/* A look at ISTR's text, which stands in a statement several times: a quote, as many bytes as a literal of no escapes or a backslash, and no
+ * at sign. */
+#define DEFMTL_READ_ISTR(t)                                                                                            \
+    __extension__ enum { defmtl_literal = DEFMTL_LITERAL(DEFMTL_STRING(t), t) };                                       \
+    DEFMTL_ASSERT(defmtl_literal, DEFMTL_TOLD_ISTR);
+#ifdef __clang__
+#define DEFMTL_LITERAL(s, t) s[0] == '"' && (sizeof(s) == sizeof(t) + 2 || __builtin_strchr(s, '\\')) && !__builtin_strchr(s, '@')
+#else
+#define DEFMTL_LITERAL(s, t) __builtin_strcspn(s, "\"") == 0 && (sizeof(s) == sizeof(t) + 2 || __builtin_strcspn(s, "\\") < sizeof(s) - 1) && DEFMTL_WITHOUT(s, "@")
+#endif
 
 /* ---- a text of n arguments, or one variant of it, from a place on and to an end; set says whether a bar is one. It opens blocks, which
  * DEFMTL_ENDS_n closes. */
@@ -234,7 +246,7 @@
 #define DEFMTL_NO_BRACES(t) DEFMTL_WITHOUT(t, "{") && DEFMTL_WITHOUT(t, "}")
 #define DEFMTL_READ_VARIANT(t, n, k, j) DEFMTL_READ_FROM(DEFMTL_PADDED(t), BARS, n, defmtl_bar_##j, defmtl_until_##k)
 
-/* ---- arguments: the class G and its number C, whether D a number, whether J an integer that may be a constant, that constant V,
+/* ---- arguments: the type T, the class G and its number C, whether D a number, whether J an integer that may be a constant, that constant V,
  * the size S of an array of bytes; and a, the argument itself, which is evaluated here and once: 0 where its type is none that is sent */
 #if __SIZEOF_LONG__ == 8
 #define DEFMTL_OF_LONG DEFMTL_OF_I64
@@ -250,13 +262,13 @@
         unsigned char *: DEFMTL_OF_RAW, const unsigned char *: DEFMTL_OF_RAW, struct defmtl_istr: DEFMTL_OF_ISTR, struct defmtl_slice: DEFMTL_OF_BYTES, \
         struct defmtl_wide: DEFMTL_OF_WIDE, struct defmtl_value: DEFMTL_OF_FORMAT, struct defmtl_list: DEFMTL_OF_LIST, default: 0u)
 #define DEFMTL_CHECK(i, a)                                                                                             \
+    __extension__ typedef __typeof__(a) defmtl_T##i;                                                                   \
     __extension__ enum {                                                                                               \
-        defmtl_G##i = DEFMTL_CLASS(a), defmtl_C##i = defmtl_G##i & 31, defmtl_D##i = 0x7bfe >> defmtl_C##i & 1, defmtl_J##i = 0x30c0 >> defmtl_C##i & 1 \
+        defmtl_G##i = DEFMTL_CLASS(*(defmtl_T##i *)0), defmtl_C##i = defmtl_G##i & 31, defmtl_D##i = 0x7bfe >> defmtl_C##i & 1, defmtl_J##i = 0x30c0 >> defmtl_C##i & 1 \
     };                                                                                                                 \
     __extension__ __auto_type defmtl_arg_##i = __builtin_choose_expr(defmtl_C##i > 0, a, 0);                           \
     __extension__ enum {                                                                                               \
-        defmtl_S##i = defmtl_C##i != 21 || __builtin_types_compatible_p(__typeof__(__builtin_choose_expr(defmtl_C##i == 21, a, 0)), __typeof__(defmtl_arg_##i)) \
-            ? 0 : (int)sizeof(__builtin_choose_expr(defmtl_C##i == 21, a, 0)),                                         \
+        defmtl_S##i = defmtl_C##i != 21 || __builtin_types_compatible_p(defmtl_T##i, __typeof__(defmtl_arg_##i)) ? 0 : (int)sizeof(defmtl_T##i), \
         defmtl_L##i = DEFMTL_NEVER, /* so the next one has 64 bits too */                                              \
         defmtl_V##i = __builtin_choose_expr(defmtl_J##i && __builtin_constant_p(a), (long long)__builtin_choose_expr(defmtl_J##i, a, 0), DEFMTL_NEVER) \
     };                                                                                                                 \

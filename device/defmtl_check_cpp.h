@@ -159,15 +159,10 @@ constexpr bool without_braces(const char *t) {
 }
 
 /* Classes of arguments, as sizes of what functions that don't exist would return. */
-template <int n> struct size {
-    char bytes[n];
-};
-template <bool is_enum, class T> struct underlying {
-    static const void *of();
-};
-template <class T> struct underlying<true, T> {
-    static __underlying_type(T) of();
-};
+template <int n> struct size { char bytes[n]; };
+template <bool is_enum, class any> struct underlying { static const void *of(); };
+template <class any> struct underlying<true, any> { static __underlying_type(any) of(); };
+struct nothing {};
 size<1> of(bool);
 size<2> of(char);
 size<14> of(unsigned char);
@@ -193,16 +188,37 @@ size<DEFMTL_WIDE_CLASS> of(defmtl_wide);
 size<17> of(defmtl_value);
 size<18> of(defmtl_list);
 size<23> of(const void *);
-template <class T> auto of(const T &) -> decltype(of(underlying<__is_enum(T), T>::of()));
-template <class T> size<1> extent(const T &);
+size<23> of(nothing);
+template <class any> auto of(const any &) -> decltype(of(underlying<__is_enum(any), any>::of()));
+template <class any> size<1> extent(const any &);
 template <unsigned n> size<n + 1> extent(const unsigned char (&)[n]);
 
-template <class T> constexpr long long whole(const T &) { return DEFMTL_NEVER; }
+template <class any> constexpr long long whole(const any &) { return DEFMTL_NEVER; }
 constexpr long long whole(int x) { return x; }
 constexpr long long whole(unsigned x) { return x; }
 constexpr long long whole(long x) { return x; }
 constexpr long long whole(unsigned long x) { return static_cast<long long>(x); }
 constexpr long long whole(long long x) { return x; }
+
+/* What SLICE, FMT and LIST give: bytes, a value of a type or of one derived from it, and values of just that type; and nothing where the pointer is
+ * to another. */
+template <class any> auto slice(const any *from, uint32_t n) {
+    if constexpr (sizeof(any) == 1) return defmtl_make_slice(from, n);
+    else return nothing{};
+}
+inline defmtl_slice slice(const void *from, uint32_t n) { return defmtl_make_slice(from, n); }
+nothing slice(...);
+
+template <class self> defmtl_value value(const defmtl_type *type, const volatile self *from) { return defmtl_make_value(type, const_cast<self *>(from)); }
+template <class self> nothing value(const defmtl_type *, ...);
+
+template <class, class> constexpr bool same = false;
+template <class any> constexpr bool same<any, any> = true;
+template <class self, class any> auto list(const defmtl_type *type, const volatile any *from, uint32_t n) {
+    if constexpr (same<self, const any>) return defmtl_make_list(type, const_cast<const any *>(from), n);
+    else return nothing{};
+}
+template <class self> nothing list(const defmtl_type *, ...);
 
 constexpr unsigned class_of(int c) {
     constexpr unsigned all[] = {DEFMTL_OF_BOOL, DEFMTL_OF_CHAR, DEFMTL_OF_F32,  DEFMTL_OF_F64,    DEFMTL_OF_I16,  DEFMTL_OF_I32,   DEFMTL_OF_I64,
@@ -213,9 +229,9 @@ constexpr unsigned class_of(int c) {
     return 0;
 }
 
-constexpr bool suits(int k, int N, int M, int c, int S, long long V) {
-    const unsigned of = class_of(c);
-    return DEFMTL_SUITS(k, N, M, of, c, S, V);
+constexpr bool suits(int kind, int number, int mask, int its_class, int array, long long constant) {
+    const unsigned of = class_of(its_class);
+    return DEFMTL_SUITS(kind, number, mask, of, its_class, array, constant);
 }
 constexpr int first(int mask) { return DEFMTL_FIRST(mask); }
 constexpr int op(int k, int mask) {
@@ -223,30 +239,34 @@ constexpr int op(int k, int mask) {
     return DEFMTL_OP_OF(k, wide);
 }
 
-template <class T> inline uint64_t wide(const T &x) { return static_cast<uint64_t>(x); }
+template <class any> inline uint64_t wide(const any &x) { return static_cast<uint64_t>(x); }
 
-/* What is handed on of an argument of the kind k. */
-template <int k, int n, int from, int as, class T> inline auto arg(const T &a) {
-    if constexpr (k == 3) return defmtl_float_bits(a);
+/* What is handed on of an argument of the kind k, which is 0 where it doesn't suit. */
+template <int k, int n, int from, int as, class any> inline auto arg(const any &a) {
+    if constexpr (k == 0) return 0;
+    else if constexpr (k == 3) return defmtl_float_bits(a);
     else if constexpr (k == 4) return defmtl_double_bits(a);
     else if constexpr (as == DEFMTL_B8) return wide(a) >> 8 * from;
     else if constexpr (k == 22) return static_cast<uint32_t>(wide(a) >> 8 * from);
     else if constexpr (k == 1) return static_cast<uint32_t>(a ? 1 : 0);
     else if constexpr (k == 16) return static_cast<uint32_t>(reinterpret_cast<uintptr_t>(a.entry));
-    else if constexpr (k == 2 && sizeof(T) == 1) return static_cast<uint32_t>(static_cast<unsigned char>(a));
+    else if constexpr (k == 2 && sizeof(any) == 1) return static_cast<uint32_t>(static_cast<unsigned char>(a));
     else if constexpr (as <= DEFMTL_B4) return static_cast<uint32_t>(a);
     else if constexpr (k == 10) return static_cast<const char *>(a);
     else if constexpr (k > DEFMTL_K_BITS) return defmtl_make_slice(&a, 16);
     else if constexpr (k == 19) return defmtl_exactly(a, static_cast<uint32_t>(n));
     else if constexpr (k == 20 || k == 21) {
-        if constexpr (sizeof(extent(*static_cast<const T *>(nullptr))) > 1) return defmtl_make_slice(a, sizeof(a));
+        if constexpr (sizeof(extent(*static_cast<const any *>(nullptr))) > 1) return defmtl_make_slice(a, sizeof(a));
         else return a;
     } else return a;
 }
 
 }
 
-#define DEFMTL_READ_SPELLING(t) static_assert(defmtl_text::spelled(DEFMTL_STRING(t)), DEFMTL_TOLD_SPELLING);
+#define DEFMTL_READ_SPELLING(t)                                                                                        \
+    constexpr bool defmtl_spelled = defmtl_text::spelled(DEFMTL_STRING(t));                                            \
+    static_assert(defmtl_spelled, DEFMTL_TOLD_SPELLING);
+#define DEFMTL_READ_ISTR(t) static_assert(defmtl_text::spelled(DEFMTL_STRING(t)), DEFMTL_TOLD_ISTR);
 #define DEFMTL_READ_AT(t, n, v)                                                                                        \
     constexpr defmtl_text::text defmtl_parsed = defmtl_text::parse(t, v);                                              \
     static_assert(defmtl_parsed.fine, DEFMTL_TOLD_TEXT);                                                               \
@@ -258,11 +278,12 @@ template <int k, int n, int from, int as, class T> inline auto arg(const T &a) {
 #define DEFMTL_NO_BRACES(t) defmtl_text::without_braces(t)
 #define DEFMTL_CONSTANT(a) (__builtin_constant_p(defmtl_text::whole(a)) ? defmtl_text::whole(a) : DEFMTL_NEVER)
 #define DEFMTL_CHECK(i, a)                                                                                             \
-    static_assert(!defmtl_parsed.fine || defmtl_parsed.count <= i ||                                                   \
-                      defmtl_text::suits(defmtl_parsed.kind[i], defmtl_parsed.number[i], defmtl_parsed.mask[i], (int)sizeof(defmtl_text::of(a)), \
-                                         (int)sizeof(defmtl_text::extent(a)) - 1, DEFMTL_CONSTANT(a)),                \
-                  DEFMTL_TOLD_KIND(i));                                                                                \
-    constexpr int defmtl_K##i = defmtl_parsed.kind[i], defmtl_N##i = defmtl_parsed.number[i],                          \
+    constexpr bool defmtl_suits_##i =                                                                                  \
+        !defmtl_parsed.fine || defmtl_parsed.count <= i ||                                                             \
+        defmtl_text::suits(defmtl_parsed.kind[i], defmtl_parsed.number[i], defmtl_parsed.mask[i], (int)sizeof(defmtl_text::of(a)), \
+                           (int)sizeof(defmtl_text::extent(a)) - 1, DEFMTL_CONSTANT(a));                               \
+    static_assert(defmtl_suits_##i, DEFMTL_TOLD_KIND(i));                                                              \
+    constexpr int defmtl_K##i = defmtl_suits_##i ? defmtl_parsed.kind[i] : 0, defmtl_N##i = defmtl_parsed.number[i],   \
                   defmtl_F##i = defmtl_text::first(defmtl_parsed.mask[i]),                                             \
                   defmtl_P##i = defmtl_text::op(defmtl_parsed.kind[i], defmtl_parsed.mask[i]);
 #define DEFMTL_ARG(i, a) defmtl_text::arg<defmtl_K##i, defmtl_N##i, defmtl_F##i, defmtl_P##i>(a)

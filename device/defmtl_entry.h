@@ -58,45 +58,60 @@ template <int n, class place> struct first<n, place, true> {
 
 #else /* a variable in an inline function or a template would be of another kind of section, so the assembler makes the symbol */
 
+/* Where no assembler's instruction takes braces in a name, an instruction has another name for the same place. What names the symbol and
+ * what makes it are dropped together with code that never runs. An inlined function, a loop or a template brings the lines twice, hence
+ * .ifndef. */
 #if defined(__arm__) || defined(__aarch64__)
 #define DEFMTL_PROGBITS "%progbits"
-#define DEFMTL_KEEP_INDEX(n)
-#define DEFMTL_INDEX_OF(n) &DEFMTL_SYMBOL(n)
-#else /* an assembler that takes no braces in an instruction: the address is read from a variable */
+#else
 #define DEFMTL_PROGBITS "@progbits"
-#define DEFMTL_KEEP_INDEX(n) static const char *volatile defmtl_index_##n = &DEFMTL_SYMBOL(n);
-#define DEFMTL_INDEX_OF(n) defmtl_index_##n
 #endif
-
-/* An inlined function, a loop or a template brings the lines twice, hence .ifndef. In a template g++ forgets the name that a
- * declaration has for the assembler, and takes the one of C++, with the namespaces that stand round it: so in C++ the symbol has a
- * plain name, and the operand %c0, which is the name that g++ takes, is set to it where it is another one. Where -flto brings two
- * files together that have a statement of the same number on the same line, the assembler tells that the plain name is there
- * already: an empty line above one of them helps. */
-#ifdef __cplusplus
-#define DEFMTL_PLAIN_(n, line) defmtl_entry_##n##_##line
-#define DEFMTL_PLAIN(n, line) DEFMTL_PLAIN_(n, line)
-#define DEFMTL_PLAIN_NAME(n) DEFMTL_STRING(DEFMTL_PLAIN(n, __LINE__)) ":\n"
-#define DEFMTL_SYMBOL(n) DEFMTL_PLAIN(n, __LINE__)
-#if defined(__PIC__) && !defined(__PIE__) /* which takes no such operand: no statement in a template within a namespace */
-#define DEFMTL_ALIAS(n)
-#else
-#define DEFMTL_ALIAS(n)                                                                                                \
-    __asm__(".ifndef %c0\n\t.set %c0, " DEFMTL_STRING(DEFMTL_PLAIN(n, __LINE__)) "\n\t.endif" : : "i"(&DEFMTL_SYMBOL(n)));
-#endif
-#else
-#define DEFMTL_PLAIN_NAME(n)
-#define DEFMTL_SYMBOL(n) defmtl_entry_##n
-#define DEFMTL_ALIAS(n)
-#endif
+#define DEFMTL_PLACED(part, label, plain)                                                                              \
+    ".pushsection .defmt." part ",\"\"," DEFMTL_PROGBITS "\n\t.ifndef " label "\n" label ":\n" plain "\t.byte 0\n\t.endif\n\t.popsection\n\t"
 #define DEFMTL_ENTRY(n, tag, part, text) DEFMTL_ENTRY_(n, part, DEFMTL_LABEL(n, tag, text))
-#define DEFMTL_ENTRY_(n, part, label)                                                                                  \
-    extern const char DEFMTL_SYMBOL(n) __asm__(label);                                                                 \
-    __asm__(".pushsection .defmt." part ",\"\"," DEFMTL_PROGBITS "\n\t.ifndef " label "\n" label ":\n"                 \
-            DEFMTL_PLAIN_NAME(n) "\t.byte 0\n\t.endif\n\t.popsection");                                               \
-    DEFMTL_ALIAS(n)                                                                                                    \
-    DEFMTL_KEEP_INDEX(n)
 
+#if !defined(__cplusplus) && (defined(__arm__) || defined(__aarch64__))
+
+#define DEFMTL_INDEX_OF(n) &defmtl_entry_##n
+#define DEFMTL_ENTRY_(n, part, label)                                                                                  \
+    extern const char defmtl_entry_##n __asm__(label);                                                                 \
+    __asm__(DEFMTL_PLACED(part, label, ""));
+
+#elif !defined(__cplusplus) && (defined(__x86_64__) || (defined(__i386__) && !defined(__PIC__)))
+
+#ifdef __PIC__
+#define DEFMTL_NEAR __attribute__((visibility("hidden"))) /* else it would be no operand */
+#else
+#define DEFMTL_NEAR
+#endif
+#define DEFMTL_INDEX_OF(n) defmtl_index_##n
+#define DEFMTL_ENTRY_(n, part, label)                                                                                  \
+    extern const char defmtl_entry_##n __asm__(label) DEFMTL_NEAR;                                                     \
+    const char *defmtl_index_##n;                                                                                      \
+    __asm__ volatile(DEFMTL_PLACED(part, "%c1", "") ".set .Ldefmtl%=, %c1\n\t{movl $.Ldefmtl%=, %k0|mov %k0, offset .Ldefmtl%=}" \
+                     : "=r"(defmtl_index_##n) : "i"(&defmtl_entry_##n));
+
+#else
+
+/* In a template g++ forgets the name that a declaration has for the assembler, and takes the one of C++, with the namespaces that stand
+ * round it: the operand %c0, which is the name that g++ takes, is set to the plain one where it is another. Where -flto brings two files
+ * together that have a statement of the same number on the same line, the assembler tells that the plain name is there already: then give
+ * each file a DEFMTL_UNIT of its own. */
+#define DEFMTL_PLAIN__(n, line, unit) defmtl_entry_##n##_##line##_##unit
+#define DEFMTL_PLAIN_(n, line, unit) DEFMTL_PLAIN__(n, line, unit)
+#define DEFMTL_PLAIN(n) DEFMTL_PLAIN_(n, __LINE__, DEFMTL_UNIT)
+#define DEFMTL_INDEX_OF(n) &DEFMTL_PLAIN(n)
+#if !defined(__cplusplus) || (defined(__PIC__) && !defined(__PIE__)) /* which takes no such operand: no statement in a template within a namespace */
+#define DEFMTL_ALIAS(n)
+#else
+#define DEFMTL_ALIAS(n) __asm__(".ifndef %c0\n\t.set %c0, " DEFMTL_STRING(DEFMTL_PLAIN(n)) "\n\t.endif" : : "i"(&DEFMTL_PLAIN(n)));
+#endif
+#define DEFMTL_ENTRY_(n, part, label)                                                                                  \
+    extern const char DEFMTL_PLAIN(n) __asm__(DEFMTL_STRING(DEFMTL_PLAIN(n)));                                         \
+    __asm__(DEFMTL_PLACED(part, label, DEFMTL_STRING(DEFMTL_PLAIN(n)) ":\n"));                                         \
+    DEFMTL_ALIAS(n)
+
+#endif
 #endif
 
 #ifndef DEFMTL_ISTR_ENTRY
@@ -106,4 +121,4 @@ template <int n, class place> struct first<n, place, true> {
 
 /* Each file names its profile, so that a host reads the firmware by it, and refuses one whose files differ in it. */
 #define DEFMTL_MARKER "\"_defmt_profile_ = " DEFMTL_STRING(DEFMTL_PROFILE) "\""
-__asm__(".weak " DEFMTL_MARKER "\n\t.set " DEFMTL_MARKER ", 1");
+__asm__(".set " DEFMTL_MARKER ", 1");

@@ -4,3 +4,4 @@ SECTIONS
     INCLUDE defmtl.ld
 }
 INSERT AFTER .comment;
+ASSERT(__executable_start != 0, "defmtl: link with -no-pie, since an index is an address")

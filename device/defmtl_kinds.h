@@ -40,16 +40,24 @@
 #define DEFMTL_ARRAY 10
 
 /* ---- what the compiler tells */
-#define DEFMTL_TOLD_NUMBER "defmtl: the text's parameters and the arguments differ in number, or in C a position stands too often (README.md, Limits)"
-#define DEFMTL_TOLD_TEXT "defmtl: the text is no format string: look at its braces, kinds and hints"
+#ifdef __cplusplus
+#define DEFMTL_TOLD_NUMBER "defmtl: the text's parameters, {=u8} and the like, and the arguments differ in number"
+#define DEFMTL_TOLD_ESCAPES "with escapes of "
+#else
+#define DEFMTL_TOLD_NUMBER \
+    "defmtl: the text's parameters, {=u8} and the like, and the arguments differ in number, or a position stands too often (README.md, Limits)"
+#define DEFMTL_TOLD_ESCAPES "with at most six escapes, of "
+#endif
+#define DEFMTL_TOLD_TEXT "defmtl: the text is no format string: look at its braces, kinds, hints and bits, and that a position has one kind"
 #define DEFMTL_TOLD_SPELLING                                                                                           \
-    "defmtl: the text must be one plain literal without an at sign (write \\u0040) and with at most six escapes, of "   \
-    "\\\" \\\\ \\n \\r \\t \\b \\f \\uHHHH"
+    "defmtl: the text must be one plain literal without an at sign (write \\u0040) and " DEFMTL_TOLD_ESCAPES "\\\" \\\\ \\n \\r \\t \\b \\f \\uHHHH"
 #define DEFMTL_TOLD_MANY "defmtl: a statement takes at most eight arguments"
 #define DEFMTL_TOLD_VARIANTS "defmtl: the text's variants and the lists of arguments differ in number"
 #define DEFMTL_TOLD_ENUM "defmtl: the text of an enum has two variants or more, without braces, parted by bars (in C at most 64)"
+#define DEFMTL_TOLD_ISTR "defmtl: ISTR takes one plain literal without an at sign"
 #define DEFMTL_TOLD_KIND(i)                                                                                            \
-    "defmtl: the " DEFMTL_NTH_##i " argument is of another kind than the text's, or wider (cast it, or use SLICE, FMT, LIST, ISTR, WIDE)"
+    "defmtl: the " DEFMTL_NTH_##i " argument is of another kind than the text's, or wider (cast it, or use SLICE of bytes, FMT or LIST with a " \
+    "pointer to their type, ISTR, WIDE; a {} without a kind, as {=u8} has, asks for FMT)"
 #define DEFMTL_NTH_0 "first"
 #define DEFMTL_NTH_1 "second"
 #define DEFMTL_NTH_2 "third"

@@ -69,6 +69,24 @@ compile_all() {
 }
 judge "the C file, the examples and a source of one's own give no warning, for Cortex-M0, M3, M33 and the host" compile_all
 
+# ---- names of a user's own macros
+
+cat > letters.c << 'EOF'
+#include "defmtl.h"
+struct pair { uint8_t a, b; };
+DEFMTL_FORMAT(struct pair, pair, "{=u8} {=u8}", self->a, self->b)
+DEFMTL_UNION(struct pair, one, self->a, "none|one {=u8}", (), (self->b))
+void say(uint8_t byte, double x, const char *text, const struct pair *pairs);
+void say(uint8_t byte, double x, const char *text, const struct pair *pairs) {
+    LOG_INFO("{0=u8} {0=u8:x} {1=f64} {2=str} {3=istr}", byte, x, text, ISTR("text"));
+    LOG_INFO("{0=0..4} {0=4..8} {1=[u8]} {2=[?]} {3=?} {4=u128}", byte, SLICE(text, 2), LIST(pair, pairs, 2), FMT(one, pairs), WIDE(1, 2));
+}
+EOF
+letters=$(printf -- '-D%s=3 ' {A..Z})
+for row in "gcc -std=c11" "clang -std=c11" "g++ -x c++ -std=c++17" "clang++ -x c++ -std=c++17"; do
+    judge "macros of one capital letter don't harm the library, ${row%% *}" $row $warn $letters -I"$device" -c letters.c -o x.o
+done
+
 # ---- what a host reads of texts, forms and settings
 
 # read_lines WHAT DUE LANGUAGE COMPILER FILE FLAG..: builds a test of one function for the host, and compares its lines
@@ -92,6 +110,44 @@ for compiler in g++ clang++; do
     read_lines "each character and escape in a text, C++ by $compiler" chars.due c++ "$compiler -std=c++17" chars.c
     for level in -O0 -O2; do
         read_lines "templates, members, lambdas and namespaces, C++ by $compiler $level" forms.cc.due c++ "$compiler -std=c++17 $level" "$tests/forms.cc"
+    done
+done
+# dead_code WHAT COMPILER FLAG..: statements in code that never runs link, and those beside them are read
+dead_code() {
+    local what=$1 compiler=$2 c=gcc language="c -std=c11"
+    shift 2
+    case $compiler in *++) language="c++ -std=c++17" ;; esac
+    case $compiler in clang*) c=clang ;; esac
+    $c -std=c11 $host "$@" -c "$device/defmtl.c" -o core.o 2> said && $compiler -x $language $host $warn "$@" -c "$tests/dead.c" -o one.o 2>> said &&
+        $compiler "$@" $host_link one.o core.o -o one 2>> said && ./one > frames && "$program" decode --table one < frames > got 2>> said
+    if [ $? -ne 0 ]; then fail "$what"; tail -n 5 said; else same "$what" dead.due got; fi
+}
+sed -n 's/.*\/\/= //p' "$tests/dead.c" > dead.due
+for compiler in gcc g++ clang clang++; do
+    for level in -O0 -Og -O1 -Os -O2 -O3 "-O2 -flto" "-O1 -fPIE" "-O1 -fPIC"; do
+        case $compiler$level in clang*-flto) echo 'int main(void) { return 0; }' | clang -flto -x c - -o one 2> said || { skip "clang with -flto, whose linker has no plugin"; continue; } ;; esac
+        dead_code "statements in code that never runs, $compiler $level" $compiler $level
+    done
+done
+# files that -flto brings together, with a statement of the same number on the same line
+for name in one two; do printf '#include "defmtl.h"\nvoid %s(void);\nvoid %s(void) { LOG_PRINTLN("%s {=istr}", ISTR("%s")); }\n' $name $name $name $name > $name.c; done
+printf '#include "host.h"\nvoid one(void);\nvoid two(void);\nstatic void all(void) {\n    one();\n    two();\n}\nRUN(all)\n' > both.c
+printf '%s\n' 'one one' 'two two' > both.due
+for compiler in "gcc -x c -std=c11" "g++ -x c++ -std=c++17"; do
+    gcc -std=c11 -O2 -flto $host -c "$device/defmtl.c" -o core.o && for name in one two both; do $compiler -O2 -flto $host $warn -DDEFMTL_UNIT=$name -c $name.c -o $name.o; done &&
+        ${compiler%% *} -O2 -flto $host_link one.o two.o both.o core.o -o both && ./both > frames && "$program" decode --table both < frames > got
+    same "files with the same statement by -flto, ${compiler%% *}" both.due got
+done
+# where an index would be no address, linking fails and says so
+for compiler in gcc clang; do
+    if $compiler -std=c11 -fPIE -I"$device" -I"$tests" "$tests/stamp.c" "$device/defmtl.c" -L"$device" -Wl,-T,"$device/defmtl_host.ld" -pthread -pie -o one > said 2>&1; then
+        fail "$compiler links a process without -no-pie"
+    elif [ $compiler = gcc ] || grep -q 'defmtl: link with -no-pie' said; then pass; else fail "$compiler says what is wrong without -no-pie"; fi
+done
+for compiler in "gcc -x c -std=c11" "g++ -x c++ -std=c++17 -fno-exceptions"; do
+    for level in "-mcpu=cortex-m0 -O0" "-mcpu=cortex-m0 -Os" "-mcpu=cortex-m3 -O0" "-mcpu=cortex-m3 -O2" "-mcpu=cortex-m3 -O2 -flto"; do
+        judge "statements in code that never runs link, arm-none-eabi-$compiler $level" arm-none-eabi-${compiler%% *} -mthumb $level -I"$device" -I"$tests" ${compiler#* } "$tests/dead.c" \
+            -x c -std=c11 "$device/defmtl.c" "$device/examples/startup.c" --specs=nosys.specs -nostartfiles -L"$device" "-Wl,-T,$device/examples/firmware.ld,--defsym,end=0x20008000" -o one.elf
     done
 done
 echo '1.500 INFO  stamped' > stamp.due

@@ -18,6 +18,7 @@ TOLD = {
     "M": "at most eight arguments",
     "V": "variants and the lists",
     "E": "text of an enum",
+    "I": "ISTR takes one plain literal",
 }
 # The message that is due, or + for none; with a letter behind a slash for C alone; and the statement.
 STATEMENTS = r'''
@@ -173,7 +174,27 @@ K LOG_INFO("{=?}", u8);
 + LOG_INFO("{=?} {} {:x}", FMT(point, &a_point), FMT(point, &a_point), FMT(state, &a_state));
 K LOG_INFO("{=[?]}", FMT(point, &a_point));
 + LOG_INFO("{=[?]} {=[?; 1]}", LIST(point, &a_point, 1), LIST(point, &a_point, 1));
++ LOG_INFO("{=[u8]} {=[u8]}", SLICE(text, 3), SLICE(anything, 3));
+K LOG_INFO("{=[u8]}", SLICE(&u16, 1));
+K LOG_INFO("{=[u8]}", SLICE(u32s, 3));
+K LOG_INFO("{=?}", FMT(point, &u32));
+K LOG_INFO("{=?}", FMT(point, &a_pair));
+K LOG_INFO("{=?}", FMT(point, &a_state));
+K LOG_INFO("{=?}", FMT(state, &u64));
+K LOG_INFO("{=?}", FMT(point, anything));
+K LOG_INFO("{=u8} {=[?]}", u8, LIST(point, u32s, 2));
+K LOG_INFO("{=[?]}", LIST(point, &a_pair, 1));
++ LOG_INFO("{=[?]} {=?} {=?}", LIST(number, u32s, 2), FMT(number, u32s), FMT(number, &u32));
++ volatile struct point v = {1, 2}; LOG_INFO("{=?}", FMT(point, &v));
++ struct point *p = &a_point; LOG_INFO("{=?} {=[?]}", FMT(point, p), LIST(point, p, 1));
+K LOG_INFO("{}", u8);
+K LOG_INFO("{:x}", u8);
 + LOG_INFO("{=istr}", ISTR("text"));
++ LOG_INFO("{=istr} {=istr}", ISTR(""), ISTR("q \" \\ \n \t end"));
++ LOG_INFO("{=istr}", u8 ? ISTR("text") : ISTR("other"));
+I LOG_INFO("{=istr}", ISTR(text));
+I LOG_INFO("{=istr}", ISTR("a" "b"));
+I LOG_INFO("{=istr}", ISTR("a@b"));
 K LOG_INFO("x {=istr}", "text");
 S LOG_INFO("x " "y");
 S LOG_INFO("x""y");
@@ -195,6 +216,8 @@ S LOG_INFO(u8"x");
 + LOG_TRACE("a"); LOG_DEBUG("a"); LOG_ERROR("a"); LOG_PRINTLN("a {=u8}", u8);
 + LOG_INFO("{=u8} {=u8} {=u8} {=u8} {=u8} {=u8} {=u8} {=u8}", 1, 2, 3, 4, 5, 6, 7, 8);
 M LOG_INFO("{=u8}", 1, 2, 3, 4, 5, 6, 7, 8, 9);
+M LOG_INFO("{=u8}", 1, 2, 3, 4, 5, 6, 7, 8, 9, 10, 11, 12, 13, 14, 15, 16, 17);
+M LOG_INFO("{=u8}", u8, u8, u8, u8, u8, u8, u8, u8, u8, u8, u8, u8, u8, u8, u8, u8, u8, u8, u8, u8, u8, u8, u8, u8, u8, u8, u8, u8, u8, u8, u8, u8, u8, u8, u8, u8, u8, u8, u8, u8, u8);
 '''
 # Declarations, each outside of functions.
 DECLARATIONS = r'''
@@ -203,6 +226,9 @@ N DEFMTL_FORMAT(struct pair, pair2, "{=u8}", self->a, self->b)
 K DEFMTL_FORMAT(struct pair, pair3, "{=u8} {=str}", self->a, self->b)
 T DEFMTL_FORMAT(struct pair, pair4, "a|b {=u8}", self->a)
 S DEFMTL_FORMAT(struct pair, pair5, "a@{=u8}", self->a)
+M DEFMTL_FORMAT(struct pair, pair6, "{=u8}", 1, 2, 3, 4, 5, 6, 7, 8, 9)
+K DEFMTL_FORMAT(struct pair, pair7, "{=?}", FMT(point, &self->a))
+M DEFMTL_UNION(struct pair, union5, self->a, "Dot|Ring({=u8})", (), (1, 2, 3, 4, 5, 6, 7, 8, 9))
 E DEFMTL_ENUM(enum state, state1, "One")
 E DEFMTL_ENUM(enum state, state2, "One|{=u8}")
 + DEFMTL_ENUM(enum state, state3, "One|Two|Three|Four|Five|Six|Seven|Eight|Nine|Ten")
@@ -213,9 +239,10 @@ K DEFMTL_UNION(struct pair, union4, self->a, "Dot|Ring({=str})", (), (self->b))
 '''
 HEAD = r'''#include "defmtl.h"
 extern uint8_t u8, bytes[4], many[140]; extern uint16_t u16; extern uint32_t u32; extern uint64_t u64; extern int8_t i8; extern int16_t i16; extern int32_t i32;
-extern const char *text; extern const uint8_t *pointer; extern const void *anything;
+extern uint32_t u32s[4]; extern const char *text; extern const uint8_t *pointer; extern const void *anything;
 struct point { int16_t x, y; }; enum state { one, two }; struct pair { uint8_t a, b; };
-extern struct point a_point; extern enum state a_state;
+extern struct point a_point; extern enum state a_state; extern struct pair a_pair;
+DEFMTL_FORMAT(uint32_t, number, "{=u32}", *self)
 DEFMTL_FORMAT(struct point, point, "Point {{ x: {=i16}, y: {=i16} }}", self->x, self->y)
 DEFMTL_ENUM(enum state, state, "One|Two")
 #define TWICE(x) do { x; x; } while (0)
