@@ -3,7 +3,7 @@
 
     tests/clauses.py [CHECKOUT]
 
-The pages are README.md, docs/*.md, docs/generated/*.md, device/README.md, crates/README.md and crates/NAME/README.md, of which each crate has one.
+The pages are README.md, docs/*.md, docs/generated/*.md, device/README.md, device/ANSWERS.md, crates/README.md and crates/NAME/README.md, of which each crate has one.
 Checked are
 
 - of crates/NAME/README.md and docs/PROOFS.md, the columns 'Where', 'Clause' and 'Clause that says so', the sections 'Wrong bodies', and the columns
@@ -206,7 +206,7 @@ def main():
         contracts.check_tables(path)
         contracts.check_bodies(path)
     check_read_first()
-    for path in [*pages, "README.md", "crates/README.md", "device/README.md", *sorted(os.path.relpath(it, top) for it in glob.glob(f"{top}/docs/**/*.md", recursive=True))]:
+    for path in [*pages, "README.md", "crates/README.md", "device/README.md", "device/ANSWERS.md", *sorted(os.path.relpath(it, top) for it in glob.glob(f"{top}/docs/**/*.md", recursive=True))]:
         check_links(path)
     check_limits()
     if top == TOP:

@@ -231,7 +231,7 @@ if command -v script > /dev/null; then
     on_terminal say 8 'too long'
     has 'an input that is too long' "$said" 'defmtl: an input has more bytes than are read'
     on_terminal say 9 'events with faults 3'
-    has 'faults' "$said" 'defmtl: so many events are no lines'
+    has 'faults' "$said" 'defmtl: so many pieces could not be read'
     on_terminal say 10 'control cause 4 place 1'
     has 'an image' "$said" 'The offsets or the flags of descriptor P'
     is 'the status of a refusal' "$status" 10
@@ -315,7 +315,7 @@ call
 is 'no words where nothing was built' "$status $(calls)" '2 0'
 is 'and the answer behind the page' "${said##*$'\n'}" 'words'
 call --version
-is 'the version where nothing was built' "$status $(calls) $wrote" '0 0 defmtl, which is not built yet'
+is 'the version where nothing was built' "$status $(calls) $wrote" '0 0 defmtl, of which no proved program is built yet'
 begin 0.1
 call --install "$work/prefix"
 is 'an installation builds what is not built' "$status $(proofs)" "0 $all_crates"

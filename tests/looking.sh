@@ -46,12 +46,13 @@ fi
 
 if can "a log in lnav" jq lnav; then
     "$top/tools/for-lnav" < log.json > dated.json
-    due "each object has a time and a text" "$(grep -c '' log.json)" "$(jq -r 'select((.target_timestamp | test("^2000-01-01T00:00:0[0-3][.][0-9]+Z$")) and (.data | type == "string")) | .event' dated.json | grep -c '')"
-    due "a fault has the time of the line in front of it" '2000-01-01T00:00:02.500000Z E1 Cobs' "$(jq -r 'select(.event == "fault") | .target_timestamp + " " + .data' dated.json)"
+    due "each object has a time and a text" "$(grep -c '' log.json)" "$(jq -r 'select((.time | test("^2000-01-01T00:00:0[0-3][.][0-9]+Z$")) and (.data | type == "string")) | .event' dated.json | grep -c '')"
+    due "a fault has the time of the line in front of it" '2000-01-01T00:00:02.500000Z E1 Cobs' "$(jq -r 'select(.event == "fault") | .time + " " + .data' dated.json)"
     mkdir -p look/formats/defmtl && cp "$top/tools/lnav/defmtl.json" look/formats/defmtl/
     ask() { timeout 60 lnav -n -I look "$@" dated.json 2>&1; }
     due "lnav counts the lines by level and package" "critical - 3 debug motor 20 error net 4 info motor 1 info net 16" \
         "$(ask -c ';select log_level, package, count(*) from defmtl_log group by log_level, package order by log_level collate binary' | tail -n +2 | xargs)"
+    due "lnav takes no object without that time" "0" "$(timeout 60 lnav -n -I look -c ';select count(*) from defmtl_log' log.json 2>&1 | grep -cE '^ *[1-9]')"
     due "lnav filters by level" "3 4" "$(ask -c ':set-min-log-level error' | awk '/FAULT/ { a++ } /ERROR/ { b++ } END { print a, b }')"
     due "lnav filters by package" "20" "$(ask -c ":filter-expr :package = 'net'" | grep -c ' net ')"
     due "lnav searches" "00:00:03.700 INFO  net      count 37" "$(ask -c ':filter-in count 37' | grep 'count 37')"
@@ -60,7 +61,7 @@ fi
 
 if [ $# -eq 1 ] && can "what run --json writes" jq; then
     if "$program" run --json < "$top/examples/hello.defmtl" > run.json 2> said; then
-        due "what run --json writes is taken" "$(grep -c '' run.json)" "$("$top/tools/for-lnav" < run.json | jq -r 'select(.target_timestamp and .data) | .event' | grep -c '')"
+        due "what run --json writes is taken" "$(grep -c '' run.json)" "$("$top/tools/for-lnav" < run.json | jq -r 'select(.time and .data) | .event' | grep -c '')"
     else
         skip "what run --json writes: the program has no --json"
     fi

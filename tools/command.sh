@@ -15,7 +15,7 @@ show() {
 }
 
 show_version() {
-    if [ -r "$program.version" ]; then cat "$program.version"; elif [ -x "$program" ]; then echo defmtl; else echo 'defmtl, which is not built yet'; fi
+    if [ -r "$program.version" ]; then cat "$program.version"; elif [ -x "$program" ]; then echo defmtl; else echo 'defmtl, of which no proved program is built yet'; fi
 }
 
 # Ends the call where words ask for help or the version.
