@@ -37,7 +37,7 @@ none=$(spent /dev/null) && alone=$(spent "$work/recording") && beside=$(spent "$
 echo "$mib MiB, $((copies * 4096)) lines: ${alone% *} s without --jobs, ${beside% *} s with --jobs $jobs; peak memory ${alone#* }, ${beside#* } KiB"
 [ "$one" = "$many" ] || { echo "the lines of many threads are others"; worst=1; }
 
-# A block of a mebibyte a thread, and its lines, in buffers that grow by doubling.
+# At most a mebibyte of blocks a thread, and their lines, in buffers that grow by doubling.
 most=$(printf '%s\n' "$one" | awk -v jobs="$jobs" -v bytes="$(wc -c < "$work/recording")" '{ printf "%d", 2 * jobs * 1024 * (1 + $2 / bytes) }')
 judge "the part of the seconds that is left" "$(ratio "${alone% *}" "${beside% *}")" "$(awk -v jobs="$jobs" 'BEGIN { printf "%.4f", 1 / (0.8 * jobs) }')"
 judge "the memory above that of none, in KiB" $((${beside#* } - ${none#* })) "$most"

@@ -63,7 +63,7 @@ printf '%-44s %10s %10s\n' function calls "a call"
 row "$work/recorded" defmt_encode::framing::frame
 row "$work/recorded" rtt_modes::modes::send_front; sending=$cost
 row "$work/recorded" defmt_logger::logging::LoggingWorkEachStatement::step; step=$cost
-row "$work/decoded" rzcobs_core::decoder::decode_zeroless_to_end; frames=${counts% *}
+row "$work/decoded" rzcobs_core::decoder::decode_front_to_end; frames=${counts% *}
 row "$work/decoded" defmt_listen::part::hear_part; part=$cost parts=${counts% *}
 
 due "instructions from a statement to its frame" "${step:+$((step - ${sending:-0}))}" 600

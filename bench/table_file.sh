@@ -19,7 +19,7 @@ for count in 1000 2000; do strings "$count" > "$work/script.$count" && "$program
 few=$(counted table < "$work/script.1000") && many=$(counted table < "$work/script.2000") || exit 1
 judge "instructions of table a string, with the reading of its line" $(((many - few) / 1000)) 12000
 few=$(counted decode --table "$work/1000.elf" < /dev/null) && many=$(counted decode --table "$work/2000.elf" < /dev/null) || exit 1
-judge "instructions of decode a string of its table" $(((many - few) / 1000)) 13000
+judge "instructions of decode a string of its table" $(((many - few) / 1000)) 10000
 
 need perl time
 
