@@ -107,6 +107,9 @@ pub fn fetch_all<F: Shelf>(
 // The least number of bytes that are asked for at a time, unless the limit allows fewer.
 const PIECE: usize = 8192;
 
+// The room that is taken at first, unless the limit allows fewer: most inputs fit, and aren't moved as the buffer grows.
+const ROOM: usize = 131_072;
+
 // Makes a full buffer longer: by an eighth, so that few bytes are cleared in vain, but by a piece at least, and at most one byte
 // longer than the limit.
 fn grow(buf: &mut Vec<u8>, limit: usize) -> Result<(), Memory>
@@ -117,6 +120,9 @@ fn grow(buf: &mut Vec<u8>, limit: usize) -> Result<(), Memory>
 {
     let len = buf.len();
     let more = (len / 8).max(PIECE).min(limit + 1 - len);
+    if len == 0 {
+        buf.reserve(ROOM.min(limit + 1))?;
+    }
     buf.resize(len + more, 0)?;
     Ok(())
 }
