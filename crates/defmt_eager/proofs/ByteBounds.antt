@@ -1,5 +1,6 @@
 -- How long shown bytes are at most.
 use Rattle.std.proofs.Common.{◌≡◌, ◌≤◌, ◌<◌, ◌+◌, ◌*◌, ℕ, suc, false, get_or, List, [], ◌∷◌, ◌++◌, length, map, Option, Some, None, arith, length-append, ◌∙◌, ap}
+use Rattle.std.proofs.Math.Nat.{mul-le-mul_left}
 use Rattle.std.specs.List.{flat_map}
 use Rattle.std.specs.Prelude.{codes, ◌&&◌, nat_le, is_some, if◌then◌else◌}
 use Rattle.defmt_grammar.specs.declared.hint.Hint.{Hint}
@@ -67,3 +68,9 @@ pub bytes_bound : (hint : Hint) (bytes : List ℕ) (each bound : ℕ) → AreByt
 bytes_bound hint bytes each bound small e h few =
     let k : bound ≡ length bytes * (2 + most_bytes hint) + 3 = h few ∙ ap (λ (n : ℕ). length bytes * (2 + n) + 3) e in
     omega (arith, k, bytes_most hint bytes small)
+
+pub any_bytes : (hint : Hint) (bytes : List ℕ) (bound : ℕ) → AreBytes bytes → (bound ≤ printed_limit → bound ≡ length bytes * 557 + 3) → bound ≤ printed_limit → most_bytes hint ≤ 555
+    → length (printed_bytes bytes hint) ≤ bound
+any_bytes hint bytes bound small h few narrow =
+    let each : 2 + most_bytes hint ≤ 557 = omega (arith, narrow) in
+    omega (arith, h few, bytes_most hint bytes small, mul-le-mul_left (length bytes) each)

@@ -7,3 +7,4 @@ mod PieceBounds
 mod RoomSizes
 mod StampParts
 pub mod Utf8
+mod Whole

@@ -2,16 +2,17 @@
 use Rattle.std.specs.Prelude.{◌≡◌, ◌≤◌, ◌<◌, ◌⊎◌, ℕ, ◌+◌, List, [], ◌++◌, Bool, codes, length, Option, Some, None, Result, Ok, Err, if◌then◌else◌}
 use Rattle.std.specs.Str.{IsUtf8}
 use Rattle.defmt_eager.specs.Line.{printed_limit, stamp_text, front_text, front_sizes, eager_line, IsLong, IsWide}
-use Rattle.defmt_eager.specs.Show.{eager_text}
+use Rattle.defmt_eager.specs.Show.{eager_text, show_val}
 use Rattle.defmt_eager.specs.declared.eager.EagerFault.{EagerFault}
 use Rattle.defmt_eager.specs.declared.eager.EagerFault.TheVariants.{Wide, Memory}
 use Rattle.defmt_eager.specs.declared.front.Front.{Front}
 use Rattle.defmt_grammar.specs.declared.hint.Hint.{Hint}
 use Rattle.defmt_grammar.specs.declared.hint.Hint.TheVariants as hints
+use Rattle.defmt_grammar.specs.declared.kind.Kind.{Kind}
 use Rattle.defmt_grammar.specs.declared.text.Text.{Text}
 use Rattle.defmt_hints.specs.Written.{Full, Kept, Written}
 use Rattle.defmt_intern.specs.Table.{Map}
-use Rattle.defmt_values.specs.Plain.{Vals}
+use Rattle.defmt_values.specs.Plain.{Val, Vals, no_vals, val}
 
 -- the text of a statement, which is within the limit; that it isn't; or want of memory
 abbrev pub GivesText : Result Text EagerFault → Map → ℕ → Vals → Type 0
@@ -95,3 +96,13 @@ abbrev pub most_bytes : Hint → ℕ
 most_bytes (hints.Radix base alt width) = 300 + width
 most_bytes (hints.Pad width) = 300 + width
 most_bytes hint = 300
+
+-- the text of the value has at most so many bytes, under each hint whose width has one byte
+abbrev pub HasAtMost : Map → Val → ℕ → Type 0
+HasAtMost t v n =
+    (kind : Kind) (hint : Hint) → most_bytes hint ≤ 555 → length (show_val t v kind hint) ≤ n
+
+-- the same of each of these values
+abbrev pub HaveAtMost : Map → Vals → ℕ → Type 0
+HaveAtMost t no_vals n = Unit {0}
+HaveAtMost t (val v vs) n = HasAtMost t v n × HaveAtMost t vs n

@@ -1,21 +1,22 @@
 //! Whether the text of a statement is too long.
 ghost use Rattle.std.specs.Prelude.{◌≡◌, ◌≤◌, ◌+◌, ◌*◌, nat_lt, length, IfOk};
 ghost use Rattle.std.specs.Bool.{OnTrue};
-ghost use Rattle.defmt_eager.specs.Answers.{most_bytes};
+ghost use Rattle.defmt_eager.specs.Answers.{HasAtMost, HaveAtMost, most_bytes};
 ghost use Rattle.defmt_eager.specs.Line.{printed_limit};
 ghost use Rattle.defmt_eager.specs.Show.{acting, eager_text, interned_text, node_pieces, piece_text, pieces_text, show_elems, show_nodes, show_val, shows};
 ghost use Rattle.defmt_grammar.specs.declared.hint.Hint.{Hint as AnyHint};
 ghost use Rattle.defmt_grammar.specs.declared.kind.Kind.{Kind as AnyKind};
 ghost use Rattle.defmt_hints.specs.Printed.{list_text, printed_bytes, printed_str};
+ghost use Rattle.defmt_intern.specs.Table.{Map as AnyTable};
 ghost use Rattle.defmt_values.specs.Entries.{look};
 ghost use Rattle.defmt_values.specs.Fits.{Fits};
 ghost use Rattle.defmt_values.specs.View.{plain};
 
 use crate::eager::{EagerFault, PRINTED_LIMIT, text_of};
-use crate::pieces::{acting, interned_text, node_pieces, own_pieces};
+use crate::pieces::{acting, interned_text, node_pieces, pieces_of};
 use defmt_grammar::{Hint, Piece};
 use defmt_intern::Table;
-use defmt_values::{Args, Items, Node, Nodes, Statement, Value, cut};
+use defmt_values::{Args, Items, Node, Nodes, Statement, Value, cut, look_up};
 use dl_io::Memory;
 use std::alloc::Global;
 
@@ -33,15 +34,6 @@ pub(crate) fn most_bytes(hint: Hint) -> usize
 // The same under any hint.
 const NUMBER_MOST: usize = 555;
 
-// No fewer bytes than a number, a truth value or a character has under the hint that acts on it, the same for each of them.
-#[inline(always)]
-fn number_bound(outer: Hint, own: Hint) -> usize
-    ensures { most_bytes (acting outer own) ≤ result }
-{
-    let _most = most_bytes(acting(outer, own));
-    NUMBER_MOST
-}
-
 // The bytes of so many parts, and three around them. Sums stay at the greatest number: a bound above the limit says
 // nothing.
 fn bytes_of(parts: usize, most: usize) -> usize
@@ -57,6 +49,14 @@ fn bytes_bound(bytes: &[u8], hint: Hint) -> usize
     bytes_of(bytes.len(), 2 + most_bytes(hint))
 }
 
+// The same under any hint of a parameter.
+fn any_bytes_bound(bytes: &[u8]) -> usize
+    ensures { (hint : AnyHint) → result ≤ printed_limit → most_bytes hint ≤ 555
+        → length (printed_bytes bytes.now hint) ≤ result }
+{
+    bytes_of(bytes.len(), 2 + NUMBER_MOST)
+}
+
 // No fewer bytes than an interned string has, under any hint.
 #[inline(never)]
 fn interned_bound(table: &Table, index: u16) -> usize
@@ -66,23 +66,33 @@ fn interned_bound(table: &Table, index: u16) -> usize
     bytes_of(interned_text(table, index).len(), 2)
 }
 
+// No fewer bytes than the text of a value has under any hint. Of one that names an entry nothing is said.
+#[inline(always)]
+#[tactic(auto, unfolding(crate::specs::Show::show_val), using(crate::proofs::Bounds::leaves))]
+fn leaf_bound(value: &Value) -> usize
+    ensures { (table : AnyTable) → result ≤ printed_limit
+        → HasAtMost table (plain value.now) result }
+{
+    match value {
+        Value::Uint(n) | Value::Bits(n) => {
+            let _number = *n;
+            NUMBER_MOST
+        }
+        Value::Int(_) | Value::Bool(_) | Value::Char(_) | Value::Float(_) => NUMBER_MOST,
+        Value::Str(text) => bytes_of(text.len(), 2),
+        Value::Bytes(bytes) => any_bytes_bound(bytes.as_slice()),
+        Value::Istr(_) | Value::Format(_) | Value::Seq(_) | Value::Sequence(_) => usize::MAX,
+    }
+}
+
 // No fewer bytes than the text of a value has, which isn't printed, under the hint that acts on its parameter.
 #[cycle(bound)]
 #[inline(always)]
-#[tactic(auto, unfolding(crate::specs::Show::show_val), using(crate::proofs::Bounds::leaves))]
 fn value_bound(table: &Table, outer: Hint, own: Hint, value: &Value) -> usize
     ensures { (kind : AnyKind) → result ≤ printed_limit
         → length (show_val table.now.entries (plain value.now) kind (acting outer own)) ≤ result }
 {
     match value {
-        Value::Uint(n) | Value::Bits(n) => {
-            let _number = *n;
-            number_bound(outer, own)
-        }
-        Value::Int(_) | Value::Bool(_) | Value::Char(_) | Value::Float(_) => {
-            number_bound(outer, own)
-        }
-        Value::Str(text) => bytes_of(text.len(), 2),
         Value::Bytes(bytes) => bytes_bound(bytes.as_slice(), acting(outer, own)),
         Value::Istr(index) => interned_bound(table, *index),
         Value::Format(node) => node_bound(table, acting(outer, own), node),
@@ -91,6 +101,10 @@ fn value_bound(table: &Table, outer: Hint, own: Hint, value: &Value) -> usize
             list_bound(table, acting(outer, own), index, &seq.items)
         }
         Value::Sequence(nodes) => nodes_bound(table, acting(outer, own), nodes),
+        _ => {
+            let _most = most_bytes(acting(outer, own));
+            leaf_bound(value)
+        }
     }
 }
 
@@ -172,16 +186,42 @@ fn nodes_bound(table: &Table, hint: Hint, nodes: &Nodes) -> usize
     most
 }
 
+// No fewer bytes than the text of each of these values has under any hint.
+fn longest(args: &Args) -> usize
+    ensures { (table : AnyTable) → result ≤ printed_limit → HaveAtMost table args.now result }
+{
+    let mut rest = args.as_slice();
+    let mut most = 0usize;
+    'each: while let Some((value, more)) = cut(rest) {
+        most = most.max(leaf_bound(value));
+        rest = more;
+    }
+    most
+}
+
 // Whether the bounds of its pieces keep the text of a statement within the limit.
+#[inline(never)]
+fn are_short(table: &Table, pieces: &[Piece], args: &Args) -> bool
+    ensures { OnTrue result (length (pieces_text Hint.Plain pieces.now
+        (shows table.now.entries args.now)) ≤ printed_limit) }
+{
+    pieces_bound(table, Hint::Plain, pieces, args) <= PRINTED_LIMIT
+}
+
+// Whether bounds keep the text of a statement within the limit: mostly its entry's text, and the longest of its values at
+// each of its pieces, and else a bound of each piece.
 fn is_short(table: &Table, index: u16, args: &Args) -> bool
     ensures { OnTrue result (length (eager_text table.now.entries index args.now) ≤ printed_limit) }
 {
-    let pieces = own_pieces(table, index);
-    let most = pieces_bound(table, Hint::Plain, pieces, args);
-    if most > PRINTED_LIMIT {
-        return false;
+    let Some((entry, body)) = look_up(table, index) else {
+        return true;
+    };
+    let pieces = pieces_of(body);
+    let values = pieces.len().saturating_mul(longest(args));
+    if values.saturating_add(entry.text.len()) <= PRINTED_LIMIT {
+        return true;
     }
-    true
+    are_short(table, pieces, args)
 }
 
 /// Whether the text of a statement that fits the table has more than 65,536 bytes. It is printed only where bounds on

@@ -1,15 +1,14 @@
 use Rattle.std.proofs.Common.{◌≡◌, ◌≤◌, ◌+◌, arith, ap, false, length}
 use Rattle.defmt_values.specs.View.{plain}
 use Rattle.defmt_eager.specs.Line.{printed_limit}
-use Rattle.defmt_eager.specs.Show.{acting, shows, show_val, show_elems, text_hint}
+use Rattle.defmt_eager.specs.Show.{acting, shows, show_val, show_elems}
 use Rattle.defmt_eager.proofs.Appends.{pieces_none, elems_none, elems_smaller, nodes_none, nodes_smaller, size_get}
-use Rattle.defmt_eager.proofs.Bounds.{str_most}
 use Rattle.defmt_eager.proofs.PieceBounds.{none_taken, some_bound, piece_more, elem_more, node_more, list_few, index_is}
 use Rattle.defmt_eager.proofs.wide.+bound.Goals as goal
 
-pub value_bound-returns-in-Str : goal.value_bound-returns-in-Str
-unfolding show_val
-value_bound-returns-in-Str t c = λ kind few. rw c.in-Str.is (omega (arith, c.bytes_of.ensures few, str_most c.in-Str.text (text_hint kind (acting c.args.outer c.args.own))))
+pub value_bound-returns-in_default : goal.value_bound-returns-in_default
+value_bound-returns-in_default t c = λ kind few.
+    c.leaf_bound.ensures c.args.table.now.entries few kind (acting c.args.outer c.args.own) (rw (c.most_bytes-most.ensures.value, c.acting-in_default.ensures) at c.most_bytes-most.ensures.few)
 
 pub value_bound-returns-in-Bytes : goal.value_bound-returns-in-Bytes
 unfolding show_val
