@@ -13,9 +13,10 @@ ghost use Rattle.rtt_terminal.specs.Speech.{count_texts, texts_limit};
 ghost use Rattle.rtt_terminal.specs.Stream.{IsSayable};
 
 use crate::fault::LineFault;
-use crate::parts::{arguments_of, is_long, is_message, is_wide};
+use crate::parts::{is_long, is_message, is_wide};
 use crate::reading::Reading;
 use defmt_lines::{ActionLine, Cause, Form};
+use defmt_spelling::{ArgFault, read_args};
 use defmt_values::Statement;
 use dl_io::Memory;
 use rtt_terminal::{is_sayable, terminal_named};
@@ -124,9 +125,10 @@ impl Reading {
             Ok(admitted) => admitted,
             Err(cause) => return Err(LineFault::Refused(cause)),
         };
-        match arguments_of(self.alloc, &self.names, &self.table, index, args)? {
+        match read_args(self.alloc, &self.names, &self.table, index, args) {
             Ok(args) => self.put_statement(writer, Statement { index, args }),
-            Err(inner) => Err(LineFault::Refused(Cause::Args(inner))),
+            Err(ArgFault::Refused { cause }) => Err(LineFault::Refused(Cause::Args(cause))),
+            Err(ArgFault::Memory) => Err(LineFault::Memory),
         }
     }
 

@@ -13,15 +13,13 @@ ghost use Rattle.defmt_script.specs.Lawful.{first_message};
 ghost use Rattle.defmt_script.specs.Reads.{is_message};
 ghost use Rattle.defmt_script.specs.Script.{base_of};
 ghost use Rattle.defmt_script.specs.State.{entry_at, no_statements, table_behind};
-ghost use Rattle.defmt_spelling.specs.Spelling.{ReadsArguments};
 ghost use Rattle.defmt_values.specs.Fits.{Fits};
 
 use crate::script::Statements;
 use defmt_grammar::{Language, Text};
 use defmt_intern::{Entry, Parsed, Profile, Table, TableFault, Tag};
 use defmt_lines::{Form, Settings};
-use defmt_spelling::{ArgFault, Names, read_args};
-use defmt_values::{Args, Statement, is_logged};
+use defmt_values::{Statement, is_logged};
 use dl_io::Memory;
 use rtt_terminal::WRITERS;
 use std::alloc::Global;
@@ -114,25 +112,6 @@ pub(crate) fn is_message(table: &Table, index: u16) -> bool
     match table.get(index) {
         Some(entry) => is_logged(&entry.tag),
         None => false,
-    }
-}
-
-// The arguments that a text spells, or the cause why it spells none.
-pub(crate) fn arguments_of(
-    alloc: Global,
-    names: &Names,
-    table: &Table,
-    index: u16,
-    text: &str,
-) -> Result<Result<Args, u8>, Memory>
-    ensures reads { IfOk result
-        (λ args. ReadsArguments names.now table.now.entries index text.now args) }
-    ensures fits { IfOk result (λ read. IfOk read (λ args. Fits table.now.entries index args)) }
-{
-    match read_args(alloc, names, table, index, text) {
-        Ok(args) => Ok(Ok(args)),
-        Err(ArgFault::Refused { cause }) => Ok(Err(cause)),
-        Err(ArgFault::Memory) => Err(Memory),
     }
 }
 

@@ -241,8 +241,8 @@ impl Script {
         &self.names
     }
 
-    // The statements of a writer, none for a number above 7.
-    fn statements(&self, writer: u8) -> &[Statement]
+    /// The statements of a writer, none for a number above 7. Takes no memory.
+    pub fn statements(&self, writer: u8) -> &[Statement]
         ensures { result.now ≡ statements_by self.now writer }
     {
         match self.writers.get(usize::from(writer)) {
