@@ -79,11 +79,9 @@ impl Sites {
         ensures all { OnOk result (HaveSites self.new (statements_by script.now writer)) }
     {
         script.lawful();
-        for place in 0..script.count(writer) {
-            let Some(statement) = script.statement(writer, place) else {
-                unreachable!()
-            };
-            self.add(alloc, script.table(), statement.index)?;
+        let statements = script.statements(writer);
+        for place in 0..statements.len() {
+            self.add(alloc, script.table(), statements[place].index)?;
         }
         Ok(())
     }
