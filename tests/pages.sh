@@ -1,6 +1,6 @@
 #!/bin/bash
 # Makes the pages of the words by tools/pages, and sees that docs/ has just these: what `defmtl help` shows, the page of the manual and the completion;
-# and that their table, docs/options.txt, has the parameters which the program reads, as crates/defmt_words/src/job.rt lists them.
+# and that their table, docs/options.txt, has the parameters which the program reads, as crates/defmt_words/src/job.rt and style.rt list them.
 #
 #   tests/pages.sh
 #
@@ -12,10 +12,10 @@ mkdir "$work/docs" && "$top/tools/pages" "$work/docs" || exit 2
 for it in commands.txt defmtl.1 defmtl.completion; do same "docs/$it isn't what tools/pages makes of docs/options.txt" "$work/docs/$it" "$top/docs/$it"; done
 
 # A parameter's name, its kind, the commands that take it and those that need it
-python3 - "$top/crates/defmt_words/src/job.rt" > "$work/due" << 'PYTHON'
+python3 - "$top"/crates/defmt_words/src/{job,style}.rt > "$work/due" << 'PYTHON'
 import re, sys
 
-text = open(sys.argv[1], encoding="utf-8").read()
+text = "".join(open(it, encoding="utf-8").read() for it in sys.argv[1:])
 row = r'name: "([a-z-]+)",\s*kind: Kind::(\w+),\s*taken: &\[([^]]*)\],\s*needed: &\[([^]]*)\],'
 words = lambda those: ",".join(sorted(re.findall(r'"(\w+)"', those))) or "-"
 rows = [f"{name} {kind} {words(taken)} {words(needed)}" for name, kind, taken, needed in re.findall(row, text) if kind != "Place"]

@@ -8,13 +8,13 @@ use Rattle.defmt_plan.specs.declared.message.Parts.{Parts}
 use Rattle.defmt_recording.specs.Styled.{statement_text}
 use Rattle.defmt_values.specs.Plain.{Vals}
 use Rattle.defmt_values.specs.declared.value.Statement.{Statement}
-use Rattle.defmt_words.specs.declared.style.Form.{Form}
+use Rattle.defmt_words.specs.declared.style.Style.{Style}
 
 -- the parts of a line with this front, whose piece has so many bytes
 abbrev pub parts_by : ℕ → Front → Parts
 parts_by bytes front = record { bytes = bytes; stamp = front.stamp; front = front.size }
 
 -- a statement with this stamp
-abbrev pub parted_text : Form → Map → ℕ → Vals → Statement → List ℕ
-parted_text form table bytes stamp stm =
-    statement_text form table map.empty stm.index (parts_by bytes (front_sizes table stamp stm.index)) (eager_line table stamp stm.index stm.args)
+abbrev pub parted_text : Style → Map → ℕ → Vals → Statement → List ℕ
+parted_text style table bytes stamp stm =
+    statement_text style table map.empty stm.index (parts_by bytes (front_sizes table stamp stm.index)) (eager_line table stamp stm.index stm.args)

@@ -57,9 +57,7 @@ pub fn add_mark_line(
     }
     let bytes = told_size(style.form, script, number, mark.stamp, statement);
     let carried = stamp_in(script, mark.stamp);
-    add_parted(
-        alloc, style.form, table, carried, statement, bytes, room, out,
-    )
+    add_parted(alloc, style, table, carried, statement, bytes, room, out)
 }
 
 // How many bytes the code of the message has that a statement has at a mark with this number and stamp.
@@ -104,7 +102,7 @@ fn place_of(script: &Script, number: u32) -> Option<u16>
 // Appends the line of a statement with a stamp or none, whose piece has so many bytes, and a newline.
 fn add_parted(
     alloc: Global,
-    form: Form,
+    style: &Style,
     table: &Table,
     stamp: Option<u64>,
     statement: &Statement,
@@ -114,13 +112,13 @@ fn add_parted(
 ) -> Result<(), Memory>
     requires { Prints table.now.entries stamp statement.now }
     ensures { OnOk result (out.new.items ≡ out.old.items ++ ended
-        (parted_text form table.now.entries bytes (stamp_args stamp) statement.now)) }
+        (parted_text style.now table.now.entries bytes (stamp_args stamp) statement.now)) }
 {
     match put_parted_line(table, stamp, statement, room, 0) {
         Some((front, end)) => {
             add_by_front(
                 alloc,
-                form,
+                style,
                 table,
                 statement.index,
                 bytes,
@@ -129,14 +127,14 @@ fn add_parted(
                 out,
             )
         }
-        None => add_any(alloc, form, table, stamp, statement, bytes, out),
+        None => add_any(alloc, style, table, stamp, statement, bytes, out),
     }
 }
 
 // The same of any line.
 fn add_any(
     alloc: Global,
-    form: Form,
+    style: &Style,
     table: &Table,
     stamp: Option<u64>,
     statement: &Statement,
@@ -145,14 +143,23 @@ fn add_any(
 ) -> Result<(), Memory>
     requires { Prints table.now.entries stamp statement.now }
     ensures { OnOk result (out.new.items ≡ out.old.items ++ ended
-        (parted_text form table.now.entries bytes (stamp_args stamp) statement.now)) }
+        (parted_text style.now table.now.entries bytes (stamp_args stamp) statement.now)) }
 {
     let mut args = Args::new(alloc);
     put_stamp(stamp, &mut args)?;
     match parted_line(alloc, table, &args, statement) {
         Ok((front, text)) => {
             let line = text.as_str().as_bytes();
-            add_by_front(alloc, form, table, statement.index, bytes, front, line, out)
+            add_by_front(
+                alloc,
+                style,
+                table,
+                statement.index,
+                bytes,
+                front,
+                line,
+                out,
+            )
         }
         Err(EagerFault::Wide) => unreachable!(),
         Err(EagerFault::Memory) => Err(Memory),
@@ -162,7 +169,7 @@ fn add_any(
 // Appends a line with this front, whose piece has so many bytes, and a newline.
 fn add_by_front(
     alloc: Global,
-    form: Form,
+    style: &Style,
     table: &Table,
     index: u16,
     bytes: u32,
@@ -171,7 +178,7 @@ fn add_by_front(
     out: &mut Bytes,
 ) -> Result<(), Memory>
     ensures { OnOk result (out.new.items ≡ out.old.items ++ ended
-        (statement_text form table.now.entries map.empty index (parts_by bytes front) text.now)) }
+        (statement_text style.now table.now.entries map.empty index (parts_by bytes front) text.now)) }
 {
     let parts = Parts {
         bytes,
@@ -179,5 +186,5 @@ fn add_by_front(
         front: front.size,
     };
     let places = Places::new(alloc);
-    add_statement(form, table, &places, index, &parts, text, out)
+    add_statement(style, table, &places, index, &parts, text, out)
 }

@@ -8,7 +8,7 @@ use Rattle.defmt_forms.specs.Names.{place_part}
 use Rattle.defmt_places.specs.Places.{Map as PlaceMap}
 use Rattle.defmt_plan.specs.declared.message.Origin.{Origin}
 use Rattle.defmt_recording.specs.Output.{ended, gap_before, gap_between}
-use Rattle.defmt_recording.specs.Styled.{IsWhole, Look, is_printed, prints_index, report_text, shown_text, statement_text, styled_gap, styled_line, styled_text}
+use Rattle.defmt_recording.specs.Styled.{IsWhole, Look, is_printed, prints_index, report_text, shown_text, statement_text, styled_gap, styled_line, styled_text, text_in_form}
 use Rattle.defmt_words.specs.declared.style.Form.{Form}
 use Rattle.defmt_words.specs.declared.style.Form.TheVariants.{Plain}
 
@@ -16,7 +16,7 @@ module _ (l : Look) (last : Option ℕ) (origin : Origin) (text : List ℕ) wher
   -- what is printed of such a line, by what it depends on
   abbrev line_by : ℕ → Bool → Form → PlaceMap → List ℕ
   line_by gap shown form places =
-      cond {A = List ℕ} (gap == 0) [] (ended (report_text form gap)) ++ cond {A = List ℕ} shown (ended (statement_text form l.table places origin.index origin.parts text)) []
+      cond {A = List ℕ} (gap == 0) [] (ended (report_text form gap)) ++ cond {A = List ℕ} shown (ended (text_in_form form l.table places origin.index origin.parts text)) []
 
   line_is : styled_line l last (line_with origin text) ≡ line_by (gap_between last origin.place) (prints_index l.style.only l.table origin.index) l.style.form l.places
   unfolding styled_line styled_gap shown_text is_printed styled_text gap_before
@@ -24,7 +24,7 @@ module _ (l : Look) (last : Option ℕ) (origin : Origin) (text : List ℕ) wher
 
   -- of one that is printed and in front of which none is missing
   pub shown_line : gap_between last origin.place ≡ 0 → prints_index l.style.only l.table origin.index ≡ true
-      → styled_line l last (line_with origin text) ≡ ended (statement_text l.style.form l.table l.places origin.index origin.parts text)
+      → styled_line l last (line_with origin text) ≡ ended (statement_text l.style l.table l.places origin.index origin.parts text)
   shown_line gap shown =
       line_is
       ∙ ap (λ (n : ℕ). line_by n (prints_index l.style.only l.table origin.index) l.style.form l.places) gap

@@ -5,12 +5,12 @@ use Rattle.defmt_decode.specs.declared.event.Event.{Event}
 use Rattle.defmt_hooks.specs.declared.rules.Rules.{Rules}
 use Rattle.defmt_intern.specs.Table.{Map}
 use Rattle.defmt_recording.specs.Styled.{Look, look_by, shown_text, styled_lines_from}
-use Rattle.defmt_words.specs.declared.style.Form.TheVariants.{Plain}
+use Rattle.defmt_words.specs.Style.{plain_style}
 use Rattle.defmt_words.specs.declared.style.Style.{Style}
 
 -- text, by rules where there are some
 abbrev pub plain_by : Option Rules → Style
-plain_by only = record { only = only; form = Plain; fail_on = None }
+plain_by only = record plain_style { only = only }
 
 -- by a table, without places in the sources
 abbrev pub plain_look : Option Rules → Map → Look

@@ -1,5 +1,5 @@
 -- What is printed of events in a style: which lines, and in which form.
-use Rattle.std.specs.Prelude.{◌≡◌, ◌==◌, ◌&&◌, ℕ, Bool, true, false, List, [], ◌++◌, drop, take, codes, Option, Some, None, refl, if◌then◌else◌}
+use Rattle.std.specs.Prelude.{◌≡◌, ◌==◌, ◌&&◌, ℕ, Bool, true, false, List, [], ◌++◌, drop, take, Option, Some, None, refl, if◌then◌else◌}
 use Rattle.std.specs.FinMap as map
 use Rattle.std.specs.Coded.{Coded, code_by, coded×, coded_list, coded_option, coded_ℕ}
 use Rattle.dl_io.specs.Outside.{raised}
@@ -69,13 +69,16 @@ abbrev pub place_at : PlaceMap → ℕ → Option (List ℕ)
 place_at places index = map.get places index
 
 -- A row a form.
-abbrev pub statement_text : Form → Map → PlaceMap → ℕ → Parts → List ℕ → List ℕ
-statement_text Plain table places index parts text = text ++ place_part (place_at places index)
-statement_text Color table places index parts text =
+abbrev pub text_in_form : Form → Map → PlaceMap → ℕ → Parts → List ℕ → List ℕ
+text_in_form Plain table places index parts text = text ++ place_part (place_at places index)
+text_in_form Color table places index parts text =
     color_line (stamp_in table index parts text) (level_at table index) (drop parts.front text) (place_at places index)
-statement_text Json table places index parts text =
+text_in_form Json table places index parts text =
     line_object index parts.bytes (stamp_in table index parts text) (level_at table index) (package_at table index)
     (drop parts.front text) (place_at places index)
+
+abbrev pub statement_text : Style → Map → PlaceMap → ℕ → Parts → List ℕ → List ℕ
+statement_text style table places index parts text = text_in_form style.form table places index parts text
 
 -- ---- what is no statement
 
@@ -103,11 +106,11 @@ report_text Json count = gap_object count
 -- ---- an event
 
 -- without its newline
-unfoldable pub styled_text : Form → Map → PlaceMap → Event → List ℕ
-styled_text form table places (Line index place parts text) = statement_text form table places index parts text
-styled_text form table places (Bad cause) = fault_text form cause
-styled_text form table places (CutFront bytes) = front_text form bytes
-styled_text form table places (CutTail bytes) = tail_text form bytes
+unfoldable pub styled_text : Style → Map → PlaceMap → Event → List ℕ
+styled_text style table places (Line index place parts text) = statement_text style table places index parts text
+styled_text style table places (Bad cause) = fault_text style.form cause
+styled_text style table places (CutFront bytes) = front_text style.form bytes
+styled_text style table places (CutTail bytes) = tail_text style.form bytes
 
 -- a line with this index is printed: all but those that rules don't show
 abbrev pub prints_index : Option Rules → Map → ℕ → Bool
@@ -127,7 +130,7 @@ styled_gap form count = if count == 0 then [] else ended (report_text form count
 
 -- an event's line, and nothing of one that isn't shown
 unfoldable pub shown_text : Look → Event → List ℕ
-shown_text l event = if is_printed l.style.only l.table event then ended (styled_text l.style.form l.table l.places event) else []
+shown_text l event = if is_printed l.style.only l.table event then ended (styled_text l.style l.table l.places event) else []
 
 -- the same behind the report of those that are missing in front of it, where the last line has this place; it stands also where the line
 -- isn't shown

@@ -9,6 +9,7 @@ use Rattle.defmt_recording.specs.Output.{ended}
 use Rattle.defmt_recording.specs.Styled.{statement_text}
 use Rattle.defmt_words.specs.declared.style.Form.{Form}
 use Rattle.defmt_words.specs.declared.style.Form.TheVariants.{Plain, Color, Json}
+use Rattle.defmt_words.specs.declared.style.Style.{Style}
 
 -- the stamp's text at the front of a line's
 abbrev pub stamp_of : Template → Parts → List ℕ → List ℕ
@@ -21,14 +22,14 @@ filled Color t parts text = color_by t (stamp_of t parts text) (drop parts.front
 filled Json t parts text = json_by t parts.bytes (stamp_of t parts text) (drop parts.front text)
 
 -- a template by which the lines of an index are printed
-pub record IsTemplate (form : Form) (table : Map) (places : PlaceMap) (index : ℕ) (t : Template) : Type 0 where
+pub record IsTemplate (style : Style) (table : Map) (places : PlaceMap) (index : ℕ) (t : Template) : Type 0 where
   pub sized : IsSized t
-  pub fills : (parts : Parts) (text : List ℕ) → filled form t parts text ≡ ended (statement_text form table places index parts text)
+  pub fills : (parts : Parts) (text : List ℕ) → filled style.form t parts text ≡ ended (statement_text style table places index parts text)
 
 -- each template is that of its index
-abbrev pub AreTemplates : Form → Map → PlaceMap → List (Option Template) → Type 0
-AreTemplates form table places templates =
-    (index : ℕ) (t : Template) → slice_index_or templates index None ≡ Some t → IsTemplate form table places index t
+abbrev pub AreTemplates : Style → Map → PlaceMap → List (Option Template) → Type 0
+AreTemplates style table places templates =
+    (index : ℕ) (t : Template) → slice_index_or templates index None ≡ Some t → IsTemplate style table places index t
 
 -- each index has the same template
 abbrev pub SameSlots : List (Option Template) → List (Option Template) → Type 0

@@ -8,6 +8,7 @@ ghost use Rattle.defmt_decode.specs.Event.{line_with};
 
 use crate::host_listener::HostListener;
 use crate::output::{counted, gap_between, is_cut, is_fault, last_behind};
+use crate::statement::is_whole;
 use crate::styles::{add_styled_line, add_styled_text, fails_at, is_failing, prints_index};
 use crate::templates::{add_by_template, learn, place_by_template, template_at};
 use defmt_decode::{Event, Origin};
@@ -15,7 +16,7 @@ use defmt_forms::Template;
 use defmt_intern::Table;
 use defmt_listen::{Passing, Reporter};
 use defmt_places::Places;
-use defmt_words::{Form, Style};
+use defmt_words::Style;
 use dl_io::{Bytes, Memory};
 use std::alloc::Global;
 use std::marker::Model;
@@ -50,7 +51,7 @@ impl<'a> Model for Styled<'a> {
     ghost view = { λ s. reel (look_by s.style.now s.table.now.entries s.places.now) s.last s.failing s.cuts };
 
     ghost invariant = { λ s. (s.whole ≡ true → IsWhole s.style.now s.places.now)
-        × AreTemplates s.style.now.form s.table.now.entries s.places.now s.templates.items };
+        × AreTemplates s.style.now s.table.now.entries s.places.now s.templates.items };
 }
 
 impl<'a> Styled<'a> {
@@ -58,9 +59,6 @@ impl<'a> Styled<'a> {
     pub fn new(alloc: Global, style: &'a Style, table: &'a Table, places: &'a Places) -> Self
         ensures { result ≡ reel (look_by style.now table.now.entries places.now) None 0 0 }
     {
-        let whole = matches!(style.form, Form::Plain)
-            && style.fail_on.is_none()
-            && places.is_empty();
         Styled {
             style,
             table,
@@ -68,7 +66,7 @@ impl<'a> Styled<'a> {
             last: None,
             failing: 0,
             cuts: 0,
-            whole,
+            whole: is_whole(style, places),
             line: Bytes::new(alloc),
             templates: Vec::new(alloc),
         }
@@ -112,7 +110,7 @@ impl<'a> Styled<'a> {
         }
         learn(
             alloc,
-            self.style.form,
+            self.style,
             self.table,
             self.places,
             &mut self.templates,

@@ -32,7 +32,7 @@ pub fn add_styled_line(
 {
     add_styled_gap(alloc, style.form, gap_before(last, event), out)?;
     if is_printed(style, table, event) {
-        return add_styled_event(alloc, style.form, table, places, event, out);
+        return add_styled_event(alloc, style, table, places, event, out);
     }
     Ok(())
 }
@@ -55,15 +55,7 @@ pub fn add_styled_text(
 {
     add_styled_gap(alloc, style.form, gap_between(last, origin.place), out)?;
     if prints_index(style, table, origin.index) {
-        return add_statement(
-            style.form,
-            table,
-            places,
-            origin.index,
-            &origin.parts,
-            text,
-            out,
-        );
+        return add_statement(style, table, places, origin.index, &origin.parts, text, out);
     }
     Ok(())
 }
@@ -83,14 +75,14 @@ pub fn add_styled_gap(alloc: Global, form: Form, count: u16, out: &mut Bytes) ->
 #[tactic(auto, unfolding(crate::specs::Styled::styled_text))]
 pub fn add_styled_event(
     alloc: Global,
-    form: Form,
+    style: &Style,
     table: &Table,
     places: &Places,
     event: &Event,
     out: &mut Bytes,
 ) -> Result<(), Memory>
     ensures { OnOk result (out.new.items ≡ out.old.items
-        ++ ended (styled_text form table.now.entries places.now event.now)) }
+        ++ ended (styled_text style.now table.now.entries places.now event.now)) }
 {
     match event {
         Event::Line {
@@ -100,11 +92,11 @@ pub fn add_styled_event(
             ..
         } => {
             let bytes = text.as_str().as_bytes();
-            add_statement(form, table, places, *index, parts, bytes, out)
+            add_statement(style, table, places, *index, parts, bytes, out)
         }
-        Event::Bad { cause } => add_bad(alloc, form, *cause, out),
-        Event::CutFront { bytes } => add_front(alloc, form, *bytes, out),
-        Event::CutTail { bytes } => add_tail(alloc, form, *bytes, out),
+        Event::Bad { cause } => add_bad(alloc, style.form, *cause, out),
+        Event::CutFront { bytes } => add_front(alloc, style.form, *bytes, out),
+        Event::CutTail { bytes } => add_tail(alloc, style.form, *bytes, out),
     }
 }
 

@@ -1,29 +1,22 @@
 //! The lines of statements by their templates.
-ghost use Rattle.std.specs.Prelude.{◌≡◌, ◌≤◌, ◌+◌, ◌++◌, ◌&&◌, None, false, true, length, take, drop, is_some, slice_index_or, IfNone, IfOk, IfSome, OnOk, OnErr, if◌then◌else◌};
+ghost use Rattle.std.specs.Prelude.{◌≡◌, ◌≤◌, ◌+◌, ◌++◌, None, false, true, length, take, drop, slice_index_or, IfNone, IfOk, IfSome, OnOk, OnErr, if◌then◌else◌};
 ghost use Rattle.std.specs.Option.{option_copied};
 ghost use Rattle.defmt_forms.specs.Placed.{Placed};
 ghost use Rattle.defmt_forms.specs.Template.{IsSized};
-ghost use Rattle.defmt_recording.specs.Templates.{AreTemplates, IsTemplate, SameSlots, filled};
+ghost use Rattle.defmt_recording.specs.Templates.{AreTemplates, SameSlots, filled};
 ghost use Rattle.defmt_words.specs.declared.style.Form.TheVariants.{Color, Json};
 
-use crate::statement::{behind, front, level_at, package_at};
+use crate::statement::{behind, front, template_of};
 use defmt_decode::Parts;
-use defmt_forms::{
-    Template, color_template, is_bare_text, is_quiet_text, json_template, place_color, place_json,
-    place_plain, plain_template,
-};
-use defmt_hooks::Level;
+use defmt_forms::{Template, is_bare_text, is_quiet_text, place_color, place_json, place_plain};
 use defmt_intern::Table;
 use defmt_places::Places;
-use defmt_words::Form;
+use defmt_words::{Form, Style};
 use dl_io::{Bytes, Memory};
 use std::alloc::Global;
 
 // The indexes below this have templates, so that what they take is bounded.
 const INDEXES: usize = 4_096;
-
-// A statement with a longer package or place has none.
-const NAME_LIMIT: usize = 1_024;
 
 // A longer text goes into none.
 const TEXT_LIMIT: usize = 65_536;
@@ -42,20 +35,20 @@ pub fn template_at(templates: &[Option<Template>], index: u16) -> Option<&Templa
 #[inline(never)]
 pub fn learn(
     alloc: Global,
-    form: Form,
+    style: &Style,
     table: &Table,
     places: &Places,
     templates: &mut Vec<Option<Template>>,
     index: u16,
 ) -> Result<(), Memory>
-    requires { AreTemplates form table.now.entries places.now templates.old.items }
-    ensures { AreTemplates form table.now.entries places.now templates.new.items }
+    requires { AreTemplates style.now table.now.entries places.now templates.old.items }
+    ensures { AreTemplates style.now table.now.entries places.now templates.new.items }
 {
     let at = index as usize;
     if at >= INDEXES || template_at(templates, index).is_some() {
         return Ok(());
     }
-    let made = template_of(alloc, form, table, places, index)?;
+    let made = template_of(alloc, style, table, places, index)?;
     grow(templates, at + 1)?;
     templates[at] = made;
     Ok(())
@@ -70,45 +63,6 @@ fn grow(templates: &mut Vec<Option<Template>>, count: usize) -> Result<(), Memor
         templates.push(None)?;
     }
     Ok(())
-}
-
-// The template of an index. There is none where it would be long.
-fn template_of(
-    alloc: Global,
-    form: Form,
-    table: &Table,
-    places: &Places,
-    index: u16,
-) -> Result<Option<Template>, Memory>
-    ensures { IfOk result (λ made. IfSome made
-        (λ t. IsTemplate form table.now.entries places.now index t)) }
-{
-    let place = places.get(index);
-    let owner = package_at(table, index);
-    if owner.len() > NAME_LIMIT || is_long(place) {
-        return Ok(None);
-    }
-    let level = level_at(table, index);
-    let stamped = is_stamped(table.stamp(), level);
-    match form {
-        Form::Plain => plain_template(alloc, place),
-        Form::Color => color_template(alloc, stamped, level, place),
-        Form::Json => json_template(alloc, index, stamped, level, owner, place),
-    }
-}
-
-fn is_long(place: Option<&str>) -> bool {
-    match place {
-        Some(place) => place.len() > NAME_LIMIT,
-        None => false,
-    }
-}
-
-// Whether the lines of a level are printed with a stamp by a table with this stamp's entry.
-fn is_stamped(stamp: Option<u16>, level: Option<Level>) -> bool
-    ensures { result ≡ (is_some stamp && is_some level) }
-{
-    stamp.is_some() && level.is_some()
 }
 
 /// Appends the line of a statement and a newline by its template, and answers whether it did. Where it didn't, nothing was appended, nor

@@ -1,8 +1,8 @@
 -- What references in the code stand for.
-use Rattle.defmt_words.specs.declared.job.Parameter.{Parameter as CodeParameter}
+use Rattle.defmt_words.specs.declared.parameters.Parameter.{Parameter as CodeParameter}
 use Rattle.std.specs.Prelude.{ℕ, List, Option, option_map, map}
 use Rattle.std.specs.Borrow.{Bor}
-use Rattle.defmt_words.specs.Words.{Parameter}
+use Rattle.defmt_words.specs.Parameters.{Parameter}
 
 -- the text behind a reference, if there is one
 abbrev pub text_in : Option (Bor (List ℕ)) → Option (List ℕ)

@@ -1,6 +1,5 @@
 -- What the words of the program ask for.
-use Rattle.std.specs.Prelude.{ℕ, Bool, true, false, not, List, [], ◌∷◌, Option, Some, None, is_some, if◌then◌else◌, codes, option_map, option_and_then}
-use Rattle.std.specs.List.{list_all, list_any}
+use Rattle.std.specs.Prelude.{ℕ, true, false, List, [], ◌∷◌, ◌++◌, Option, Some, None, if◌then◌else◌, codes, option_map, option_and_then}
 use Rattle.std.specs.Option.{option_map_or}
 use Rattle.std.specs.Str.{bytes_eq}
 use Rattle.clap.specs.Words.{App, Row, Rule, Text, first_of, fault_of, matches_of, new_app, new_rule, with_rule, Kinds}
@@ -12,40 +11,30 @@ use Rattle.defmt_words.specs.declared.job.Job.{Job}
 use Rattle.defmt_words.specs.declared.job.Job.TheVariants.{Script, Decode, Dump}
 use Rattle.defmt_words.specs.declared.job.ScriptJob.TheVariants.{Run, Record, Terminals, Steer, Table, Print, Generate}
 use Rattle.defmt_words.specs.declared.job.RunOptions.{RunOptions}
-use Rattle.defmt_words.specs.declared.job.Kind.{Kind}
-use Rattle.defmt_words.specs.declared.job.Kind.TheVariants.{Place, Value, Flag}
-use Rattle.defmt_words.specs.declared.style.Form.{Form}
-use Rattle.defmt_words.specs.declared.style.Style.{Style}
-use Rattle.defmt_hooks.specs.Levels.{level_named}
-use Rattle.defmt_hooks.specs.Reading.{rules_in}
+use Rattle.defmt_words.specs.declared.parameters.Kind.{Kind}
+use Rattle.defmt_words.specs.declared.parameters.Kind.TheVariants.{Place, Value, Flag}
 use Rattle.defmt_words.specs.Numbers.{decimal_in, hexadecimal_in}
-use Rattle.defmt_words.specs.Style.{form_in, optional, plain_style}
+use Rattle.defmt_words.specs.Parameters.{Parameter, all_go, is_set, optional}
+use Rattle.defmt_words.specs.Style.{plain_style, style_by, style_parameters}
 
--- A parameter: its name, how it stands in the words, the commands that take it, and those that need it.
-pub record Parameter : Type 0 where
-  pub name : Text
-  pub kind : Kind
-  pub taken : List Text
-  pub needed : List Text
-
--- A row a parameter.
-abbrev pub parameters : List Parameter
-parameters =
+-- A row a parameter, but of printing.
+abbrev pub command_parameters : List Parameter
+command_parameters =
     record { name = codes "number"; kind = Place; taken = codes "gen" ∷ []; needed = codes "gen" ∷ [] }
     ∷ record { name = codes "table"; kind = Value; taken = codes "decode" ∷ codes "dump" ∷ []; needed = codes "decode" ∷ codes "dump" ∷ [] }
     ∷ record { name = codes "group"; kind = Flag; taken = codes "run" ∷ []; needed = [] }
     ∷ record { name = codes "base"; kind = Value; taken = codes "dump" ∷ []; needed = [] }
     ∷ record { name = codes "up"; kind = Value; taken = codes "dump" ∷ []; needed = [] }
     ∷ record { name = codes "old"; kind = Flag; taken = codes "dump" ∷ []; needed = [] }
-    ∷ record { name = codes "only"; kind = Value; taken = codes "run" ∷ codes "decode" ∷ codes "dump" ∷ []; needed = [] }
-    ∷ record { name = codes "json"; kind = Flag; taken = codes "run" ∷ codes "decode" ∷ codes "dump" ∷ []; needed = [] }
-    ∷ record { name = codes "color"; kind = Flag; taken = codes "run" ∷ codes "decode" ∷ codes "dump" ∷ []; needed = [] }
-    ∷ record { name = codes "fail-on"; kind = Value; taken = codes "run" ∷ codes "decode" ∷ codes "dump" ∷ []; needed = [] }
     ∷ record { name = codes "places"; kind = Value; taken = codes "decode" ∷ codes "dump" ∷ []; needed = [] }
     ∷ record { name = codes "live"; kind = Flag; taken = codes "decode" ∷ []; needed = [] }
     ∷ record { name = codes "full"; kind = Flag; taken = codes "decode" ∷ codes "dump" ∷ []; needed = [] }
     ∷ record { name = codes "jobs"; kind = Value; taken = codes "decode" ∷ []; needed = [] }
     ∷ []
+
+-- and those of printing
+abbrev pub parameters : List Parameter
+parameters = command_parameters ++ style_parameters
 
 -- ---- the command line, as `clap` sees it: the command, which is required, and then the parameters
 
@@ -77,39 +66,7 @@ rows words = matches_of command_line words
 abbrev pub found : List Text → Option (List Row)
 found words = if is_empty (refusals words) then Some (rows words) else None
 
--- ---- which parameters go with a command
-
--- whether a flag is there, to which `clap` then gives this value
-abbrev pub is_set : Text → List Row → Bool
-is_set name rows = option_map_or (λ text. bytes_eq text (codes "true")) (first_of name rows) false
-
-abbrev pub is_there : Kind → Text → List Row → Bool
-is_there Place name rows = is_some (first_of name rows)
-is_there Value name rows = is_some (first_of name rows)
-is_there Flag name rows = is_set name rows
-
-abbrev pub is_among : Text → List Text → Bool
-is_among word words = list_any (bytes_eq word) words
-
--- the command takes a parameter that is there, and doesn't need one that isn't
-abbrev pub goes : Text → List Row → Parameter → Bool
-goes command rows parameter = if is_there parameter.kind parameter.name rows
-    then is_among command parameter.taken else not (is_among command parameter.needed)
-
-abbrev pub all_go : Text → List Row → List Parameter → Bool
-all_go command rows list = list_all (goes command rows) list
-
 -- ---- the job of a command, by parameters that go with it
-
-abbrev pub form_by : List Row → Option Form
-form_by rows = form_in (is_set (codes "json") rows) (is_set (codes "color") rows)
-
--- what is asked of printing, where all of it is spelled rightly
-abbrev pub style_by : List Row → Option Style
-style_by rows =
-    option_and_then (λ only. option_and_then (λ form. option_map (λ fail_on.
-    record { only = only; form = form; fail_on = fail_on })
-    (optional level_named (first_of (codes "fail-on") rows))) (form_by rows)) (optional rules_in (first_of (codes "only") rows))
 
 -- the options of `run` where the words have none
 abbrev pub no_options : RunOptions

@@ -4,7 +4,9 @@ ghost use Rattle.clap.specs.Words.{app_of, found_of, rows_of, rule_of};
 ghost use Rattle.defmt_words.specs.Words.{command_line as line_of, rule_by, with_rules, found};
 ghost use Rattle.defmt_words.specs.View.{parameter_view};
 
-use crate::job::{Kind, Parameter, parameters};
+use crate::job::command_parameters;
+use crate::parameters::{Kind, Parameter};
+use crate::style::style_parameters;
 use clap::error::ErrorKind;
 use clap::{Arg, ArgAction, ArgMatches, Command};
 use dl_io::Memory;
@@ -46,7 +48,8 @@ fn command_line<'a>(alloc: Global) -> Result<Command<'a>, AllocError>
 {
     let command = Arg::new(alloc, "command").required(true);
     let line = Command::new(alloc, "defmtl").arg(command)?;
-    with_rules(alloc, line, &parameters())
+    let line = with_rules(alloc, line, &command_parameters())?;
+    with_rules(alloc, line, &style_parameters())
 }
 
 /// What `clap` finds in the words, or `None` where it refuses them.

@@ -1,10 +1,11 @@
-//! The commands, and the parameters that go with them.
+//! The commands, and the parameters of each of them.
 
 ghost use Rattle.std.specs.Prelude.{◌≡◌, map};
-ghost use Rattle.defmt_words.specs.Words.{no_options, parameters};
+ghost use Rattle.defmt_words.specs.Words.{command_parameters, no_options};
 ghost use Rattle.defmt_words.specs.View.{parameter_view};
 
 use crate::number::{Count, Jobs};
+use crate::parameters::{Kind, Parameter};
 use crate::style::Style;
 use defmt_grammar::{Language, Text};
 
@@ -97,33 +98,9 @@ pub struct DumpOptions {
     pub style: Style,
 }
 
-/// How a parameter stands in the words.
-#[derive(Clone, Copy)]
-pub enum Kind {
-    /// As a word by its place.
-    Place,
-    /// As `--name` with a value.
-    Value,
-    /// As `--name`.
-    Flag,
-}
-
-/// A parameter of the command line.
-#[derive(Clone, Copy)]
-pub struct Parameter<'a> {
-    /// Its name.
-    pub name: &'a str,
-    /// How it stands in the words.
-    pub kind: Kind,
-    /// The commands that take it.
-    pub taken: &'a [&'a str],
-    /// The commands that need it.
-    pub needed: &'a [&'a str],
-}
-
-/// A row a parameter.
-pub fn parameters<'a>() -> [Parameter<'a>; 14]
-    ensures { map parameter_view result ≡ parameters }
+/// A row a parameter, but of printing.
+pub fn command_parameters<'a>() -> [Parameter<'a>; 10]
+    ensures { map parameter_view result ≡ command_parameters }
 {
     [
         Parameter {
@@ -160,30 +137,6 @@ pub fn parameters<'a>() -> [Parameter<'a>; 14]
             name: "old",
             kind: Kind::Flag,
             taken: &["dump"],
-            needed: &[],
-        },
-        Parameter {
-            name: "only",
-            kind: Kind::Value,
-            taken: &["run", "decode", "dump"],
-            needed: &[],
-        },
-        Parameter {
-            name: "json",
-            kind: Kind::Flag,
-            taken: &["run", "decode", "dump"],
-            needed: &[],
-        },
-        Parameter {
-            name: "color",
-            kind: Kind::Flag,
-            taken: &["run", "decode", "dump"],
-            needed: &[],
-        },
-        Parameter {
-            name: "fail-on",
-            kind: Kind::Value,
-            taken: &["run", "decode", "dump"],
             needed: &[],
         },
         Parameter {

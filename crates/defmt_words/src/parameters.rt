@@ -1,11 +1,34 @@
-//! What `clap` found of the parameters, and whether they go with a command.
+//! A parameter, what `clap` found of it, and whether it goes with a command.
 ghost use Rattle.std.specs.Prelude.{◌≡◌, map};
 ghost use Rattle.clap.specs.Words.{found_of, rows_of, first_of};
-ghost use Rattle.defmt_words.specs.Words.{is_set, is_there, is_among, goes, all_go};
+ghost use Rattle.defmt_words.specs.Parameters.{is_set, is_there, is_among, goes, all_go};
 ghost use Rattle.defmt_words.specs.View.{text_in, parameter_view};
 
-use crate::job::{Kind, Parameter};
 use clap::ArgMatches;
+
+/// How a parameter stands in the words.
+#[derive(Clone, Copy)]
+pub enum Kind {
+    /// As a word by its place.
+    Place,
+    /// As `--name` with a value.
+    Value,
+    /// As `--name`.
+    Flag,
+}
+
+/// A parameter of the command line.
+#[derive(Clone, Copy)]
+pub struct Parameter<'a> {
+    /// Its name.
+    pub name: &'a str,
+    /// How it stands in the words.
+    pub kind: Kind,
+    /// The commands that take it.
+    pub taken: &'a [&'a str],
+    /// The commands that need it.
+    pub needed: &'a [&'a str],
+}
 
 /// The value that `clap` found, if there is one.
 pub fn value_of<'a>(matches: &ArgMatches<'a>, name: &str) -> Option<&'a str>

@@ -2,13 +2,14 @@
 ghost use Rattle.std.specs.Prelude.{◌≡◌, map, IfOk, string_bytes};
 ghost use Rattle.clap.specs.Words.{found_of, rows_of};
 ghost use Rattle.defmt_words.specs.View.{text_in};
-ghost use Rattle.defmt_words.specs.Words.{chosen, job, choice, base_in, decode_by, dump_by, generate_by, jobs_by, language_by, run_by, up_in};
+ghost use Rattle.defmt_words.specs.Parameters.{all_go};
+ghost use Rattle.defmt_words.specs.Words.{chosen, job, choice, base_in, decode_by, dump_by, generate_by, jobs_by, language_by, parameters, run_by, up_in};
 
 use crate::command_line::matches_of;
-use crate::job::{DecodeOptions, DumpOptions, Job, RunOptions, ScriptJob, parameters};
+use crate::job::{DecodeOptions, DumpOptions, Job, RunOptions, ScriptJob, command_parameters};
 use crate::number::{Jobs, Up, decimal_of, hexadecimal_of};
 use crate::parameters::{all_go, is_set, value_of};
-use crate::style::style_of;
+use crate::style::{style_of, style_parameters};
 use clap::ArgMatches;
 use defmt_grammar::{Language, Text};
 use dl_io::Memory;
@@ -169,13 +170,20 @@ fn choice_of(alloc: Global, command: &str, matches: &ArgMatches<'_>) -> Result<O
     }
 }
 
+// Whether all parameters go with the command.
+fn goes_with(command: &str, matches: &ArgMatches<'_>) -> bool
+    ensures { result ≡ all_go command.now (rows_of (found_of matches.now)) parameters }
+{
+    all_go(command, matches, &command_parameters()) && all_go(command, matches, &style_parameters())
+}
+
 fn chosen_of(alloc: Global, matches: &ArgMatches<'_>) -> Result<Option<Job>, Memory>
     ensures { IfOk result (λ job. job ≡ chosen (rows_of (found_of matches.now))) }
 {
     let Some(command) = value_of(matches, "command") else {
         return Ok(None);
     };
-    if all_go(command, matches, &parameters()) {
+    if goes_with(command, matches) {
         choice_of(alloc, command, matches)
     } else {
         Ok(None)
@@ -184,14 +192,11 @@ fn chosen_of(alloc: Global, matches: &ArgMatches<'_>) -> Result<Option<Job>, Mem
 
 /// What the words ask for, or `None` where they ask for nothing. The first word is the program's name.
 ///
-/// `clap` reads them as one simple command: a required positional `command`, an optional positional `number`, the options `--table`,
-/// `--places`, `--base`, `--up`, `--only`, `--fail-on` and `--jobs` with one value each, and the flags `--group`, `--old`, `--live`,
-/// `--full`, `--json` and `--color`. The variants of [`Job`] and [`ScriptJob`] say which go with which command, with those of
-/// [`Style`] where they speak of options of printing: what stands there in brackets may be left out, what stands there without must
-/// be there, and nothing else may. N is decimal, without sign or leading zero: of `gen` from 1 to 4,096, of `--up` from 0 to 15, of
-/// `--jobs` from 1 to 64. HEX is 1 to 8 hexadecimal digits of either case. RULES is what `defmt_hooks::read_rules` reads, LEVEL one
-/// of `trace`, `debug`, `info`, `warn` and `error`. What `clap` answers with help or a version asks for nothing. The one error is
-/// want of memory.
+/// `clap` reads them as one simple command: a required positional `command`, and a rule a row of `parameters`: a positional word, an option
+/// with one value, or a flag. The variants of [`Job`] and [`ScriptJob`] say which go with which command, with those of [`Style`] where they
+/// speak of options of printing: what stands there in brackets may be left out, what stands there without must be there, and nothing else
+/// may. N is decimal, without sign or leading zero: of `gen` from 1 to 4,096, of `--up` from 0 to 15, of `--jobs` from 1 to 64. HEX is 1 to
+/// 8 hexadecimal digits of either case. What `clap` answers with help or a version asks for nothing. The one error is want of memory.
 ///
 /// [`Style`]: crate::Style
 pub fn job_of(alloc: Global, words: &[String]) -> Result<Option<Job>, Memory>

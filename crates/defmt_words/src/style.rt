@@ -1,19 +1,20 @@
 //! What the words ask of printing.
-ghost use Rattle.std.specs.Prelude.{◌≡◌, IfOk};
+ghost use Rattle.std.specs.Prelude.{◌≡◌, map, IfOk};
 ghost use Rattle.clap.specs.Words.{found_of, rows_of, first_of};
 ghost use Rattle.defmt_hooks.specs.Levels.{level_named};
 ghost use Rattle.defmt_hooks.specs.Reading.{rules_in};
-ghost use Rattle.defmt_words.specs.Style.{form_in, optional, plain_style};
-ghost use Rattle.defmt_words.specs.View.{text_in};
-ghost use Rattle.defmt_words.specs.Words.{form_by, style_by};
+ghost use Rattle.defmt_words.specs.Parameters.{optional};
+ghost use Rattle.defmt_words.specs.Style.{form_by, form_in, plain_style, style_by, style_parameters};
+ghost use Rattle.defmt_words.specs.View.{parameter_view, text_in};
 
-use crate::parameters::{is_set, value_of};
+use crate::parameters::{Kind, Parameter, is_set, value_of};
 use clap::ArgMatches;
 use defmt_hooks::{Level, RuleFault, Rules, level_named, read_rules};
 use dl_io::Memory;
 use std::alloc::Global;
 
-/// What the words ask of printing: `[--only RULES] [--json] [--color] [--fail-on LEVEL]`, of `--json` and `--color` one at most.
+/// What the words ask of printing: `[--only RULES] [--json] [--color] [--fail-on LEVEL]`, of `--json` and `--color` one at most. RULES is
+/// what `defmt_hooks::read_rules` reads, LEVEL one of `trace`, `debug`, `info`, `warn` and `error`.
 #[derive(Drop)]
 pub struct Style {
     /// `--only RULES`: which lines are printed, or else all.
@@ -46,6 +47,38 @@ impl Style {
             fail_on: None,
         }
     }
+}
+
+/// A row a parameter of printing.
+pub fn style_parameters<'a>() -> [Parameter<'a>; 4]
+    ensures { map parameter_view result ≡ style_parameters }
+{
+    [
+        Parameter {
+            name: "only",
+            kind: Kind::Value,
+            taken: &["run", "decode", "dump"],
+            needed: &[],
+        },
+        Parameter {
+            name: "json",
+            kind: Kind::Flag,
+            taken: &["run", "decode", "dump"],
+            needed: &[],
+        },
+        Parameter {
+            name: "color",
+            kind: Kind::Flag,
+            taken: &["run", "decode", "dump"],
+            needed: &[],
+        },
+        Parameter {
+            name: "fail-on",
+            kind: Kind::Value,
+            taken: &["run", "decode", "dump"],
+            needed: &[],
+        },
+    ]
 }
 
 // The rules that the value spells, and none where there is no value; `None` where the value spells none.

@@ -37,9 +37,9 @@ pub returns : goal.returns
 returns c =
     let s = c.args.script.now in
     let stm = c.in-Some.statement.now in
-    let form = c.args.style.now.form in
+    let style = c.args.style.now in
     let told = c.prints_index.ensures ∙ ap (λ (t : Map). prints_index c.args.style.now.only t stm.index) c.table-table.ensures.entries in
-    let line = ap (λ (t : Map). ended (parted_text form t c.told_size-bytes.result (stamp_args c.stamp_in-carried.result) stm)) c.table-table.ensures.entries
-    ∙ ap (λ (o : Option ℕ). ended (parted_text form s.table c.told_size-bytes.result (stamp_args o) stm)) c.stamp_in-carried.ensures.carried
+    let line = ap (λ (t : Map). ended (parted_text style t c.told_size-bytes.result (stamp_args c.stamp_in-carried.result) stm)) c.table-table.ensures.entries
+    ∙ ap (λ (o : Option ℕ). ended (parted_text style s.table c.told_size-bytes.result (stamp_args o) stm)) c.stamp_in-carried.ensures.carried
     ∙ one_shown c.args.style.now s c.args.number c.args.mark.now stm (sym c.in-Some.ensures) c.told_size-bytes.result (sym told ∙ c.if-not-prints_index.false) c.told_size-bytes.ensures in
     subst (λ (l : List ℕ). OnOk c.add_parted.result (c.add_parted.new.out.items ≡ c.args.out.now.items ++ l)) line c.add_parted.ensures

@@ -1,7 +1,7 @@
 use Rattle.std.proofs.Common.{◌≡◌, ◌≤◌, ◌<◌, ◌-◌, ◌∙◌, List, [], ◌∷◌, get_or, length, map, take, drop, refl, ap, arith}
 use Rattle.std.proofs.lemmas.List.{take_all}
 use Rattle.clap.specs.Words.{App, app_of, with_rule}
-use Rattle.defmt_words.specs.declared.job.Parameter.{Parameter}
+use Rattle.defmt_words.specs.declared.parameters.Parameter.{Parameter}
 use Rattle.defmt_words.specs.View.{parameter_view}
 use Rattle.defmt_words.specs.Words.{rule_by, with_rules}
 use Rattle.defmt_words.proofs.command_line.with_rules.Goals as goal

@@ -1,6 +1,6 @@
 use Rattle.std.proofs.Common.{◌≡◌, length, map}
 use Rattle.clap.specs.Words.{found_of, rows_of}
-use Rattle.defmt_words.specs.Words.{all_go}
+use Rattle.defmt_words.specs.Parameters.{all_go}
 use Rattle.defmt_words.specs.View.{parameter_view}
 use Rattle.defmt_words.proofs.parameters.all_go.Given as goal
 

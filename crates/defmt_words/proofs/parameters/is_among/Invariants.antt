@@ -1,5 +1,5 @@
 use Rattle.std.proofs.Common.{◌≡◌, length, map}
-use Rattle.defmt_words.specs.Words.{is_among}
+use Rattle.defmt_words.specs.Parameters.{is_among}
 use Rattle.defmt_words.proofs.parameters.is_among.Given as goal
 
 abbrev pub invariant-words : goal.invariant-words
