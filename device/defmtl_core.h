@@ -50,8 +50,11 @@ struct defmtl_frame {
       n.done <= DEFMTL_MESSAGE && n.gathered <= 133 && n.gathered <= n.done && 1 <= n.stored &&
       bits_ok(n.gathered, n.zeros) && 134 * (n.stored + (n.zeros != 0 ? 1 : 0)) <= 134 + 135 * n.done - n.gathered;
 
+    // Behind the zero in front no byte of the code is zero, so that a host finds where frames end.
+    predicate without_zero(uint8_t *code, integer stored) = \forall integer k; 1 <= k < stored ==> code[k] != 0;
+
     predicate frame_ok(struct defmtl_frame *f) =
-      \valid(f) && (f->numbers.done == DEFMTL_MESSAGE + 1 || growing(f->numbers));
+      \valid(f) && (f->numbers.done == DEFMTL_MESSAGE + 1 || (growing(f->numbers) && without_zero(&f->code[0], f->numbers.stored)));
 
     // What a call that adds n bytes says of the number of bytes.
     predicate added(integer before, integer n, integer after) =
@@ -96,7 +99,7 @@ static inline int defmtl_fits(struct defmtl_frame *f, uint32_t n) {
 }
 
 /* Ends the open block with its last byte. */
-/*@ requires \valid(n) && n->stored < DEFMTL_FRAME && \valid(code + (0 .. DEFMTL_FRAME - 1)) && last <= 255;
+/*@ requires \valid(n) && n->stored < DEFMTL_FRAME && \valid(code + (0 .. DEFMTL_FRAME - 1)) && 0 < last <= 255;
     requires \separated(n, code + (0 .. DEFMTL_FRAME - 1));
     assigns code[n->stored], n->stored, n->gathered, n->zeros;
     ensures n->stored == \old(n->stored) + 1 && n->gathered == 0 && n->zeros == 0;
@@ -110,8 +113,9 @@ DEFMTL_INLINE void defmtl_close_block(struct defmtl_numbers *n, uint8_t *code, u
 
 /* Adds one byte of a message that has room for it. */
 /*@ requires \valid(n) && growing(*n) && n->done < DEFMTL_MESSAGE && \valid(code + (0 .. DEFMTL_FRAME - 1));
-    requires \separated(n, code + (0 .. DEFMTL_FRAME - 1));
+    requires \separated(n, code + (0 .. DEFMTL_FRAME - 1)) && without_zero(code, n->stored);
     assigns *n, code[0 .. DEFMTL_FRAME - 1];
+    ensures without_zero(code, n->stored);
     ensures growing(*n) && n->done == \old(n->done) + 1 && n->stored >= \old(n->stored);
     ensures \forall integer k; 0 <= k < \old(n->stored) ==> code[k] == \old(code[k]);
 */
@@ -120,15 +124,19 @@ DEFMTL_INLINE void defmtl_add(struct defmtl_numbers *n, uint8_t *code, uint8_t b
     n->done++;
     if (byte != 0) {
         code[n->stored++] = byte;
+        //@ assert without_zero(code, n->stored);
         n->gathered++;
     } else if (n->gathered < 7) {
         n->zeros += bit[n->gathered];
         n->gathered++;
     } else {
         defmtl_close_block(n, code, 0x80 + (n->gathered - 7)); /* seven or more bytes, then this zero */
+        //@ assert without_zero(code, n->stored);
         return;
     }
+    //@ assert without_zero(code, n->stored);
     if (n->gathered == 7 && n->zeros != 0) defmtl_close_block(n, code, n->zeros);
+    //@ assert without_zero(code, n->stored);
     if (n->gathered == 134) defmtl_close_block(n, code, 0xff);
 }
 
@@ -141,6 +149,7 @@ DEFMTL_ONCE void defmtl_bytes(struct defmtl_frame *f, const uint8_t *from, uint3
     if (!defmtl_fits(f, n)) return;
     struct defmtl_numbers numbers = f->numbers; /* a copy, which the compiler keeps in registers */
     /*@ loop invariant 0 <= k <= n && growing(numbers) && numbers.done == \at(f->numbers.done, Pre) + k;
+        loop invariant without_zero(&f->code[0], numbers.stored);
         loop assigns k, numbers, f->code[0 .. DEFMTL_FRAME - 1];
         loop variant n - k;
     */
@@ -157,6 +166,7 @@ DEFMTL_ONCE void defmtl_word(struct defmtl_frame *f, uint32_t value, uint32_t n)
     if (!defmtl_fits(f, n)) return;
     struct defmtl_numbers numbers = f->numbers;
     /*@ loop invariant 0 <= k <= n && growing(numbers) && numbers.done == \at(f->numbers.done, Pre) + k;
+        loop invariant without_zero(&f->code[0], numbers.stored);
         loop assigns k, value, numbers, f->code[0 .. DEFMTL_FRAME - 1];
         loop variant n - k;
     */
@@ -225,7 +235,7 @@ static inline void defmtl_chosen(struct defmtl_frame *f, uint32_t variant, uint3
     ensures \result <= DEFMTL_FRAME;
     ensures \old(f->numbers.done) <= DEFMTL_MESSAGE ==>
         \result == f->numbers.stored && f->code[\result - 1] == 0 &&
-        2 <= \result <= \old(f->numbers.done) + \old(f->numbers.done) / 134 + 3;
+        2 <= \result <= \old(f->numbers.done) + \old(f->numbers.done) / 134 + 3 && without_zero(&f->code[0], \result - 1);
     ensures \old(f->numbers.done) > DEFMTL_MESSAGE ==> \result == 0;
 */
 static uint32_t defmtl_frame_end(struct defmtl_frame *f) {

@@ -10,7 +10,7 @@
 . "$(dirname "$0")/runner.sh"
 [ $# -eq 0 ] || { echo "usage: tests/device-proof.sh"; exit 2; }
 needs frama-c why3 z3 cvc4 python3
-device=$top/device wrong=$top/tests/device/wrong.py goals=335 goals_large=77
+device=$top/device wrong=$top/tests/device/wrong.py goals=344 goals_large=82
 cd "$work" || exit 2
 export HOME=$work
 why3 config detect > said 2>&1

@@ -13,6 +13,7 @@ WRONG = [
     ("defmtl_close_block", "a block's zeros go on into the next one", "    n->gathered = 0;\n    n->zeros = 0;\n}", "    n->gathered = 0;\n}"),
     ("defmtl_add", "a block without a zero has 135 bytes", "n->gathered == 134)", "n->gathered == 135)"),
     ("defmtl_add", "a zero behind seven bytes ends no block", "n->gathered < 7) {", "n->gathered < 8) {"),
+    ("defmtl_add", "seven bytes without a zero end with one", "n->gathered == 7 && n->zeros != 0)", "n->gathered == 7)"),
     ("all", "a frame's memory is one byte too short", "DEFMTL_MESSAGE / 134 + 3)", "DEFMTL_MESSAGE / 134 + 2)"),
     ("defmtl_frame_end", "a frame ends without its zero", "    f->code[n->stored++] = 0;\n    return n->stored;", "    return n->stored;"),
     ("defmtl_word", "a number has one byte more", "for (uint32_t k = 0; k < n; k++) {\n        defmtl_add", "for (uint32_t k = 0; k <= n; k++) {\n        defmtl_add"),
