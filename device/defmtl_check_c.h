@@ -79,18 +79,18 @@
             defmtl_f = defmtl_s + defmtl_n, defmtl_x = DEFMTL_BYTE t[defmtl_f] DEFMTL_END == '=', defmtl_w = defmtl_f + defmtl_x, \
             defmtl_l = defmtl_x && DEFMTL_BYTE t[defmtl_w] DEFMTL_END == '[', defmtl_u = defmtl_w + defmtl_l,          \
             defmtl_c0 = DEFMTL_BYTE t[defmtl_u] DEFMTL_END, defmtl_d = defmtl_x > defmtl_l && defmtl_c0 - 48u < 10,    \
-            defmtl_hu = (defmtl_c0 + 19 * DEFMTL_BYTE t[defmtl_u + 1] DEFMTL_END & 0x7fff) % 30 + (DEFMTL_BYTE t[defmtl_u + 2] DEFMTL_END & 4 ? 30 : 0), \
+            defmtl_hu = (defmtl_c0 + 19 * DEFMTL_BYTE t[defmtl_u + 1] DEFMTL_END & 0x7fff) % 30 + (DEFMTL_BYTE t[defmtl_u + 2] DEFMTL_END & 4) * 30 / 4, \
             defmtl_m = DEFMTL_BYTE DEFMTL_WORD_OF[defmtl_hu] DEFMTL_END, defmtl_len = DEFMTL_BYTE DEFMTL_WORD_LENGTH[defmtl_m] DEFMTL_END, \
-            defmtl_k = defmtl_x && DEFMTL_LIKE(t, defmtl_u, &DEFMTL_WORDS[5 * defmtl_m], defmtl_len) ? DEFMTL_BYTE DEFMTL_WORD_KIND[defmtl_m + 20 * defmtl_l] DEFMTL_END : 0, \
-            defmtl_c = defmtl_k > 0 ? defmtl_u + defmtl_len : defmtl_u, defmtl_h = defmtl_l && DEFMTL_BYTE t[defmtl_c] DEFMTL_END == ';', \
-            defmtl_y = defmtl_d ? defmtl_w : defmtl_c + defmtl_h + (defmtl_h && DEFMTL_BYTE t[defmtl_c + 1] DEFMTL_END == ' '), \
+            defmtl_k = (defmtl_x && DEFMTL_LIKE(t, defmtl_u, &DEFMTL_WORDS[5 * defmtl_m], defmtl_len)) * DEFMTL_BYTE DEFMTL_WORD_KIND[defmtl_m + 20 * defmtl_l] DEFMTL_END, \
+            defmtl_c = defmtl_u + (defmtl_k > 0) * defmtl_len, defmtl_h = defmtl_l && DEFMTL_BYTE t[defmtl_c] DEFMTL_END == ';', \
+            defmtl_y = defmtl_c + defmtl_h + (defmtl_h && DEFMTL_BYTE t[defmtl_c + 1] DEFMTL_END == ' '), \
             defmtl_1 = DEFMTL_BYTE t[defmtl_y] DEFMTL_END - 48, defmtl_2 = DEFMTL_BYTE t[defmtl_y + 1] DEFMTL_END - 48, \
             defmtl_3 = DEFMTL_BYTE t[defmtl_y + 2] DEFMTL_END - 48,                                                    \
-            defmtl_r = defmtl_1 > 9u ? 0 : defmtl_2 > 9u ? 1 : defmtl_3 > 9u ? 2 : 3, defmtl_y2 = defmtl_y + defmtl_r, \
-            defmtl_A = defmtl_r > 2 ? 100 * defmtl_1 + 10 * defmtl_2 + defmtl_3 : defmtl_r > 1 ? 10 * defmtl_1 + defmtl_2 : defmtl_r == 1 ? defmtl_1 : 0, \
+            defmtl_r = (defmtl_1 < 10u) * (1 + (defmtl_2 < 10u) * (1 + (defmtl_3 < 10u))), defmtl_y2 = defmtl_y + defmtl_r, \
+            defmtl_A = defmtl_r > 2 ? 100 * defmtl_1 + 10 * defmtl_2 + defmtl_3 : defmtl_r > 1 ? 10 * defmtl_1 + defmtl_2 : (defmtl_r > 0) * defmtl_1, \
             defmtl_t = defmtl_d && DEFMTL_LIKE(t, defmtl_y2, "..", 2), defmtl_y3 = defmtl_y2 + 2 * defmtl_t,           \
             defmtl_4 = DEFMTL_BYTE t[defmtl_y3] DEFMTL_END - 48, defmtl_5 = DEFMTL_BYTE t[defmtl_y3 + 1] DEFMTL_END - 48, \
-            defmtl_r3 = defmtl_4 > 9u ? 0 : defmtl_5 > 9u ? 1 : 2, defmtl_B = defmtl_r3 > 1 ? 10 * defmtl_4 + defmtl_5 : defmtl_4, \
+            defmtl_r3 = (defmtl_4 < 10u) * (1 + (defmtl_5 < 10u)), defmtl_B = defmtl_4 + (defmtl_r3 > 1) * (9 * defmtl_4 + defmtl_5), \
             defmtl_e = defmtl_t ? defmtl_y3 + defmtl_r3 : defmtl_l ? defmtl_y2 + (DEFMTL_BYTE t[defmtl_y2] DEFMTL_END == ']') : defmtl_c, \
             defmtl_H = DEFMTL_BYTE t[defmtl_e] DEFMTL_END == ':', defmtl_ha = defmtl_e + defmtl_H,                     \
             defmtl_hb = defmtl_ha + (DEFMTL_BYTE t[defmtl_ha] DEFMTL_END == '#'),                                      \
@@ -104,12 +104,12 @@
             defmtl_hk = DEFMTL_LIKE(t, defmtl_he, &DEFMTL_HINTS[3 * defmtl_hh], defmtl_hn), defmtl_z = defmtl_he + defmtl_hk * defmtl_hn, \
             defmtl_G = defmtl_v && defmtl_hw != 1 && DEFMTL_BYTE t[defmtl_z] DEFMTL_END == '}' && (!defmtl_H ? defmtl_z == defmtl_e : (defmtl_hi ? DEFMTL_HINTS_ISO \
                 : defmtl_hc == defmtl_ha ? DEFMTL_HINTS_ALONE : defmtl_hb == defmtl_ha ? DEFMTL_HINTS_WIDE : DEFMTL_HINTS_SIGN) >> defmtl_hk * defmtl_hh & 1), \
-            defmtl_q = defmtl_G ? defmtl_z + 1 : defmtl_p,                                                             \
-            defmtl_g = !defmtl_G || defmtl_o > 7 ? 0 : !defmtl_x ? DEFMTL_K_FORMAT                                     \
-                : defmtl_d ? (defmtl_t && defmtl_A < defmtl_B && defmtl_B < 65 && defmtl_r < 3 ? DEFMTL_K_BITS : 0)    \
-                : defmtl_k < 1 || (defmtl_l && (defmtl_e == defmtl_y2 || defmtl_h != defmtl_r > 0 || defmtl_A > 255)) ? 0 : defmtl_k + defmtl_h, \
+            defmtl_q = defmtl_p + defmtl_G * (defmtl_z + 1 - defmtl_p),                                                             \
+            defmtl_g = (defmtl_G && defmtl_o < 8) * (!defmtl_x ? DEFMTL_K_FORMAT                                       \
+                : defmtl_d ? (defmtl_t && defmtl_A < defmtl_B && defmtl_B < 65 && defmtl_r < 3) * DEFMTL_K_BITS        \
+                : (defmtl_k > 0 && !(defmtl_l && (defmtl_e == defmtl_y2 || defmtl_h != defmtl_r > 0 || defmtl_A > 255))) * (defmtl_k + defmtl_h)), \
             defmtl_o7 = defmtl_o & 7, defmtl_was = (int)((uint64_t)defmtl_kinds >> 5 * defmtl_o7 & 31),                \
-            defmtl_N = defmtl_g < 1 ? 0 : defmtl_g == DEFMTL_K_BITS ? 0xff << defmtl_A / 8 & 0xff >> (7 - (defmtl_B - 1) / 8) : defmtl_A, \
+            defmtl_N = (defmtl_g > 0) * (defmtl_g == DEFMTL_K_BITS ? 0xff << defmtl_A / 8 & 0xff >> (7 - (defmtl_B - 1) / 8) : defmtl_A), \
             defmtl_bad = defmtl_bad || defmtl_v > (defmtl_g > 0) || (defmtl_g > 0 && defmtl_was > 0 && (defmtl_was != defmtl_g || \
                 (defmtl_g != DEFMTL_K_BITS && (int)((uint64_t)defmtl_numbers >> 8 * defmtl_o7 & 255) != defmtl_N))),   \
             defmtl_kinds = defmtl_kinds | (uint64_t)defmtl_g << 5 * defmtl_o7,                                         \
