@@ -45,8 +45,8 @@ for command in record print run decode; do
     esac
 done
 start=$(counted decode --table "$work/table.elf" < /dev/null) || exit 1
-judge "instructions of record a statement" "$record" 1900
-judge "instructions of print a statement" "$print" 1660
+judge "instructions of record a statement" "$record" 1800
+judge "instructions of print a statement" "$print" 1560
 judge "instructions of run a statement" "$run" 3300
 judge "instructions of decode a frame" "$decode" 750
 judge "instructions of decode of nothing" "$start" 500000
