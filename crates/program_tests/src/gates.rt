@@ -131,6 +131,16 @@ INFO  hello
 INFO  hello
 4 and 0 asked, 16 bytes told, 0 out of turn
 
+2 0 0/defmtl steer
+s hi defmt_info hello
+w 0 hi
+w 1 hi
+=
+8 bytes got, status 0 fine
+INFO  hello
+INFO  hello
+1 and 1 asked, 8 bytes told, 0 out of turn
+
 2 0 9/defmtl run
 ring 64
 s a defmt_info a {=u8}
@@ -298,5 +308,5 @@ pub(crate) fn put_held<R: Threads + Wait + Sync>(
 
 #[test]
 fn writers_wait_for_each_other_and_for_the_reader(rt: HostRuntime) -> Result<(), Fail> {
-    each_block(&rt, rt.alloc(), HELD, 9, &Kind::Held)
+    each_block(&rt, rt.alloc(), HELD, 10, &Kind::Held)
 }
