@@ -139,7 +139,7 @@ pub fn fails_at(style: &Style, table: &Table, index: u16) -> bool
     ensures { result ≡ (prints_index style.now.only table.now.entries index
         && reaches style.now.fail_on (level_at table.now.entries index)) }
 {
-    prints_index(style, table, index) && reaches_at(style.fail_on, table, index)
+    reaches_at(style.fail_on, table, index) && prints_index(style, table, index)
 }
 
 // Whether the entry at an index has that level or a more severe one, where both are there.
